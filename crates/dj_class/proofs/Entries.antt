@@ -1,0 +1,37 @@
+-- The constant of an index, and the first that is not linked, as a loop finds it.
+use Rattle.std.proofs.Common.{◌≡◌, ℕ, zero, suc, ◌+◌, ◌-◌, ◌<◌, ◌≤◌, Bool, true, false, List, [], ◌∷◌, length, map, drop, get_or, Option, Some, None, refl, sym, ap, ◌∙◌, arith, add-one, drop-cons}
+use Rattle.std.proofs.lemmas.Option.{slice_get-map, slice_get-get_or, slice_get_past}
+use Rattle.std.proofs.lemmas.List.{drop_all}
+use Rattle.dj_class.specs.declared.pool.Entry.{Entry}
+use Rattle.dj_class.specs.ClassFile.{Constant, constant_at}
+use Rattle.dj_class.specs.Parts.{constant_of}
+use Rattle.dj_class.specs.Reading.{is_linked, first_unlinked}
+
+pub entry_found : (entries : List Entry) (index : ℕ) (d : Entry) → (index ≡ 0 → ⊥) → index - 1 < length entries → Some (constant_of (get_or entries (index - 1) d)) ≡ constant_at (map constant_of entries) index
+entry_found entries zero d some lt = absurd (some refl)
+entry_found entries (suc i) d some lt =
+    let k : suc i - 1 ≡ i = omega arith in
+    let within : i < length entries = omega arith in
+    rw (k, slice_get-map constant_of entries i, slice_get-get_or entries i d within) refl
+
+pub entry_missing : (entries : List Entry) (index : ℕ) → (index ≡ 0 → ⊥) → length entries ≤ index - 1 → None ≡ constant_at (map constant_of entries) index
+entry_missing entries zero some le = absurd (some refl)
+entry_missing entries (suc i) some le =
+    let past : length entries ≤ i = omega arith in
+    rw (slice_get-map constant_of entries i, slice_get_past entries i past) refl
+
+-- what is left of the search at an index
+abbrev pub unlinked_from : List Constant → List Entry → ℕ → Option ℕ
+unlinked_from pool entries i = first_unlinked pool (i + 1) (map constant_of (drop i entries))
+
+pub unlinked-linked : (pool : List Constant) (entries : List Entry) (i : ℕ) (d : Entry) → i < length entries → is_linked pool (constant_of (get_or entries i d)) ≡ true → unlinked_from pool entries i ≡ unlinked_from pool entries (i + 1)
+unfolding first_unlinked
+unlinked-linked pool entries i d lt h = rw (drop-cons entries i d, h, add-one i) refl
+
+pub unlinked-here : (pool : List Constant) (entries : List Entry) (i : ℕ) (d : Entry) → i < length entries → is_linked pool (constant_of (get_or entries i d)) ≡ false → unlinked_from pool entries i ≡ Some (i + 1)
+unfolding first_unlinked
+unlinked-here pool entries i d lt h = rw (drop-cons entries i d, h) refl
+
+pub unlinked-end : (pool : List Constant) (entries : List Entry) (i : ℕ) → length entries ≤ i → unlinked_from pool entries i ≡ None
+unfolding first_unlinked
+unlinked-end pool entries i le = rw (drop_all i entries le) refl

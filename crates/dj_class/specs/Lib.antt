@@ -1,0 +1,10 @@
+pub mod ClassFile
+pub mod Unbuilt
+pub mod Parts
+pub mod Members
+pub mod Views
+pub mod Reading
+pub mod Gives
+pub mod Tests
+pub mod Laws
+pub mod Pools

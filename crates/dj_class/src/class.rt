@@ -1,0 +1,441 @@
+ghost use Rattle.std.specs.Prelude.{◌≡◌, ◌+◌, ◌^◌, ◌<◌, ◌==◌, ◌||◌, ℕ, length, map};
+ghost use Rattle.dj_names.specs.Tests.{unqualified_name_test, method_name_test, field_descriptor_test, method_descriptor_test};
+ghost use Rattle.dj_class.specs.Parts.{attribute_of};
+ghost use Rattle.dj_class.specs.Members.{member_of};
+ghost use Rattle.dj_class.specs.Views.{class_of, ReadsClass};
+ghost use Rattle.dj_class.specs.Reading.{index_at, many_at, table_at, text_passes, is_class, attribute_at, member_at, versions_at, header_at, heading_at, class_file_of};
+ghost use Rattle.dj_class.specs.Gives.{cursor_of, Gives};
+ghost use Rattle.dj_class.specs.Tests.{test_of, heading_of};
+ghost use Rattle.dj_class.specs.declared.class.ClassError.TheVariants as class_errors;
+
+use crate::cursor::{Cursor, Cut};
+use crate::lists::{Attributes, Indexes, Members};
+use crate::pool::{Pool, PoolError, read_pool_at};
+use dj_names::{
+    is_class_name, is_field_descriptor, is_method_descriptor, is_method_name, is_unqualified_name,
+};
+use std::alloc::{AllocError, AllocFailed, Global};
+
+/// Why a class file was not read. A place is an offset in the file.
+#[derive(Clone, Copy, Debug, PartialEq, Eq)]
+pub enum ClassError {
+    /// The file does not begin with CA FE BA BE.
+    Magic,
+    /// The item at this place does not fit into the file.
+    Cut(u32),
+    /// The constant pool was not read.
+    Pool(PoolError),
+    /// The index at this place names no constant that its place asks for.
+    Index(u32),
+    /// At this place begin bytes after the last item.
+    Trailing(u32),
+    /// There was no memory.
+    Memory,
+}
+
+impl From<Cut> for ClassError {
+    ghost from_gives = { λ cut e. e ≡ class_errors.Cut cut.0 };
+
+    fn from(cut: Cut) -> ClassError {
+        ClassError::Cut(cut.0)
+    }
+}
+
+impl From<PoolError> for ClassError {
+    ghost from_gives = { λ error e. e ≡ class_errors.Pool error };
+
+    fn from(error: PoolError) -> ClassError {
+        ClassError::Pool(error)
+    }
+}
+
+impl From<AllocError> for ClassError {
+    ghost from_gives = { λ _ e. e ≡ class_errors.Memory };
+
+    fn from(_e: AllocError) -> ClassError {
+        ClassError::Memory
+    }
+}
+
+impl<T: Drop> From<AllocFailed<T>> for ClassError {
+    ghost from_gives = { λ _ e. e ≡ class_errors.Memory };
+
+    fn from(_e: AllocFailed<T>) -> ClassError {
+        ClassError::Memory
+    }
+}
+
+/// An attribute (JVMS 4.7), whose body is a part of the file.
+#[derive(Clone, Copy, Debug)]
+pub struct Attribute<'a> {
+    /// The index of the name.
+    pub name: u16,
+    pub body: &'a [u8],
+}
+
+/// A field or a method (JVMS 4.5 and 4.6), by the indexes of its name and descriptor.
+#[derive(Debug, Drop)]
+pub struct MemberView<'a> {
+    pub flags: u16,
+    pub name: u16,
+    pub desc: u16,
+    pub attributes: Attributes<'a>,
+}
+
+/// A class file (JVMS 4.1), whose texts and bodies are parts of the file.
+#[derive(Debug, Drop)]
+pub struct ClassView<'a> {
+    pub minor: u16,
+    pub major: u16,
+    pub pool: Pool<'a>,
+    pub flags: u16,
+    /// The index of the class.
+    pub this_class: u16,
+    /// The index of the superclass, or 0.
+    pub super_class: u16,
+    pub interfaces: Indexes,
+    pub fields: Members<'a>,
+    pub methods: Members<'a>,
+    pub attributes: Attributes<'a>,
+}
+
+// What a text is to be.
+#[derive(Clone, Copy, Debug)]
+enum TextTest {
+    Any,
+    FieldName,
+    MethodName,
+    FieldDescriptor,
+    MethodDescriptor,
+}
+
+// What stands between the pool and the fields.
+#[derive(Debug, Drop)]
+struct Opening {
+    flags: u16,
+    this_class: u16,
+    super_class: u16,
+    interfaces: Indexes,
+}
+
+fn passes(test: TextTest, text: &[u8]) -> bool
+    ensures { result ≡ test_of test text.now }
+{
+    match test {
+        TextTest::Any => true,
+        TextTest::FieldName => is_unqualified_name(text),
+        TextTest::MethodName => is_method_name(text),
+        TextTest::FieldDescriptor => is_field_descriptor(text),
+        TextTest::MethodDescriptor => is_method_descriptor(text),
+    }
+}
+
+fn text_passes(test: TextTest, pool: &Pool<'_>, index: u16) -> bool
+    ensures { result ≡ text_passes (test_of test) pool.now index }
+{
+    match pool.text(index) {
+        Some(text) => passes(test, text),
+        None => false,
+    }
+}
+
+fn is_class(pool: &Pool<'_>, index: u16) -> bool
+    ensures { result ≡ is_class pool.now index }
+{
+    match pool.class_name(index) {
+        Some(name) => is_class_name(name),
+        None => false,
+    }
+}
+
+#[tactic(auto, unfolding(crate::specs::Reading::index_at))]
+fn read_text<'a>(
+    test: TextTest,
+    pool: &Pool<'_>,
+    cursor: Cursor<'a>,
+) -> Result<(u16, Cursor<'a>), ClassError>
+    ensures { Gives (λ x. (x.0, cursor_of x.1)) result
+        (index_at (text_passes (test_of test) pool.now) (cursor_of cursor.entry)) }
+{
+    let (index, after) = cursor.u16_at()?;
+    if !text_passes(test, pool, index) {
+        return Err(ClassError::Index(cursor.place));
+    }
+    Ok((index, after))
+}
+
+#[tactic(auto, unfolding(crate::specs::Reading::index_at))]
+fn read_class_index<'a>(
+    pool: &Pool<'_>,
+    cursor: Cursor<'a>,
+) -> Result<(u16, Cursor<'a>), ClassError>
+    ensures { Gives (λ x. (x.0, cursor_of x.1)) result
+        (index_at (is_class pool.now) (cursor_of cursor.entry)) }
+{
+    let (index, after) = cursor.u16_at()?;
+    if !is_class(pool, index) {
+        return Err(ClassError::Index(cursor.place));
+    }
+    Ok((index, after))
+}
+
+#[tactic(auto, unfolding(crate::specs::Reading::index_at))]
+fn read_super_class<'a>(
+    pool: &Pool<'_>,
+    cursor: Cursor<'a>,
+) -> Result<(u16, Cursor<'a>), ClassError>
+    ensures { Gives (λ x. (x.0, cursor_of x.1)) result
+        (index_at (λ index. index == 0 || is_class pool.now index) (cursor_of cursor.entry)) }
+{
+    let (index, after) = cursor.u16_at()?;
+    if index != 0 && !is_class(pool, index) {
+        return Err(ClassError::Index(cursor.place));
+    }
+    Ok((index, after))
+}
+
+#[tactic(auto, unfolding(crate::specs::Reading::attribute_at))]
+fn read_attribute<'a>(
+    pool: &Pool<'_>,
+    cursor: Cursor<'a>,
+) -> Result<(Attribute<'a>, Cursor<'a>), ClassError>
+    ensures { Gives (λ x. (attribute_of x.0, cursor_of x.1)) result
+        (attribute_at pool.now (cursor_of cursor.entry)) }
+{
+    let (name, after) = read_text(TextTest::Any, pool, cursor)?;
+    let (len, after) = after.u32_at()?;
+    let (body, after) = after.bytes_at(len)?;
+    Ok((Attribute { name, body }, after))
+}
+
+fn read_attribute_list<'a>(
+    alloc: Global,
+    pool: &Pool<'_>,
+    count: u16,
+    cursor: Cursor<'a>,
+) -> Result<(Vec<Attribute<'a>>, Cursor<'a>), ClassError>
+    ensures { Gives (λ x. (map attribute_of x.0.items, cursor_of x.1)) result
+        (many_at (attribute_at pool.now) count (cursor_of cursor.entry)) }
+{
+    let mut attributes = Vec::with_capacity(alloc, count as usize)?;
+    let mut after = cursor;
+    for i in 0..count {
+        let (attribute, next) = read_attribute(pool, after)?;
+        attributes.push(attribute)?;
+        after = next;
+    }
+    Ok((attributes, after))
+}
+
+#[tactic(auto, unfolding(crate::specs::Reading::table_at))]
+fn read_attributes<'a>(
+    alloc: Global,
+    pool: &Pool<'_>,
+    cursor: Cursor<'a>,
+) -> Result<(Attributes<'a>, Cursor<'a>), ClassError>
+    ensures { Gives (λ x. (x.0, cursor_of x.1)) result
+        (table_at (attribute_at pool.now) (cursor_of cursor.entry)) }
+{
+    let (count, after) = cursor.u16_at()?;
+    let (attributes, after) = read_attribute_list(alloc, pool, count, after)?;
+    Ok((Attributes::from_vec(attributes), after))
+}
+
+#[tactic(auto, unfolding(crate::specs::Reading::member_at))]
+fn read_member<'a>(
+    alloc: Global,
+    name_test: TextTest,
+    desc_test: TextTest,
+    pool: &Pool<'_>,
+    cursor: Cursor<'a>,
+) -> Result<(MemberView<'a>, Cursor<'a>), ClassError>
+    ensures { Gives (λ x. (member_of x.0, cursor_of x.1)) result
+        (member_at (test_of name_test) (test_of desc_test) pool.now (cursor_of cursor.entry)) }
+{
+    let (flags, after) = cursor.u16_at()?;
+    let (name, after) = read_text(name_test, pool, after)?;
+    let (desc, after) = read_text(desc_test, pool, after)?;
+    let (attributes, after) = read_attributes(alloc, pool, after)?;
+    Ok((
+        MemberView {
+            flags,
+            name,
+            desc,
+            attributes,
+        },
+        after,
+    ))
+}
+
+fn read_member_list<'a>(
+    alloc: Global,
+    name_test: TextTest,
+    desc_test: TextTest,
+    pool: &Pool<'_>,
+    count: u16,
+    cursor: Cursor<'a>,
+) -> Result<(Vec<MemberView<'a>>, Cursor<'a>), ClassError>
+    ensures { Gives (λ x. (map member_of x.0.items, cursor_of x.1)) result
+        (many_at (member_at (test_of name_test) (test_of desc_test) pool.now) count (cursor_of cursor.entry)) }
+{
+    let mut members = Vec::with_capacity(alloc, count as usize)?;
+    let mut after = cursor;
+    for i in 0..count {
+        let (member, next) = read_member(alloc, name_test, desc_test, pool, after)?;
+        members.push(member)?;
+        after = next;
+    }
+    Ok((members, after))
+}
+
+#[tactic(auto, unfolding(crate::specs::Reading::table_at))]
+fn read_members<'a>(
+    alloc: Global,
+    name_test: TextTest,
+    desc_test: TextTest,
+    pool: &Pool<'_>,
+    cursor: Cursor<'a>,
+) -> Result<(Members<'a>, Cursor<'a>), ClassError>
+    ensures { Gives (λ x. (x.0, cursor_of x.1)) result
+        (table_at (member_at (test_of name_test) (test_of desc_test) pool.now) (cursor_of cursor.entry)) }
+{
+    let (count, after) = cursor.u16_at()?;
+    let (members, after) = read_member_list(alloc, name_test, desc_test, pool, count, after)?;
+    Ok((Members::from_vec(members), after))
+}
+
+fn read_interface_list<'a>(
+    alloc: Global,
+    pool: &Pool<'_>,
+    count: u16,
+    cursor: Cursor<'a>,
+) -> Result<(Vec<u16>, Cursor<'a>), ClassError>
+    ensures { Gives (λ x. (x.0.items, cursor_of x.1)) result
+        (many_at (index_at (is_class pool.now)) count (cursor_of cursor.entry)) }
+{
+    let mut interfaces = Vec::with_capacity(alloc, count as usize)?;
+    let mut after = cursor;
+    for i in 0..count {
+        let (index, next) = read_class_index(pool, after)?;
+        interfaces.push(index)?;
+        after = next;
+    }
+    Ok((interfaces, after))
+}
+
+#[tactic(auto, unfolding(crate::specs::Reading::table_at))]
+fn read_interfaces<'a>(
+    alloc: Global,
+    pool: &Pool<'_>,
+    cursor: Cursor<'a>,
+) -> Result<(Indexes, Cursor<'a>), ClassError>
+    ensures { Gives (λ x. (x.0, cursor_of x.1)) result
+        (table_at (index_at (is_class pool.now)) (cursor_of cursor.entry)) }
+{
+    let (count, after) = cursor.u16_at()?;
+    let (interfaces, after) = read_interface_list(alloc, pool, count, after)?;
+    Ok((Indexes::from_vec(interfaces), after))
+}
+
+#[tactic(auto, unfolding(crate::specs::Reading::versions_at))]
+fn read_versions<'a>(cursor: Cursor<'a>) -> Result<((u16, u16), Cursor<'a>), ClassError>
+    ensures { Gives (λ x. ((x.0.0, x.0.1), cursor_of x.1)) result
+        (versions_at (cursor_of cursor.entry)) }
+{
+    let (minor, after) = cursor.u16_at()?;
+    let (major, after) = after.u16_at()?;
+    Ok(((minor, major), after))
+}
+
+// The magic number of class files (JVMS 4.1).
+const MAGIC: u32 = 0xcafe_babe;
+
+#[tactic(auto, unfolding(crate::specs::Reading::header_at))]
+fn read_header<'a>(cursor: Cursor<'a>) -> Result<((u16, u16), Cursor<'a>), ClassError>
+    ensures { Gives (λ x. ((x.0.0, x.0.1), cursor_of x.1)) result
+        (header_at (cursor_of cursor.entry)) }
+{
+    let (magic, after) = cursor.u32_at()?;
+    if magic != MAGIC {
+        return Err(ClassError::Magic);
+    }
+    read_versions(after)
+}
+
+#[tactic(auto, unfolding(crate::specs::Reading::heading_at))]
+fn read_opening<'a>(
+    alloc: Global,
+    pool: &Pool<'_>,
+    cursor: Cursor<'a>,
+) -> Result<(Opening, Cursor<'a>), ClassError>
+    ensures { Gives (λ x. (heading_of x.0, cursor_of x.1)) result
+        (heading_at pool.now (cursor_of cursor.entry)) }
+{
+    let (flags, after) = cursor.u16_at()?;
+    let (this_class, after) = read_class_index(pool, after)?;
+    let (super_class, after) = read_super_class(pool, after)?;
+    let (interfaces, after) = read_interfaces(alloc, pool, after)?;
+    Ok((
+        Opening {
+            flags,
+            this_class,
+            super_class,
+            interfaces,
+        },
+        after,
+    ))
+}
+
+#[tactic(auto, using(crate::proofs::Loop::lifted_fails), unfolding(crate::specs::Reading::class_file_of))]
+fn read_all<'a>(alloc: Global, file: &'a [u8]) -> Result<ClassView<'a>, ClassError>
+    requires { length file.now < 2 ^ 32 }
+    ensures { Gives class_of result (class_file_of file.now) }
+{
+    let start = Cursor {
+        rest: file,
+        place: 0,
+    };
+    let (versions, after) = read_header(start)?;
+    let (pool, after) = read_pool_at(alloc, after)?;
+    let (opening, after) = read_opening(alloc, &pool, after)?;
+    let (fields, after) = read_members(
+        alloc,
+        TextTest::FieldName,
+        TextTest::FieldDescriptor,
+        &pool,
+        after,
+    )?;
+    let (methods, after) = read_members(
+        alloc,
+        TextTest::MethodName,
+        TextTest::MethodDescriptor,
+        &pool,
+        after,
+    )?;
+    let (attributes, after) = read_attributes(alloc, &pool, after)?;
+    if !after.rest.is_empty() {
+        return Err(ClassError::Trailing(after.place));
+    }
+    Ok(ClassView {
+        minor: versions.0,
+        major: versions.1,
+        pool,
+        flags: opening.flags,
+        this_class: opening.this_class,
+        super_class: opening.super_class,
+        interfaces: opening.interfaces,
+        fields,
+        methods,
+        attributes,
+    })
+}
+
+/// The class file that the bytes are, all of them.
+pub fn read_class<'a>(alloc: Global, file: &'a [u8]) -> Result<ClassView<'a>, ClassError>
+    requires { length file.now < 2 ^ 32 }
+    ensures means { ReadsClass file.now result }
+    // Which fault it is.
+    ensures exact { Gives class_of result (class_file_of file.now) }
+{
+    read_all(alloc, file)
+}

@@ -1,0 +1,16 @@
+//! The reader of class files (JVMS 4.1 to 4.7).
+#![tactic(auto)]
+
+mod class;
+mod cursor;
+mod laws;
+mod lists;
+mod pool;
+
+pub use class::{Attribute, ClassError, ClassView, MemberView, read_class};
+pub use laws::{no_class_where_unbuilt, one_class_file, one_unbuilt_place, valid_has_texts};
+pub use lists::{Attributes, Indexes, Members};
+pub use pool::{Entry, Pool, PoolError, read_pool};
+
+#[cfg(test)]
+mod tests;

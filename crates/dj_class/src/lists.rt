@@ -1,0 +1,97 @@
+ghost use Rattle.std.specs.Prelude.{◌≡◌, map};
+ghost use Rattle.dj_class.specs.Parts.{attribute_of};
+ghost use Rattle.dj_class.specs.Members.{member_of};
+
+use crate::class::{Attribute, MemberView};
+use std::marker::Model;
+
+/// The attributes of a file, a field or a method.
+#[derive(Debug, Drop)]
+pub struct Attributes<'a> {
+    items: Vec<Attribute<'a>>,
+}
+
+impl<'a> Model for Attributes<'a> {
+    ghost use Rattle.std.specs.Prelude.{List, map};
+    ghost use Rattle.dj_class.specs.ClassFile.{AttributeInfo};
+    ghost use Rattle.dj_class.specs.Parts.{attribute_of};
+
+    ghost Value = { List AttributeInfo };
+
+    ghost view = { λ attributes. map attribute_of attributes.items.items };
+}
+
+impl<'a> Attributes<'a> {
+    pub(crate) fn from_vec(items: Vec<Attribute<'a>>) -> Attributes<'a>
+        ensures { result ≡ map attribute_of items.entry.items }
+    {
+        Attributes { items }
+    }
+
+    /// The attributes, lent.
+    pub fn as_slice(&self) -> &[Attribute<'a>]
+        ensures { map attribute_of result.now ≡ self.now }
+    {
+        self.items.as_slice()
+    }
+}
+
+/// The fields or the methods of a file.
+#[derive(Debug, Drop)]
+pub struct Members<'a> {
+    items: Vec<MemberView<'a>>,
+}
+
+impl<'a> Model for Members<'a> {
+    ghost use Rattle.std.specs.Prelude.{List, map};
+    ghost use Rattle.dj_class.specs.ClassFile.{MemberInfo};
+    ghost use Rattle.dj_class.specs.Members.{member_of};
+
+    ghost Value = { List MemberInfo };
+
+    ghost view = { λ members. map member_of members.items.items };
+}
+
+impl<'a> Members<'a> {
+    pub(crate) fn from_vec(items: Vec<MemberView<'a>>) -> Members<'a>
+        ensures { result ≡ map member_of items.entry.items }
+    {
+        Members { items }
+    }
+
+    /// The members, lent.
+    pub fn as_slice(&self) -> &[MemberView<'a>]
+        ensures { map member_of result.now ≡ self.now }
+    {
+        self.items.as_slice()
+    }
+}
+
+/// Indexes of the pool.
+#[derive(Debug, Drop)]
+pub struct Indexes {
+    items: Vec<u16>,
+}
+
+impl Model for Indexes {
+    ghost use Rattle.std.specs.Prelude.{List, ℕ};
+
+    ghost Value = { List ℕ };
+
+    ghost view = { λ indexes. indexes.items.items };
+}
+
+impl Indexes {
+    pub(crate) fn from_vec(items: Vec<u16>) -> Indexes
+        ensures { result ≡ items.items }
+    {
+        Indexes { items }
+    }
+
+    /// The indexes, lent.
+    pub fn as_slice(&self) -> &[u16]
+        ensures { result.now ≡ self.now }
+    {
+        self.items.as_slice()
+    }
+}

@@ -1,0 +1,75 @@
+-- Counts that rise, and lists that grow by a front of a list.
+use Rattle.std.proofs.Common.{◌≡◌, ℕ, ◌+◌, ◌-◌, ◌^◌, ◌<◌, ◌≤◌, List, [], ◌∷◌, ◌++◌, length, take, drop, get_or, Option, refl, sym, ap, ◌∙◌, append_assoc, append-nil, take-append-drop, arith}
+use Rattle.std.proofs.lemmas.List.{take_more, take_rest}
+use Rattle.std.specs.Io.KnownBytes.{Appends}
+use Rattle.std.proofs.KnownBytes.{Appends-trans}
+use Rattle.dj_edge.specs.Counts.{Rose, IsFront, GrowsByFront}
+
+pub Rose-after_le : (before mid now : ℕ) → before ≤ mid → Rose mid now → Rose before now
+Rose-after_le before mid now below rose = omega arith
+
+pub Rose-then_le : (before mid now : ℕ) → Rose before mid → mid ≤ now → Rose before now
+Rose-then_le before mid now rose above = omega arith
+
+-- a count that its type holds is no less after it rose
+pub le_from_rose : (before now : ℕ) → before < 2 ^ 64 → Rose before now → before ≤ now
+le_from_rose before now small rose = omega arith
+
+module _ {A : Type 0} where
+  pub IsFront-nil : (all : List A) → IsFront [] all
+  IsFront-nil all = (all, refl)
+
+  pub IsFront-whole : (all : List A) → IsFront all all
+  IsFront-whole all = ([], sym (append-nil all))
+
+  pub IsFront-take : (n : ℕ) (all : List A) → IsFront (take n all) all
+  IsFront-take n all = (drop n all, sym (take-append-drop n all))
+
+  pub IsFront-append : (xs ys : List A) → IsFront xs (xs ++ ys)
+  IsFront-append xs ys = (ys, refl)
+
+  -- a front of what comes after a front
+  pub IsFront-after : (xs ys zs : List A) → IsFront ys zs → IsFront (xs ++ ys) (xs ++ zs)
+  IsFront-after xs ys zs front = (front.0, ap (λ l. xs ++ l) front.1 ∙ sym (append_assoc xs ys front.0))
+
+  pub IsFront-trans : (xs ys zs : List A) → IsFront xs ys → IsFront ys zs → IsFront xs zs
+  IsFront-trans xs ys zs first second =
+      (first.0 ++ second.0, second.1 ∙ ap (λ l. l ++ second.0) first.1 ∙ append_assoc xs first.0 second.0)
+
+  -- a front is extended by the next element
+  pub IsFront-more : (all : List A) (i : ℕ) (d : A) → i < length all → IsFront (take i all ++ get_or all i d ∷ []) all
+  IsFront-more all i d within = (drop (i + 1) all, sym (take-append-drop (i + 1) all) ∙ ap (λ l. l ++ drop (i + 1) all) (take_more all i d within))
+
+  pub GrowsByFront-nil : (old all : List A) → GrowsByFront old old all
+  GrowsByFront-nil old all = ([], IsFront-nil all, sym (append-nil old))
+
+  pub GrowsByFront-whole : (old new all : List A) → new ≡ old ++ all → GrowsByFront old new all
+  GrowsByFront-whole old new all is = (all, IsFront-whole all, is)
+
+  pub GrowsByFront-take : (old new all : List A) (n : ℕ) → new ≡ old ++ take n all → GrowsByFront old new all
+  GrowsByFront-take old new all n is = (take n all, IsFront-take n all, is)
+
+  -- a front of a front is a front
+  pub GrowsByFront-within : (old new part all : List A) → GrowsByFront old new part → IsFront part all → GrowsByFront old new all
+  GrowsByFront-within old new part all grows front = (grows.0, IsFront-trans grows.0 part all grows.1 front, grows.2)
+
+  -- all of the first list, and then a front of the second
+  pub GrowsByFront-after : (old mid new first second : List A) → mid ≡ old ++ first → GrowsByFront mid new second → GrowsByFront old new (first ++ second)
+  GrowsByFront-after old mid new first second is grows =
+      (first ++ grows.0, IsFront-after first grows.0 second grows.1, grows.2 ∙ ap (λ l. l ++ grows.0) is ∙ append_assoc old first grows.0)
+
+  -- one step of a walk: the list has grown by the first i, and grows by the element at i
+  pub grown_more : (old mid new all : List A) (i : ℕ) (d : A) → i < length all → mid ≡ old ++ take i all → new ≡ mid ++ get_or all i d ∷ []
+      → new ≡ old ++ take (i + 1) all
+  grown_more old mid new all i d within before step =
+      step ∙ ap (λ l. l ++ get_or all i d ∷ []) before ∙ append_assoc old (take i all) (get_or all i d ∷ []) ∙ ap (λ l. old ++ l) (sym (take_more all i d within))
+
+-- what was written, what one more write took, and what is left of it
+pub wrote_more : (a b c : Option (List ℕ)) (all done rest : List ℕ) (n : ℕ) → all ≡ done ++ rest → Appends a b done → Appends b c (take n rest)
+    → (front : List ℕ) × (all ≡ front ++ take (length rest - n) (drop n rest)) × Appends a c front
+wrote_more a b c all done rest n split before step = (
+  done ++ take n rest,
+  split ∙ ap (λ l. done ++ l) (sym (take-append-drop n rest)) ∙ sym (append_assoc done (take n rest) (drop n rest))
+      ∙ ap (λ l. (done ++ take n rest) ++ l) (sym (take_rest rest n)),
+  Appends-trans a b c done (take n rest) before step,
+)

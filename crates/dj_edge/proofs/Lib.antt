@@ -1,0 +1,5 @@
+pub mod Growth
+pub mod Pairs
+pub mod Sorting
+pub mod Listings
+mod Lookup

@@ -1,0 +1,55 @@
+ghost use Rattle.std.specs.Prelude.{◌≡◌, ℕ, List, Option, Result, IfOk, map, string_bytes};
+ghost use Rattle.dj_edge.specs.Held.{Held};
+
+use std::alloc::Global;
+
+/// Why a folder was not listed.
+#[derive(Clone, Copy, Debug, PartialEq, Eq)]
+pub enum ListError {
+    /// The store failed.
+    Failed,
+    /// There was no memory.
+    Memory,
+}
+
+/// Why a file was not read.
+#[derive(Clone, Copy, Debug, PartialEq, Eq)]
+pub enum ReadError {
+    /// The store failed.
+    Failed,
+    /// The store has no such path.
+    Absent,
+    /// There are more bytes than were asked for.
+    TooLong,
+    /// There was no memory.
+    Memory,
+}
+
+/// A store of files, which calls only read.
+pub trait Files {
+    ghost use Rattle.dj_edge.specs.Calls.{IsListing, ListAsks, ListCounts, ReadTells, ReadAsks, ReadCounts};
+
+    /// What is held, where the store tells it. No call changes it.
+    ghost held: { Self → Option Held };
+
+    /// How many calls failed. The count stands still at 2^64 - 1.
+    ghost faults: { Self → ℕ };
+
+    /// The folders and paths that were asked, in order.
+    ghost asked: { Self → List (List ℕ) };
+
+    /// The class files in the folder or below it, at most `most` of them, in any order.
+    fn list(&mut self, alloc: Global, folder: &str, most: u32) -> Result<Vec<String>, ListError>
+        ensures unchanged { held self.new ≡ held self.old }
+        ensures asks { ListAsks (asked self.old) (asked self.new) folder.now result }
+        ensures counts { ListCounts (faults self.old) (faults self.new) result }
+        ensures lists { IfOk result (λ paths.
+            IsListing (held self.old) folder.now most (map string_bytes paths.items)) };
+
+    /// The bytes of the file, at most `most` of them.
+    fn read(&mut self, alloc: Global, path: &str, most: u64) -> Result<Vec<u8>, ReadError>
+        ensures unchanged { held self.new ≡ held self.old }
+        ensures asks { ReadAsks (asked self.old) (asked self.new) path.now result }
+        ensures counts { ReadCounts (faults self.old) (faults self.new) result }
+        ensures tells { ReadTells (λ bytes. bytes.items) (held self.old) path.now most result };
+}

@@ -1,0 +1,23 @@
+//! The outside: a store of files, a host with clocks, and a sink of bytes, each with a form in memory.
+#![tactic(auto)]
+
+mod files;
+mod host;
+mod mem_files;
+mod mem_host;
+mod mem_sink;
+mod order;
+mod sink;
+mod stored;
+
+pub use files::{Files, ListError, ReadError};
+pub use host::{Host, HostAnswer, HostError};
+pub use mem_files::MemFiles;
+pub use mem_host::MemHost;
+pub use mem_sink::MemSink;
+pub use order::Order;
+pub use sink::{Sink, SinkError, put_all};
+pub use stored::paths_differ;
+
+#[cfg(test)]
+mod tests;

@@ -1,0 +1,5 @@
+pub mod UnitLaws
+pub mod NameLaws
+pub mod TypeLaws
+pub mod DescLaws
+pub mod TestLaws

@@ -1,0 +1,14 @@
+use Rattle.std.proofs.Common.{sym, ◌∙◌}
+use Rattle.std.proofs.lemmas.Bool.Decides.{same_from_decides}
+use Rattle.dj_names.proofs.DescLaws.{method_from_test, test_from_method}
+use Rattle.dj_names.proofs.TestLaws.{method_descriptor_test-decides}
+use Rattle.dj_names.proofs.walk.is_method_descriptor.Goals as goal
+
+pub returns-clause-means : goal.returns-clause-means
+returns-clause-means c = (
+  (λ e. method_from_test c.args.text.now (sym c.reads_method.ensures ∙ e)),
+  (λ d. c.reads_method.ensures ∙ test_from_method c.args.text.now d),
+)
+
+pub returns-clause-computes : goal.returns-clause-computes
+returns-clause-computes c = same_from_decides _ _ (returns-clause-means c) (method_descriptor_test-decides c.args.text.now)

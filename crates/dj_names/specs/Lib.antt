@@ -1,0 +1,7 @@
+pub mod ModifiedUtf8
+pub mod Names
+pub mod Descriptors
+pub mod UnitReading
+pub mod NameReading
+pub mod DescReading
+pub mod Tests

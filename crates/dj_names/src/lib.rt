@@ -1,0 +1,21 @@
+//! Names, descriptors and texts of class files (JVMS 4.2 to 4.4).
+#![tactic(auto)]
+
+mod descriptor;
+mod lists;
+mod measure;
+mod name;
+mod read;
+#[cfg(test)]
+mod tests;
+mod text;
+mod unit;
+mod walk;
+
+pub use descriptor::{Base, Desc, Kind, Of, Ty, Tys};
+pub use lists::{Bytes, Name, NoMemory, Units};
+pub use measure::{kind_of, slots};
+pub use name::{is_class_name, is_method_name, is_unqualified_name};
+pub use read::{DescError, one_descriptor, read_desc};
+pub use text::{TextError, is_modified_utf8, one_spelling, units_of};
+pub use walk::{is_array_descriptor, is_field_descriptor, is_method_descriptor};

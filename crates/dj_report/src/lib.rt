@@ -1,0 +1,13 @@
+//! Reports: what is told of a job, its bytes and its status.
+#![tactic(auto)]
+
+mod bytes;
+mod order;
+mod put;
+mod report;
+#[cfg(test)]
+mod tests;
+
+pub use bytes::{ReportError, bytes_of, status_of};
+pub use order::{compare, in_order};
+pub use report::{Limit, PathFile, Report, Violation, Violations};

@@ -1,0 +1,151 @@
+// Each function appends a part of a report's text.
+ghost use Rattle.std.specs.Prelude.{◌≡◌, ◌<◌, ◌++◌, OnOk};
+ghost use Rattle.std.specs.List.{flat_map};
+ghost use Rattle.std.specs.Fmt.{decimal};
+ghost use Rattle.dj_report.specs.Text.{escaped_byte, escaped, rule_name, member_text, number_text, violation_text, limit_text, report_text, hex_digit};
+
+use crate::bytes::ReportError;
+use crate::report::{Limit, Report, Violation};
+use itoa::Buffer;
+
+fn hex_digit_of(d: u8) -> u8
+    requires { d < 16 }
+    ensures { result ≡ hex_digit d }
+{
+    if d < 10 { b'0' + d } else { b'A' - 10 + d }
+}
+
+fn put_escaped_byte(out: &mut Vec<u8>, byte: u8) -> Result<(), ReportError>
+    ensures { OnOk result (out.new.items ≡ out.old.items ++ escaped_byte byte) }
+{
+    if (33..=126).contains(&byte) && byte != b'%' {
+        out.push(byte)?;
+    } else {
+        out.push(b'%')?;
+        out.push(hex_digit_of(byte / 16))?;
+        out.push(hex_digit_of(byte % 16))?;
+    }
+    Ok(())
+}
+
+fn put_escaped(out: &mut Vec<u8>, text: &[u8]) -> Result<(), ReportError>
+    ensures { OnOk result (out.new.items ≡ out.old.items ++ escaped text.now) }
+{
+    for byte in text {
+        put_escaped_byte(out, *byte)?;
+    }
+    Ok(())
+}
+
+fn put_decimal(out: &mut Vec<u8>, n: u64) -> Result<(), ReportError>
+    ensures { OnOk result (out.new.items ≡ out.old.items ++ decimal n) }
+{
+    let mut buffer = Buffer::new();
+    out.extend_from_slice(buffer.format(n).as_bytes())?;
+    Ok(())
+}
+
+fn rule_name_of(rule: u8) -> &'static str
+    ensures { result.now ≡ rule_name rule }
+{
+    match rule {
+        1 => "MALFORMED",
+        2 => "VERSION",
+        3 => "NAME",
+        7 => "NATIVE",
+        8 => "FINALIZER",
+        _ => "",
+    }
+}
+
+fn put_member(out: &mut Vec<u8>, member: &[u8]) -> Result<(), ReportError>
+    ensures { OnOk result (out.new.items ≡ out.old.items ++ member_text member.now) }
+{
+    if member.is_empty() {
+        out.push(b'-')?;
+        Ok(())
+    } else {
+        put_escaped(out, member)
+    }
+}
+
+fn put_number(out: &mut Vec<u8>, number: Option<u32>) -> Result<(), ReportError>
+    ensures { OnOk result (out.new.items ≡ out.old.items ++ number_text number) }
+{
+    match number {
+        Some(n) => put_decimal(out, u64::from(n)),
+        None => {
+            out.push(b'-')?;
+            Ok(())
+        }
+    }
+}
+
+fn put_violation(out: &mut Vec<u8>, violation: &Violation) -> Result<(), ReportError>
+    ensures { OnOk result (out.new.items ≡ out.old.items ++ violation_text violation.now) }
+{
+    put_escaped(out, violation.path.as_slice())?;
+    out.push(b' ')?;
+    put_member(out, violation.member.as_slice())?;
+    out.push(b' ')?;
+    put_number(out, violation.number)?;
+    out.push(b' ')?;
+    put_decimal(out, u64::from(violation.rule))?;
+    out.push(b' ')?;
+    out.extend_from_slice(rule_name_of(violation.rule).as_bytes())?;
+    out.push(b'\n')?;
+    Ok(())
+}
+
+fn put_violations(out: &mut Vec<u8>, violations: &[Violation]) -> Result<(), ReportError>
+    ensures { OnOk result (out.new.items ≡ out.old.items ++ flat_map violation_text violations.now) }
+{
+    for violation in violations {
+        put_violation(out, violation)?;
+    }
+    Ok(())
+}
+
+fn limit_text_of(limit: Limit) -> &'static str
+    ensures { result.now ≡ limit_text limit }
+{
+    match limit {
+        Limit::FileCount => "files 4096",
+        Limit::File => "file 4194304",
+        Limit::Total => "total 67108864",
+    }
+}
+
+/// Appends the report's lines.
+pub fn put_report(out: &mut Vec<u8>, report: &Report) -> Result<(), ReportError>
+    ensures { OnOk result (out.new.items ≡ out.old.items ++ report_text report.now) }
+{
+    match report {
+        Report::Accepted(files) => {
+            out.extend_from_slice(b"ACCEPTED ")?;
+            put_decimal(out, u64::from(*files))?;
+            out.push(b'\n')?;
+        }
+        Report::Rejected(violations) => {
+            let violations = violations.as_slice();
+            out.extend_from_slice(b"REJECTED ")?;
+            put_decimal(out, violations.len() as u64)?;
+            out.push(b'\n')?;
+            put_violations(out, violations)?;
+        }
+        Report::Limited(limit) => {
+            out.extend_from_slice(b"LIMIT ")?;
+            out.extend_from_slice(limit_text_of(*limit).as_bytes())?;
+            out.push(b'\n')?;
+        }
+        Report::Later(path) => {
+            out.extend_from_slice(b"LATER ")?;
+            put_escaped(out, path.as_slice())?;
+            out.push(b'\n')?;
+        }
+        Report::Usage => {
+            out.extend_from_slice(b"USAGE\n")?;
+        }
+    }
+    Ok(())
+}

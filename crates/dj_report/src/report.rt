@@ -1,0 +1,114 @@
+ghost use Rattle.std.specs.Prelude.{◌≡◌, [], ◌∷◌, ◌++◌, OnOk, OnErr};
+
+use dj_names::{Name, NoMemory};
+use std::alloc::Global;
+use std::marker::Model;
+
+/// A limit on what is read.
+#[derive(Clone, Copy, Debug, PartialEq, Eq)]
+pub enum Limit {
+    /// At most 4,096 class files.
+    FileCount,
+    /// At most 4,194,304 bytes of a class file.
+    File,
+    /// At most 67,108,864 bytes of class files together.
+    Total,
+}
+
+/// A line of a rejected report: a rule that a file, a member or an instruction violates.
+#[derive(Debug, Drop)]
+pub struct Violation {
+    /// The file's path within the folder, as UTF-8.
+    pub path: Name,
+    /// The member's name and descriptor. The empty member stands for none.
+    pub member: Name,
+    /// The number of the instruction, from 0.
+    pub number: Option<u32>,
+    /// The number of the rule.
+    pub rule: u8,
+}
+
+/// Violations, one a line.
+#[derive(Debug, Drop)]
+pub struct Violations {
+    items: Vec<Violation>,
+}
+
+impl Model for Violations {
+    ghost use Rattle.std.specs.Prelude.{List};
+    ghost use Rattle.dj_report.specs.declared.report.Violation.{Violation};
+
+    ghost Value = { List Violation };
+
+    ghost view = { λ violations. violations.items.items };
+}
+
+impl Violations {
+    /// No violations.
+    pub fn new(alloc: Global) -> Violations
+        ensures { result ≡ [] }
+    {
+        Violations {
+            items: Vec::new(alloc),
+        }
+    }
+
+    /// Appends a violation.
+    pub fn push(&mut self, item: Violation) -> Result<(), NoMemory>
+        ensures ok { OnOk result (self.new ≡ self.old ++ item ∷ []) }
+        ensures err { OnErr result (self.new ≡ self.old) }
+    {
+        match self.items.push(item) {
+            Ok(()) => Ok(()),
+            Err(_) => Err(NoMemory::Memory),
+        }
+    }
+
+    /// Appends violations.
+    pub fn append(&mut self, mut more: Violations) -> Result<(), NoMemory>
+        ensures ok { OnOk result (self.new ≡ self.old ++ more) }
+        ensures err { OnErr result (self.new ≡ self.old) }
+    {
+        match self.items.append(&mut more.items) {
+            Ok(()) => Ok(()),
+            Err(_) => Err(NoMemory::Memory),
+        }
+    }
+
+    /// The violations, lent.
+    pub fn as_slice(&self) -> &[Violation]
+        ensures { result.now ≡ self.now }
+    {
+        self.items.as_slice()
+    }
+}
+
+impl From<Vec<Violation>> for Violations {
+    ghost from_gives = { λ items violations. violations ≡ items.items };
+
+    fn from(items: Vec<Violation>) -> Violations {
+        Violations { items }
+    }
+}
+
+/// What is told of a job.
+#[derive(Debug, Drop)]
+pub enum Report {
+    /// So many class files, and no rule is violated.
+    Accepted(u32),
+    /// The violations, of which there are some.
+    Rejected(Violations),
+    /// The first limit that was passed.
+    Limited(Limit),
+    /// The path within the folder of the first file that needs parts of the format that are not read yet.
+    Later(Name),
+    /// The words are those of no job.
+    Usage,
+}
+
+/// A class file under its path within the folder.
+#[derive(Clone, Copy, Debug)]
+pub struct PathFile<'a> {
+    pub path: &'a str,
+    pub bytes: &'a [u8],
+}

@@ -1,0 +1,12 @@
+pub mod Known
+pub mod Folders
+pub mod Loading
+pub mod Judging
+pub mod Reporting
+pub mod Same
+pub mod Statuses
+pub mod Lines
+pub mod Judged
+pub mod Named
+pub mod Faulty
+pub mod EachOnce

@@ -1,0 +1,63 @@
+-- How a call of the program ends.
+use Rattle.std.specs.Prelude.{◌≡◌, ℕ, List, [], ◌∷◌, Option, IfSome, Contains, ◌⊎◌}
+use Rattle.std.specs.Io.KnownBytes.{Appends}
+use Rattle.dj_edge.specs.Held.{Held}
+use Rattle.dj_edge.specs.Counts.{Rose, IsFront, GrowsByFront}
+use Rattle.dj_report.specs.declared.report.Report.{Report}
+use Rattle.dj_report.specs.Text.{report_text, report_status}
+use Rattle.djvm_cli.specs.Report.{IsReport, asks}
+
+-- the store failed, the sink failed, there was no memory
+abbrev pub read_fault : ℕ
+read_fault = 65
+
+abbrev pub write_fault : ℕ
+write_fault = 66
+
+abbrev pub no_memory : ℕ
+no_memory = 67
+
+-- where the store tells what it holds, the report is that of the words and of what is held
+abbrev pub IsRight : List (List ℕ) → Option Held → Report → Type 0
+IsRight words held report = IfSome held (λ h. IsReport words h report)
+
+-- the right report was written, and the status is its
+pub record Finished (words : List (List ℕ)) (held : Option Held) (status : ℕ) (old new : Option (List ℕ)) : Type 0 where
+  pub report : Report
+  pub right : IsRight words held report
+  pub written : Appends old new (report_text report)
+  pub status_is : status ≡ report_status report
+
+-- a front of the right report was written
+pub record Broken (words : List (List ℕ)) (held : Option Held) (old new : Option (List ℕ)) : Type 0 where
+  pub report : Report
+  pub front : List ℕ
+  pub right : IsRight words held report
+  pub is_front : IsFront front (report_text report)
+  pub written : Appends old new front
+
+-- a front of the text was written
+abbrev pub WritesFront : Option (List ℕ) → Option (List ℕ) → List ℕ → Type 0
+WritesFront old new text = (front : List ℕ) × IsFront front text × Appends old new front
+
+-- the store failed in this call, and nothing was written
+pub record ReadFault (faults_before faults_now : ℕ) (old new : Option (List ℕ)) : Type 0 where
+  pub rose : Rose faults_before faults_now
+  pub written : Appends old new []
+
+-- the sink failed in this call, after a front of the right report
+pub record WriteFault (words : List (List ℕ)) (held : Option Held) (faults_before faults_now : ℕ) (old new : Option (List ℕ)) : Type 0 where
+  pub rose : Rose faults_before faults_now
+  pub broken : Broken words held old new
+
+-- there was no memory, after a front of the right report or before there was one
+abbrev pub OutOfMemory : List (List ℕ) → Option Held → Option (List ℕ) → Option (List ℕ) → Type 0
+OutOfMemory words held old new = Broken words held old new ⊎ Appends old new []
+
+-- every status that a call ends with
+abbrev pub statuses : List ℕ
+statuses = 0 ∷ 2 ∷ 7 ∷ 64 ∷ 65 ∷ 66 ∷ 67 ∷ 75 ∷ []
+
+-- the store was asked what the words ask of it, up to some place
+abbrev pub AsksInOrder : List (List ℕ) → Option Held → List (List ℕ) → List (List ℕ) → Type 0
+AsksInOrder words held old new = IfSome held (λ h. GrowsByFront old new (asks words h))

@@ -1,0 +1,23 @@
+-- The job that the words of a command line ask for.
+use Rattle.std.specs.Prelude.{ℕ, ◌-◌, ◌&&◌, Bool, not, List, [], ◌∷◌, Option, Some, None, length, take, codes, nat_eq, if◌then◌else◌}
+use Rattle.std.specs.Cmp.Lexicographic.{pointwise}
+use Rattle.std.specs.List.{starts_with, ends_with}
+
+pub data Job : Type 0 where
+  -- check the class files of a folder
+  Check : List ℕ → Job
+
+-- one slash at the end of a folder is dropped
+abbrev pub without_slash : List ℕ → List ℕ
+without_slash folder = if ends_with nat_eq folder (codes "/") then take (length folder - 1) folder else folder
+
+abbrev pub is_word : List ℕ → List ℕ → Bool
+is_word word other = pointwise nat_eq word other
+
+-- `check` and a folder that does not begin with a dash
+abbrev pub job_of : List (List ℕ) → Option Job
+job_of [] = None
+job_of (command ∷ []) = None
+job_of (command ∷ folder ∷ []) =
+    if is_word command (codes "check") && not (starts_with nat_eq folder (codes "-")) then Some (Check (without_slash folder)) else None
+job_of (command ∷ folder ∷ other ∷ others) = None

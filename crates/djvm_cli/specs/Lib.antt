@@ -1,0 +1,11 @@
+pub mod Job
+pub mod Limits
+pub mod Violations
+pub mod Report
+pub mod Ends
+pub mod OneReport
+pub mod Views
+pub mod Steps
+pub mod Next
+pub mod Lines
+pub mod Faults

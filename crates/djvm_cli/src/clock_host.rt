@@ -1,0 +1,69 @@
+ghost use Rattle.std.specs.Prelude.{◌≡◌, [], ◌∷◌, ◌++◌, OnOk, OnErr};
+
+use dj_edge::{Host, HostAnswer, HostError};
+use std::rt::Clock;
+use std::time::{Instant, SystemTime, UNIX_EPOCH};
+
+/// The system's clocks. A clock that cannot be read answers 0.
+#[derive(Drop)]
+pub struct ClockHost<R: Clock + AllocGlobal + Drop> {
+    rt: R,
+    made: Option<Instant>,
+    given: Vec<HostAnswer>,
+}
+
+impl<R: Clock + AllocGlobal + Drop> ClockHost<R> {
+    /// The system's clocks, of which nothing was asked.
+    pub fn new(rt: R) -> ClockHost<R> {
+        let made = Instant::now(&rt).ok();
+        let given = Vec::new(rt.alloc());
+        ClockHost { rt, made, given }
+    }
+
+    /// The nanoseconds since the host was made.
+    fn nanos_since(&self) -> i64 {
+        match self.made.map(|made| made.elapsed(&self.rt)) {
+            Some(Ok(time)) => i64::try_from(time.as_nanos()).unwrap_or(0),
+            _ => 0,
+        }
+    }
+
+    /// The milliseconds since the start of 1970.
+    fn millis_since_epoch(&self) -> i64 {
+        match SystemTime::now(&self.rt).map(|now| now.duration_since(UNIX_EPOCH)) {
+            Ok(Ok(time)) => i64::try_from(time.as_millis()).unwrap_or(0),
+            _ => 0,
+        }
+    }
+
+    fn give(&mut self, answer: HostAnswer) -> Result<(), HostError>
+        ensures ok { OnOk result (self.new.given.items ≡ self.old.given.items ++ answer ∷ []) }
+        ensures err { OnErr result (self.new.given.items ≡ self.old.given.items) }
+    {
+        self.given.push(answer).map_err(|_| HostError::Memory)
+    }
+}
+
+impl<R: Clock + AllocGlobal + Drop> Host for ClockHost<R> {
+    ghost given = { λ host. host.given.items };
+
+    /// The low 32 bits of the nanoseconds since the host was made.
+    fn hash_word(&mut self) -> Result<i32, HostError> {
+        let low = self.nanos_since().cast_unsigned() & 0xffff_ffff;
+        let word = (low as u32).cast_signed();
+        self.give(HostAnswer::Word(word))?;
+        Ok(word)
+    }
+
+    fn nanos(&mut self) -> Result<i64, HostError> {
+        let nanos = self.nanos_since();
+        self.give(HostAnswer::Nanos(nanos))?;
+        Ok(nanos)
+    }
+
+    fn millis(&mut self) -> Result<i64, HostError> {
+        let millis = self.millis_since_epoch();
+        self.give(HostAnswer::Millis(millis))?;
+        Ok(millis)
+    }
+}

@@ -1,0 +1,108 @@
+ghost use Rattle.std.specs.Prelude.{◌≡◌, [], ◌∷◌, ◌++◌, None, IfOk, OnOk, OnErr, map, string_bytes};
+ghost use Rattle.dj_edge.specs.Calls.{IsListing, ReadTells};
+
+use crate::listing::listing_of;
+use crate::walk::{files_below, list_error};
+use dj_edge::{Files, ListError, ReadError};
+use std::alloc::{AllocError, Global};
+use std::io::Read;
+use std::rt::Files as System;
+use std::{fs, io};
+
+/// The files of the system. It does not tell what is held.
+#[derive(Drop)]
+pub struct FolderFiles<R: System + AllocGlobal + Clone + Drop> {
+    rt: R,
+    faults: u64,
+    asked: Vec<String>,
+}
+
+/// The bytes of a file, or one more than so many of them where it is longer.
+fn bytes_of<R: System + AllocGlobal>(rt: &R, path: &str, most: u64) -> io::Result<Vec<u8>> {
+    let file = fs::open(rt, path)?;
+    let mut bytes = Vec::new(rt.alloc());
+    file.take(most.saturating_add(1)).read_to_end(&mut bytes)?;
+    Ok(bytes)
+}
+
+/// The bytes of a file that has at most so many.
+fn read_whole<R: System + AllocGlobal>(rt: &R, path: &str, most: u64) -> Result<Vec<u8>, ReadError>
+    ensures { ReadTells (λ bytes. bytes.items) None path.now most result }
+{
+    match bytes_of(rt, path, most) {
+        Ok(bytes) => {
+            if bytes.len() as u64 > most {
+                return Err(ReadError::TooLong);
+            }
+            Ok(bytes)
+        }
+        Err(error) if error.kind() == io::ErrorKind::OutOfMemory => Err(ReadError::Memory),
+        Err(_) => Err(ReadError::Failed),
+    }
+}
+
+/// The class files in the folder or below it.
+fn list_folder<R: System + AllocGlobal + Clone + Drop>(
+    rt: &R,
+    folder: &str,
+    most: u32,
+) -> Result<Vec<String>, ListError>
+    ensures { IfOk result (λ paths. IsListing None folder.now most (map string_bytes paths.items)) }
+{
+    let found = files_below(rt, folder)?;
+    listing_of(rt.alloc(), folder, found, most).map_err(|_| ListError::Memory)
+}
+
+impl<R: System + AllocGlobal + Clone + Drop> FolderFiles<R> {
+    /// The files of the system, of which nothing was asked.
+    pub fn new(rt: R) -> FolderFiles<R> {
+        let asked = Vec::new(rt.alloc());
+        FolderFiles {
+            rt,
+            faults: 0,
+            asked,
+        }
+    }
+}
+
+/// Appends a text to those that were asked.
+fn ask(alloc: Global, asked: &mut Vec<String>, text: &str) -> Result<(), AllocError>
+    ensures ok { OnOk result (map string_bytes asked.new.items ≡ map string_bytes asked.old.items ++ text.now ∷ []) }
+    ensures err { OnErr result (asked.new.items ≡ asked.old.items) }
+{
+    let text = String::from_str(alloc, text)?;
+    asked.push(text)?;
+    Ok(())
+}
+
+impl<R: System + AllocGlobal + Clone + Drop> Files for FolderFiles<R> {
+    ghost held = { λ _. None };
+
+    ghost faults = { λ files. files.faults };
+
+    ghost asked = { λ files. map string_bytes files.asked.items };
+
+    fn list(&mut self, alloc: Global, folder: &str, most: u32) -> Result<Vec<String>, ListError> {
+        let listed = list_folder(&self.rt, folder, most);
+        if matches!(listed, Err(ListError::Memory))
+            || ask(alloc, &mut self.asked, folder).is_err()
+        {
+            return Err(ListError::Memory);
+        }
+        if listed.is_err() {
+            self.faults = self.faults.saturating_add(1);
+        }
+        listed
+    }
+
+    fn read(&mut self, alloc: Global, path: &str, most: u64) -> Result<Vec<u8>, ReadError> {
+        let read = read_whole(&self.rt, path, most);
+        if matches!(read, Err(ReadError::Memory)) || ask(alloc, &mut self.asked, path).is_err() {
+            return Err(ReadError::Memory);
+        }
+        if matches!(read, Err(ReadError::Failed)) {
+            self.faults = self.faults.saturating_add(1);
+        }
+        read
+    }
+}

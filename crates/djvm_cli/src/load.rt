@@ -1,0 +1,140 @@
+ghost use Rattle.std.specs.Prelude.{◌≡◌, ◌≤◌, [], ◌∷◌, ◌++◌, map, All, IsSome, IfOk, OnOk, IfSome, string_bytes, unwrap_or};
+ghost use Rattle.dj_edge.specs.Held.{bytes_at};
+ghost use Rattle.dj_edge.specs.Counts.{GrowsByFront};
+ghost use Rattle.djvm_cli.specs.Limits.{most_total_bytes};
+ghost use Rattle.djvm_cli.specs.Steps.{Counted, IsListed, AreClassPaths, AreRead, IsLoaded, files_at};
+ghost use Rattle.djvm_cli.specs.Next.{IsNextRead, IsNext};
+
+use dj_edge::{Files, ListError, ReadError};
+use dj_report::Limit;
+use std::alloc::Global;
+
+/// Why a job has no report.
+#[derive(Clone, Copy, Debug, PartialEq, Eq)]
+pub enum Stop {
+    /// The store of files failed.
+    Fault,
+    /// There was no memory.
+    Memory,
+}
+
+/// A file that was read, under its path.
+#[derive(Debug, Drop)]
+pub struct SourceFile {
+    pub path: String,
+    pub bytes: Vec<u8>,
+}
+
+/// What listing a folder found.
+#[derive(Debug, Drop)]
+pub enum Listing {
+    /// The paths of the class files, in the order of their bytes.
+    Paths(Vec<String>),
+    /// There are more than 4,096 class files.
+    TooMany,
+}
+
+/// What reading the class files found.
+#[derive(Debug, Drop)]
+pub enum Loaded {
+    /// All files, in the order of their paths.
+    Files(Vec<SourceFile>),
+    /// The limit that was passed first.
+    Passed(Limit),
+}
+
+/// What reading one more file found.
+#[derive(Debug, Drop)]
+enum NextFile {
+    /// The file.
+    Read(SourceFile),
+    /// The limit that it passes.
+    Passed(Limit),
+}
+
+const MOST_FILES: u32 = 4_096;
+
+const MOST_FILE_BYTES: u64 = 4_194_304;
+
+const MOST_TOTAL_BYTES: u64 = 67_108_864;
+
+/// The paths of the class files in the folder or below it, in the order of their bytes.
+pub fn list_paths<F: Files>(alloc: Global, files: &mut F, folder: &str) -> Result<Listing, Stop>
+    ensures held { F.held files.new ≡ F.held files.old }
+    ensures counts { Counted (F.faults files.old) (F.faults files.new) result }
+    ensures asks { GrowsByFront (F.asked files.old) (F.asked files.new) (folder.now ∷ []) }
+    ensures asked { OnOk result (F.asked files.new ≡ F.asked files.old ++ folder.now ∷ []) }
+    ensures class_paths { IfOk result (AreClassPaths folder.now) }
+    ensures told { IfSome (F.held files.old) (λ h. IfOk result (IsListed folder.now h)) }
+{
+    let mut paths = match files.list(alloc, folder, MOST_FILES + 1) {
+        Ok(paths) => paths,
+        Err(ListError::Failed) => return Err(Stop::Fault),
+        Err(ListError::Memory) => return Err(Stop::Memory),
+    };
+    if paths.len() > MOST_FILES as usize {
+        return Ok(Listing::TooMany);
+    }
+    match paths.sort() {
+        Ok(()) => Ok(Listing::Paths(paths)),
+        Err(_) => Err(Stop::Memory),
+    }
+}
+
+/// Reads the file of the path, after files of so many bytes together.
+fn read_next<F: Files>(
+    alloc: Global,
+    files: &mut F,
+    path: &str,
+    total: u64,
+) -> Result<NextFile, Stop>
+    requires held { IfSome (F.held files.old) (λ h. IsSome (bytes_at h path.now)) }
+    requires total { total ≤ most_total_bytes }
+    ensures held { F.held files.new ≡ F.held files.old }
+    ensures counts { Counted (F.faults files.old) (F.faults files.new) result }
+    ensures asks { GrowsByFront (F.asked files.old) (F.asked files.new) (path.now ∷ []) }
+    ensures asked { OnOk result (F.asked files.new ≡ F.asked files.old ++ path.now ∷ []) }
+    ensures read { IfOk result (IsNextRead path.now total) }
+    ensures told { IfSome (F.held files.old) (λ h. IfOk result (IsNext (path.now, unwrap_or (bytes_at h path.now) []) total)) }
+{
+    let bytes = match files.read(alloc, path, MOST_FILE_BYTES) {
+        Ok(bytes) => bytes,
+        Err(ReadError::TooLong) => return Ok(NextFile::Passed(Limit::File)),
+        Err(ReadError::Failed) => return Err(Stop::Fault),
+        Err(ReadError::Memory) => return Err(Stop::Memory),
+        Err(ReadError::Absent) => unreachable!(),
+    };
+    if bytes.as_slice().len() as u64 > MOST_TOTAL_BYTES - total {
+        return Ok(NextFile::Passed(Limit::Total));
+    }
+    match String::from_str(alloc, path) {
+        Ok(path) => Ok(NextFile::Read(SourceFile { path, bytes })),
+        Err(_) => Err(Stop::Memory),
+    }
+}
+
+/// Reads the files of these paths in their order, until a limit is passed.
+pub fn read_files<F: Files>(alloc: Global, files: &mut F, paths: &[String]) -> Result<Loaded, Stop>
+    requires { IfSome (F.held files.old) (λ h. All (λ path. IsSome (bytes_at h (string_bytes path))) paths.now) }
+    ensures held { F.held files.new ≡ F.held files.old }
+    ensures counts { Counted (F.faults files.old) (F.faults files.new) result }
+    ensures asks { GrowsByFront (F.asked files.old) (F.asked files.new) (map string_bytes paths.now) }
+    ensures read { IfOk result (AreRead (map string_bytes paths.now)) }
+    ensures told { IfSome (F.held files.old) (λ h. IfOk result (IsLoaded (files_at h (map string_bytes paths.now)))) }
+{
+    let mut read = Vec::new(alloc);
+    let mut total = 0;
+    for path in paths {
+        match read_next(alloc, files, path.as_str(), total)? {
+            NextFile::Passed(limit) => return Ok(Loaded::Passed(limit)),
+            NextFile::Read(file) => {
+                total += file.bytes.as_slice().len() as u64;
+                match read.push(file) {
+                    Ok(()) => {}
+                    Err(_) => return Err(Stop::Memory),
+                }
+            }
+        }
+    }
+    Ok(Loaded::Files(read))
+}

@@ -1,0 +1,52 @@
+//! djvm: a deterministic sandbox for Java class files.
+#![tactic(auto)]
+
+mod check;
+mod clock_host;
+mod djvm;
+mod folder_files;
+mod laws;
+mod listing;
+mod load;
+mod out_sink;
+mod rules;
+#[cfg(test)]
+mod tests;
+mod unbuilt;
+mod walk;
+mod words;
+
+use clock_host::ClockHost;
+use folder_files::FolderFiles;
+use out_sink::OutSink;
+use std::alloc::AllocError;
+use std::env;
+use std::io::ErrorKind;
+use std::process::ExitCode;
+use std::rt::Env;
+
+/// The words of the command line without the program's name, or none where one of them is not UTF-8.
+fn words_of<R: Env + AllocGlobal>(rt: &R) -> Result<Vec<String>, AllocError> {
+    let mut words = Vec::new(rt.alloc());
+    match env::args(rt) {
+        Ok(args) => {
+            for word in args.skip(1) {
+                words.push(word)?;
+            }
+            Ok(words)
+        }
+        Err(error) if error.kind() == ErrorKind::OutOfMemory => Err(AllocError),
+        Err(_) => Ok(words),
+    }
+}
+
+fn main(rt: HostRuntime) -> ExitCode {
+    let Ok(words) = words_of(&rt) else {
+        return ExitCode::from(67);
+    };
+    let mut files = FolderFiles::new(&rt);
+    let mut host = ClockHost::new(&rt);
+    let mut sink = OutSink::new(&rt);
+    let status = djvm::djvm(rt.alloc(), &words, &mut files, &mut host, &mut sink);
+    ExitCode::from(status)
+}

@@ -1,0 +1,36 @@
+ghost use Rattle.std.specs.Prelude.{None};
+
+use dj_edge::{Sink, SinkError};
+use std::io;
+use std::io::Write;
+
+/// Standard output. It does not tell what was written.
+#[derive(Drop)]
+pub struct OutSink<R: Print + Drop> {
+    rt: R,
+    faults: u64,
+}
+
+impl<R: Print + Drop> OutSink<R> {
+    /// Standard output, of which no write failed.
+    pub fn new(rt: R) -> OutSink<R> {
+        OutSink { rt, faults: 0 }
+    }
+}
+
+impl<R: Print + Drop> Sink for OutSink<R> {
+    ghost written = { λ _. None };
+
+    ghost faults = { λ sink. sink.faults };
+
+    fn write(&mut self, piece: &[u8]) -> Result<usize, SinkError> {
+        match io::writer(&self.rt).write(piece) {
+            Ok(taken) if taken > 0 => Ok(taken),
+            Err(error) if error.kind() == io::ErrorKind::OutOfMemory => Err(SinkError::Memory),
+            _ => {
+                self.faults = self.faults.saturating_add(1);
+                Err(SinkError::Failed)
+            }
+        }
+    }
+}

@@ -1,0 +1,96 @@
+use dj_edge::ListError;
+use std::rt::Files as System;
+use std::{fs, io};
+
+/// How many levels of folders below the first are walked.
+const MOST_LEVELS: u32 = 64;
+
+/// How many entries one walk meets at most.
+const MOST_ENTRIES: u32 = 1_048_576;
+
+/// A folder that is still to be walked, so many levels below the first.
+#[derive(Drop)]
+struct Folder {
+    path: String,
+    level: u32,
+}
+
+/// What a walk met so far.
+#[derive(Drop)]
+struct Walk {
+    pending: Vec<Folder>,
+    found: Vec<String>,
+    entries: u32,
+}
+
+pub fn list_error(error: io::Error) -> ListError {
+    if error.kind() == io::ErrorKind::OutOfMemory {
+        ListError::Memory
+    } else {
+        ListError::Failed
+    }
+}
+
+impl Walk {
+    /// Takes one entry of a folder: a folder is walked later, and a file is found.
+    fn take<R: System + AllocGlobal>(
+        &mut self,
+        rt: &R,
+        path: &str,
+        level: u32,
+    ) -> Result<(), ListError> {
+        if self.entries >= MOST_ENTRIES {
+            return Err(ListError::Failed);
+        }
+        self.entries += 1;
+        let path = String::from_str(rt.alloc(), path).map_err(|_| ListError::Memory)?;
+        let kind = fs::metadata(rt, path.as_str()).map_err(list_error)?;
+        if kind.is_dir() {
+            if level >= MOST_LEVELS {
+                return Err(ListError::Failed);
+            }
+            let folder = Folder {
+                path,
+                level: level + 1,
+            };
+            return self.pending.push(folder).map_err(|_| ListError::Memory);
+        }
+        self.found.push(path).map_err(|_| ListError::Memory)
+    }
+
+    /// Takes the entries of a folder.
+    fn enter<R: System + AllocGlobal + Clone + Drop>(
+        &mut self,
+        rt: &R,
+        folder: &Folder,
+    ) -> Result<(), ListError> {
+        for entry in fs::read_dir(rt, folder.path.as_str()).map_err(list_error)? {
+            let entry = entry.map_err(list_error)?;
+            self.take(rt, entry.path().as_str(), folder.level)?;
+        }
+        Ok(())
+    }
+}
+
+/// The files in the folder or below it, which links may lead to, each path as it was met.
+pub fn files_below<R: System + AllocGlobal + Clone + Drop>(
+    rt: &R,
+    folder: &str,
+) -> Result<Vec<String>, ListError> {
+    let alloc = rt.alloc();
+    let mut walk = Walk {
+        pending: Vec::new(alloc),
+        found: Vec::new(alloc),
+        entries: 0,
+    };
+    let path = format!(in alloc; "{folder}/").map_err(|_| ListError::Memory)?;
+    let first = Folder { path, level: 0 };
+    walk.enter(rt, &first)?;
+    for _ in 0..MOST_ENTRIES {
+        match walk.pending.pop() {
+            Some(folder) => walk.enter(rt, &folder)?,
+            None => break,
+        }
+    }
+    Ok(walk.found)
+}

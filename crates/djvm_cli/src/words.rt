@@ -1,0 +1,39 @@
+ghost use Rattle.std.specs.Prelude.{◌≡◌, map, string_bytes};
+ghost use Rattle.std.specs.Option.{option_map};
+ghost use Rattle.djvm_cli.specs.Job.{job_of, without_slash};
+ghost use Rattle.djvm_cli.specs.Views.{job_view};
+
+/// What the words of a command line ask for.
+#[derive(Clone, Copy, Debug)]
+pub enum Command<'a> {
+    /// Check the class files of the folder.
+    Check { folder: &'a str },
+}
+
+fn cut_slash(folder: &str) -> &str
+    ensures { result.now ≡ without_slash folder.now }
+{
+    if folder.as_bytes().ends_with(b"/") {
+        &folder[..folder.len() - 1]
+    } else {
+        folder
+    }
+}
+
+/// The job of the words, which are the command line without the program's name, or none.
+pub fn command_of(words: &[String]) -> Option<Command<'_>>
+    ensures { option_map job_view result ≡ job_of (map string_bytes words.now) }
+{
+    match words {
+        [command, folder] => {
+            if command.as_str() == "check" && !folder.as_str().starts_with('-') {
+                Some(Command::Check {
+                    folder: cut_slash(folder.as_str()),
+                })
+            } else {
+                None
+            }
+        }
+        _ => None,
+    }
+}

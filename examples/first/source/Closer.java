@@ -1,0 +1,3 @@
+public interface Closer {
+    void finalize();
+}

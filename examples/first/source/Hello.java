@@ -1,0 +1,3 @@
+public interface Hello {
+    String hello(String name);
+}

@@ -1,0 +1,8 @@
+package shop;
+
+public interface Account {
+    long balance();
+
+    default void close() {
+    }
+}
