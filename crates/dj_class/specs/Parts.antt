@@ -1,5 +1,4 @@
 -- What the parts of a view show that are no lists.
-use Rattle.std.specs.Prelude.{ℕ, List}
 use Rattle.dj_class.specs.declared.pool.Entry.{Entry}
 use Rattle.dj_class.specs.declared.pool.Entry.TheVariants as entries
 use Rattle.dj_class.specs.declared.class.Attribute.{Attribute}

@@ -1,5 +1,5 @@
 -- What the view of a class file shows, and what reading one answers.
-use Rattle.std.specs.Prelude.{ℕ, ⊤, List, map, Result, Ok, Err}
+use Rattle.std.specs.Prelude.{ℕ, ⊤, List, Result, Ok, Err}
 use Rattle.dj_class.specs.declared.pool.PoolError.TheVariants as pool_errors
 use Rattle.dj_class.specs.declared.class.ClassError.{ClassError}
 use Rattle.dj_class.specs.declared.class.ClassError.TheVariants as class_errors

@@ -1,8 +1,8 @@
 -- Sorted paths, of which each is kept once, are a listing.
-use Rattle.std.proofs.Common.{◌≡◌, ◌≢◌, ℕ, ◌<◌, ◌≤◌, ◌&&◌, ◌++◌, Bool, true, nat_eq, codes, List, map, take, length, get_or, All, AllPairs, IsTrue, None, String, string_bytes, refl, sym, ap, ◌∙◌, subst, arith}
+use Rattle.std.proofs.Common.{◌≡◌, ◌≢◌, ℕ, ◌&&◌, ◌++◌, Bool, true, nat_eq, codes, List, map, take, All, AllPairs, IsTrue, None, String, string_bytes, sym, ap, ◌∙◌, arith}
 use Rattle.std.specs.List.{dedup, starts_with, ends_with}
 use Rattle.std.specs.List.Sorted.{IsSorted, IsStrictlySortedBy}
-use Rattle.std.specs.Ordering.{nat_cmp, is_eq}
+use Rattle.std.specs.Ordering.{nat_cmp}
 use Rattle.std.specs.Cmp.Lexicographic.{slice_cmp}
 use Rattle.std.specs.declared.cmp.Ordering.TheVariants.{Less, Equal}
 use Rattle.std.specs.String.{string_cmp, string_eq, string_cmp_total}

@@ -1,10 +1,10 @@
 -- What the faults of a reader tell of a file.
-use Rattle.std.proofs.Common.{◌≡◌, ℕ, zero, suc, ◌+◌, ◌<◌, ◌^◌, Bool, true, false, not, List, [], ◌∷◌, ◌++◌, map, take, drop, length, get_or, refl, sym, ap, ◌∙◌, subst, arith, Option, Some, None, Result, Ok, Err, MatchBool, IfSome, unwrap_or, slice_get, option_and_then}
+use Rattle.std.proofs.Common.{◌≡◌, ℕ, zero, suc, ◌<◌, ◌^◌, Bool, true, false, not, List, [], ◌∷◌, ◌++◌, map, take, drop, length, get_or, refl, sym, ap, ◌∙◌, subst, arith, Option, Some, None, Err, MatchBool, IfSome, unwrap_or, slice_get, option_and_then}
 use Rattle.std.specs.List.{AllByRecursion}
 use Rattle.dj_class.specs.declared.pool.PoolError.TheVariants as pool_errors
 use Rattle.dj_class.specs.declared.class.ClassError.{ClassError}
 use Rattle.dj_class.specs.declared.class.ClassError.TheVariants as class_errors
-use Rattle.dj_class.specs.ClassFile.{Constant, Utf8, Class, ClassFile, IsClassFile, IsConstant, text_of, text_at, text_index_of, constant_at, class_name_at}
+use Rattle.dj_class.specs.ClassFile.{Constant, Utf8, Class, ClassFile, IsClassFile, IsConstant, text_of, text_at, text_index_of, constant_at}
 use Rattle.dj_class.specs.Unbuilt.{IsUnbuiltAt}
 use Rattle.dj_class.specs.Views.{ReadsClass}
 use Rattle.dj_class.proofs.TestsAre.{tests_decide}

@@ -1,8 +1,8 @@
 -- The lines of a class file and of a file, as the functions gather them.
-use Rattle.std.proofs.Common.{◌≡◌, ℕ, zero, suc, ◌^◌, ◌<◌, ◌≤◌, ◌⊎◌, ◌↔◌, List, [], ◌∷◌, ◌++◌, map, take, length, get_or, refl, sym, ap, ◌∙◌, subst, inl, inr, arith, Contains, Option, Some, None, unwrap_or}
+use Rattle.std.proofs.Common.{◌≡◌, ℕ, ◌≤◌, ◌⊎◌, ◌↔◌, List, [], map, take, length, sym, subst, inl, inr, Contains}
 use Rattle.dj_report.specs.declared.report.Violation.{Violation}
 use Rattle.dj_class.specs.declared.class.MemberView.{MemberView}
-use Rattle.dj_class.specs.ClassFile.{Constant, Utf8, Class, MemberInfo, ClassFile, IsClassFile, IsPool, IsConstant, text_at, text_of, constant_at, class_name_at}
+use Rattle.dj_class.specs.ClassFile.{Constant, MemberInfo, ClassFile, IsClassFile}
 use Rattle.dj_class.specs.Members.{member_of}
 use Rattle.dj_class.proofs.TestsAre.{tests_decide}
 use Rattle.dj_class.proofs.ClassLaws.{one_class_file}

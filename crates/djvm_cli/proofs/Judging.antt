@@ -1,6 +1,5 @@
 -- Files that are judged, also under their paths within the folder.
-use Rattle.std.proofs.Common.{◌≡◌, ℕ, ◌+◌, ◌^◌, ◌<◌, ◌≤◌, List, [], ◌∷◌, length, map, All, refl, sym, ap, ◌∙◌, subst, arith}
-use Rattle.std.specs.List.{AllByRecursion, sum_by}
+use Rattle.std.proofs.Common.{◌≡◌, ℕ, ◌^◌, ◌<◌, ◌≤◌, List, [], ◌∷◌, length, map, All, refl, sym, subst, arith}
 use Rattle.std.proofs.lemmas.List.{length-map}
 use Rattle.std.proofs.lemmas.List.Sums.{sum_by-cons}
 use Rattle.std.proofs.lemmas.List.Elements.{All-weaker, All-map, All-from_recursion, recursion_from_All}
@@ -8,7 +7,7 @@ use Rattle.dj_edge.specs.Held.{File}
 use Rattle.dj_report.specs.declared.report.PathFile.{PathFile}
 use Rattle.dj_report.specs.declared.report.Report.{Report}
 use Rattle.dj_report.specs.declared.report.Report.TheVariants as reports
-use Rattle.djvm_cli.specs.Limits.{most_files, most_file_bytes, most_total_bytes, total_bytes, AreWithin}
+use Rattle.djvm_cli.specs.Limits.{most_file_bytes, total_bytes, AreWithin}
 use Rattle.djvm_cli.specs.Report.{AreJudged, IsFirstUnbuilt, IsReportOf, within_folder}
 use Rattle.djvm_cli.specs.Views.{path_file_view}
 use Rattle.djvm_cli.proofs.Loading.{All-unmap}

@@ -1,7 +1,7 @@
 -- What adding lines does to those that were found.
 use Rattle.std.proofs.Common.{◌≡◌, ℕ, zero, suc, ◌+◌, ◌<◌, ◌⊎◌, ◌↔◌, List, [], ◌∷◌, ◌++◌, map, take, length, get_or, refl, sym, ap, ◌∙◌, subst, inl, inr, arith, Contains, Result, Ok, Err, OnOk, IsPermutation, Bool, true, false}
 use Rattle.std.proofs.lemmas.List.{get_or-map, take_more, length-map}
-use Rattle.std.proofs.lemmas.List.Elements.{Contains-get_or, Contains-append_left, Contains-append_right, Contains-append_cases, Contains-push, Contains-push_cases}
+use Rattle.std.proofs.lemmas.List.Elements.{Contains-append_left, Contains-append_right, Contains-append_cases, Contains-push, Contains-push_cases}
 use Rattle.std.proofs.lemmas.List.Sorted.{Contains-permutation, IsPermutation-sym}
 use Rattle.dj_report.specs.declared.report.Violation.{Violation}
 use Rattle.djvm_cli.specs.Lines.{Adds, IsLineAmong}

@@ -1,13 +1,12 @@
 -- Listing and reading: what is listed where a store tells, and a step of the reading loop.
-use Rattle.std.proofs.Common.{◌≡◌, ℕ, ◌+◌, ◌<◌, ◌≤◌, List, [], ◌∷◌, ◌++◌, length, take, drop, map, get_or, All, IsTrue, Option, Some, None, IfSome, string_bytes, unwrap_or, refl, sym, ap, ◌∙◌, subst, take-append-drop, arith}
+use Rattle.std.proofs.Common.{◌≡◌, ℕ, ◌+◌, ◌<◌, ◌≤◌, List, [], ◌∷◌, ◌++◌, length, take, drop, map, get_or, All, IsTrue, Option, Some, None, IfSome, string_bytes, unwrap_or, sym, ap, ◌∙◌, subst, take-append-drop, arith}
 use Rattle.std.specs.declared.string.String.{String}
-use Rattle.std.specs.List.{AllByRecursion, sum_by}
 use Rattle.std.specs.List.Sorted.{IsPermutation, IsSorted}
 use Rattle.std.specs.String.{string_cmp}
-use Rattle.std.proofs.lemmas.List.{length-map, map-append, take_more, take-map, map_more, get_or-map, take_all, drop_more}
+use Rattle.std.proofs.lemmas.List.{length-map, map-append, take_more, get_or-map, drop_more}
 use Rattle.std.proofs.lemmas.Bool.{cases_lt}
 use Rattle.std.proofs.Common.{inl, inr}
-use Rattle.std.proofs.lemmas.List.Elements.{All-push, All-nil, All-from_recursion, recursion_from_All}
+use Rattle.std.proofs.lemmas.List.Elements.{All-push, All-from_recursion, recursion_from_All}
 use Rattle.std.proofs.lemmas.List.Sums.{sum_by-append}
 use Rattle.std.proofs.lemmas.List.Sorted.{All-permutation, length_permutation, IsPermutation-map}
 use Rattle.dj_edge.specs.Held.{File, Held, class_files, is_class_path, bytes_at}
@@ -21,7 +20,7 @@ use Rattle.djvm_cli.specs.declared.load.SourceFile.{SourceFile}
 use Rattle.djvm_cli.specs.declared.load.NextFile.{NextFile}
 use Rattle.djvm_cli.specs.declared.load.NextFile.TheVariants as next_files
 use Rattle.djvm_cli.specs.declared.load.Loaded.TheVariants as loads
-use Rattle.djvm_cli.specs.Limits.{most_files, most_file_bytes, most_total_bytes, total_bytes, AreWithin, IsFirstPast, IsTooLong, IsTooMuch}
+use Rattle.djvm_cli.specs.Limits.{most_file_bytes, most_total_bytes, total_bytes, AreWithin}
 use Rattle.djvm_cli.specs.Steps.{files_at, IsLoaded}
 use Rattle.djvm_cli.specs.Next.{IsNextRead, IsNext}
 use Rattle.djvm_cli.specs.Views.{source_view}

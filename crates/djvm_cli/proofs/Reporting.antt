@@ -1,5 +1,5 @@
 -- From the steps of a job to its report.
-use Rattle.std.proofs.Common.{◌≡◌, ℕ, ◌+◌, ◌<◌, ◌≤◌, List, [], ◌∷◌, ◌++◌, length, map, All, IsTrue, Option, Some, None, IsSome, IfSome, string_bytes, vec_len, unwrap_or, refl, sym, ap, ◌∙◌, subst, arith}
+use Rattle.std.proofs.Common.{◌≡◌, ℕ, ◌+◌, ◌<◌, ◌≤◌, List, [], ◌∷◌, length, map, All, IsTrue, Option, Some, IsSome, IfSome, string_bytes, vec_len, unwrap_or, refl, sym, ap, ◌∙◌, subst, arith}
 use Rattle.std.specs.Prelude.{is_some}
 use Rattle.std.specs.Global.{Vec}
 use Rattle.dj_edge.specs.InMemory.{String}
@@ -16,7 +16,7 @@ use Rattle.djvm_cli.specs.declared.load.Listing.{Listing}
 use Rattle.djvm_cli.specs.declared.load.Listing.TheVariants as listings
 use Rattle.djvm_cli.specs.declared.load.Loaded.{Loaded}
 use Rattle.djvm_cli.specs.declared.load.Loaded.TheVariants as loads
-use Rattle.djvm_cli.specs.Limits.{most_files, most_total_bytes, total_bytes, AreWithin, IsFirstPast, IsTooLong, IsTooMuch}
+use Rattle.djvm_cli.specs.Limits.{most_files, most_total_bytes, IsFirstPast, IsTooLong, IsTooMuch}
 use Rattle.djvm_cli.specs.Report.{IsReportOf, within_folder, files_within}
 use Rattle.djvm_cli.specs.Steps.{files_at, IsListed, AreClassPaths, AreRead, IsLoaded}
 use Rattle.djvm_cli.specs.Views.{source_view}

@@ -1,7 +1,7 @@
 -- A job has one report: at each step of the order of work what is told of the files excludes every other answer.
-use Rattle.std.proofs.Common.{◌≡◌, ◌≢◌, ℕ, ◌+◌, ◌<◌, ◌≤◌, List, [], ◌∷◌, ◌++◌, length, Option, Some, None, refl, sym, ap, ◌∙◌, subst, inl, inr, arith}
+use Rattle.std.proofs.Common.{◌≡◌, ℕ, ◌+◌, ◌≤◌, List, [], ◌∷◌, ◌++◌, length, Option, Some, None, refl, sym, ap, ◌∙◌, subst, inl, inr, arith}
 use Rattle.std.specs.Prelude.{◌⊎◌}
-use Rattle.std.specs.List.{AllByRecursion, sum_by}
+use Rattle.std.specs.List.{AllByRecursion}
 use Rattle.std.specs.Io.KnownBytes.{Appends}
 use Rattle.std.proofs.lemmas.List.Sums.{sum_by-append, sum_by-cons}
 use Rattle.dj_edge.specs.Held.{File, Held}
@@ -12,11 +12,10 @@ use Rattle.dj_report.specs.declared.report.Violation.{Violation}
 use Rattle.dj_report.specs.Text.{report_text, report_status}
 use Rattle.dj_report.proofs.InOrder.{same_violations}
 use Rattle.djvm_cli.specs.Job.{Job, Check, job_of}
-use Rattle.djvm_cli.specs.Limits.{most_files, most_file_bytes, most_total_bytes, total_bytes, AreWithin, IsFirstPast, IsTooLong, IsTooMuch}
-use Rattle.djvm_cli.specs.Report.{AreJudged, IsBuilt, IsFirstUnbuilt, IsReportOf, IsJobReport, IsReport, files_within}
+use Rattle.djvm_cli.specs.Limits.{most_file_bytes, most_total_bytes, total_bytes, AreWithin, IsFirstPast, IsTooLong, IsTooMuch}
+use Rattle.djvm_cli.specs.Report.{IsBuilt, IsFirstUnbuilt, IsReportOf, IsJobReport, files_within}
 use Rattle.djvm_cli.specs.Violations.{AreViolations}
-use Rattle.djvm_cli.specs.Ends.{Finished}
-use Rattle.djvm_cli.specs.OneReport.{HasOneReport, IsSameEnd, HasOneEnd}
+use Rattle.djvm_cli.specs.OneReport.{HasOneReport, HasOneEnd}
 
 -- ---- two places of one list
 

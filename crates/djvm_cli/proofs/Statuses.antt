@@ -1,5 +1,5 @@
 -- Each report's status is one of those that a call ends with.
-use Rattle.std.proofs.Common.{◌≡◌, ◌<◌, refl, lit<, Contains}
+use Rattle.std.proofs.Common.{refl, lit<, Contains}
 use Rattle.dj_report.specs.declared.report.Report.{Report}
 use Rattle.dj_report.specs.declared.report.Report.TheVariants as reports
 use Rattle.dj_report.specs.Text.{report_status}

@@ -1,7 +1,7 @@
 -- What the steps of a job leave and answer, where the store tells what it holds.
-use Rattle.std.specs.Prelude.{◌≡◌, ℕ, ◌<◌, ◌≤◌, ⊤, List, length, map, unwrap_or, [], Option, IfSome, Result, Ok, Err, string_bytes, vec_len, All, IsTrue}
+use Rattle.std.specs.Prelude.{◌≡◌, ℕ, ◌<◌, ◌≤◌, ⊤, List, length, map, unwrap_or, [], Result, Err, string_bytes, vec_len, All, IsTrue}
 use Rattle.dj_edge.specs.Held.{File, Held, bytes_at, class_files, is_class_path}
-use Rattle.dj_edge.specs.Counts.{Rose, GrowsByFront}
+use Rattle.dj_edge.specs.Counts.{Rose}
 use Rattle.djvm_cli.specs.declared.load.Stop.{Stop}
 use Rattle.djvm_cli.specs.declared.load.Stop.TheVariants as stops
 use Rattle.djvm_cli.specs.declared.load.Listing.{Listing}

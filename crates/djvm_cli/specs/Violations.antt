@@ -1,5 +1,5 @@
 -- The rules, each as a condition on a possible line of the report. A file is its path within the folder, with its bytes.
-use Rattle.std.specs.Prelude.{◌≡◌, ◌≢◌, ℕ, ◌<◌, ◌⊎◌, ◌↔◌, List, [], ◌++◌, Option, Some, None, Contains, codes, unwrap_or}
+use Rattle.std.specs.Prelude.{◌≡◌, ℕ, ◌<◌, ◌⊎◌, ◌↔◌, List, [], ◌++◌, Some, None, Contains, codes, unwrap_or}
 use Rattle.std.specs.List.{flat_map}
 use Rattle.std.specs.Int.{IsBitSet}
 use Rattle.std.specs.Str.{chars}

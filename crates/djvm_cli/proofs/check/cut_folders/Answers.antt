@@ -1,4 +1,4 @@
-use Rattle.std.proofs.Common.{◌≡◌, ◌∷◌, ◌++◌, [], map, ap, sym, ◌∙◌, arith, ◌<◌, length}
+use Rattle.std.proofs.Common.{◌∷◌, ◌++◌, [], map, ap, sym, ◌∙◌, arith, ◌<◌, length}
 use Rattle.std.proofs.lemmas.List.{length-map, map-append}
 use Rattle.djvm_cli.specs.Report.{within_folder}
 use Rattle.djvm_cli.specs.Views.{source_view, path_file_view}

@@ -1,4 +1,4 @@
-use Rattle.djvm_cli.proofs.Judging.{short_files, few_files}
+use Rattle.djvm_cli.proofs.Judging.{short_files}
 use Rattle.djvm_cli.proofs.check.judge.Goals as goal
 
 pub rules-requires : goal.rules-requires

@@ -1,4 +1,4 @@
-use Rattle.std.proofs.Common.{◌≡◌, ◌≤◌, length, arith}
+use Rattle.std.proofs.Common.{◌≤◌, length, arith}
 use Rattle.djvm_cli.proofs.Reporting.{paths_listed, few_listed, class_paths_listed, paths_held, limit_right, check_right, sources_class_paths}
 use Rattle.djvm_cli.proofs.djvm.report_on.Goals as goal
 

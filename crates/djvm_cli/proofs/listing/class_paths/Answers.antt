@@ -1,5 +1,5 @@
 use Rattle.std.proofs.lemmas.Grind.{common_steps}
-use Rattle.std.proofs.Common.{rules, ◌≡◌, ◌++◌, ℕ, List, IsTrue, All, codes, string_bytes, ◌∙◌}
+use Rattle.std.proofs.Common.{rules, ◌≡◌, ◌++◌, IsTrue, codes, string_bytes, ◌∙◌}
 use Rattle.std.proofs.lemmas.List.Elements.{All-push}
 use Rattle.dj_edge.specs.Held.{is_class_path}
 use Rattle.djvm_cli.proofs.EachOnce.{passes_from}

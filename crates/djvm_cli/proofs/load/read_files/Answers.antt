@@ -1,4 +1,4 @@
-use Rattle.std.proofs.Common.{◌≡◌, ◌+◌, ◌≤◌, length, string_bytes, ap, sym, ◌∙◌, arith}
+use Rattle.std.proofs.Common.{◌+◌, length, string_bytes, ap, ◌∙◌, arith}
 use Rattle.djvm_cli.proofs.Loading.{asked_more, asked_front, passed_told, read_told, read_paths, read_within}
 use Rattle.djvm_cli.proofs.load.read_files.Goals as goal
 
