@@ -67,3 +67,24 @@ impl<R: Clock + AllocGlobal + Drop> Host for ClockHost<R> {
         Ok(millis)
     }
 }
+
+#[cfg(test)]
+mod tests {
+    use super::*;
+    use std::test::Fail;
+
+    #[test]
+    fn real_clocks(rt: HostRuntime) -> Result<(), Fail> {
+        let mut host = ClockHost::new(&rt);
+        let first = host.nanos().ok().ok_or("a time")?;
+        let second = host.nanos().ok().ok_or("a time")?;
+        assert!(rt; 0 <= first && first <= second);
+        // 2026 begins 1,767,225,600,000 milliseconds after 1970.
+        let millis = host.millis().ok().ok_or("a time")?;
+        assert!(rt; millis > 1_767_225_600_000);
+        let word = host.hash_word().ok().ok_or("a word")?;
+        assert_eq!(rt; host.given.len(), 4);
+        assert_eq!(rt; host.given[3], HostAnswer::Word(word));
+        Ok(())
+    }
+}

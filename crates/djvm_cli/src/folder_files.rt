@@ -106,3 +106,34 @@ impl<R: System + AllocGlobal + Clone + Drop> Files for FolderFiles<R> {
         read
     }
 }
+
+#[cfg(test)]
+mod tests {
+    use super::*;
+    use std::test::Fail;
+    use std::{env, process};
+
+    #[test]
+    fn real_folder(rt: HostRuntime) -> Result<(), Fail> {
+        let alloc = rt.alloc();
+        let place = env::temp_dir(&rt)?;
+        let own = process::id(rt.process());
+        let folder = format!(in alloc; "{}/djvm_{own}", place.as_str())?;
+        let path = format!(in alloc; "{folder}/A.class")?;
+        fs::create_dir_all(&rt, folder.as_str())?;
+        fs::write(&rt, path.as_str(), "four")?;
+        let mut files = FolderFiles::new(&rt);
+        let paths = files.list(alloc, folder.as_str(), 1).ok().ok_or("a list")?;
+        assert_eq!(rt; paths.len(), 1);
+        let bytes = files.read(alloc, path.as_str(), 4).ok().ok_or("the bytes")?;
+        assert_eq!(rt; bytes.as_slice(), b"four".as_slice());
+        assert!(rt; matches!(files.read(alloc, path.as_str(), 3), Err(ReadError::TooLong)));
+        fs::remove_file(&rt, path.as_str())?;
+        assert!(rt; matches!(files.read(alloc, path.as_str(), 4), Err(ReadError::Failed)));
+        assert!(rt; matches!(files.list(alloc, path.as_str(), 1), Err(ListError::Failed)));
+        assert_eq!(rt; files.faults, 2);
+        assert_eq!(rt; files.asked.len(), 5);
+        fs::remove_dir(&rt, folder.as_str())?;
+        Ok(())
+    }
+}

@@ -34,3 +34,18 @@ impl<R: Print + Drop> Sink for OutSink<R> {
         }
     }
 }
+
+#[cfg(test)]
+mod tests {
+    use super::*;
+    use std::test::Fail;
+
+    #[test]
+    fn real_output(rt: HostRuntime) -> Result<(), Fail> {
+        let mut sink = OutSink::new(&rt);
+        let taken = sink.write(b"out\n").ok().ok_or("a write")?;
+        assert!(rt; taken >= 1 && taken <= 4);
+        assert_eq!(rt; sink.faults, 0);
+        Ok(())
+    }
+}

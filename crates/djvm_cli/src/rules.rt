@@ -9,7 +9,7 @@ mod lines;
 mod members;
 mod named;
 #[cfg(test)]
-mod tests;
+pub mod tests;
 mod whole;
 
 use dj_class::{ClassError, read_class};

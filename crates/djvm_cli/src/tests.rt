@@ -1,4 +1,7 @@
+ghost use Rattle.std.specs.Prelude.{◌<◌};
+
 use crate::djvm::djvm;
+use crate::rules::tests::NATIVE;
 use dj_edge::{MemFiles, MemHost, MemSink, Order, paths_differ};
 use std::alloc::{AllocError, Global};
 use std::process::Abort;
@@ -75,60 +78,137 @@ fn words_of_no_job(rt: HostRuntime) -> Result<(), Fail> {
     Ok(())
 }
 
+// What `check` of the folder writes over these files, and its status.
+#[derive(Clone, Copy)]
+struct Wanted<'a> {
+    status: u8,
+    text: &'a [u8],
+}
+
+fn checks<R: Abort>(
+    rt: &R,
+    alloc: Global,
+    files: &[(&str, &[u8])],
+    order: Order,
+    failing: u64,
+    wanted: &Wanted<'_>,
+) -> Result<(), AllocError> {
+    let case = Case {
+        words: &["check", "c/"],
+        files,
+        order,
+        failing,
+        room: 999,
+    };
+    let (status, text) = end_of(rt, alloc, &case)?;
+    assert_eq!(rt; status, wanted.status);
+    assert_eq!(rt; text.as_slice(), wanted.text);
+    Ok(())
+}
+
+fn changed(alloc: Global, at: usize, byte: u8) -> Result<Vec<u8>, AllocError>
+    requires { at < 106 }
+{
+    let mut bytes = A;
+    bytes[at] = byte;
+    Vec::from_slice(alloc, &bytes)
+}
+
 #[test]
-fn folders(rt: HostRuntime) -> Result<(), Fail> {
+fn one_file(rt: HostRuntime) -> Result<(), Fail> {
+    let alloc = rt.alloc();
+    let accepted = Wanted {
+        status: 0,
+        text: b"ACCEPTED 1\n",
+    };
+    checks(
+        &rt,
+        alloc,
+        &[("A.class", &A), ("c/A.class", &A)],
+        Order::Given,
+        NO_CALL,
+        &accepted,
+    )?;
+    let none = Wanted {
+        status: 0,
+        text: b"ACCEPTED 0\n",
+    };
+    checks(&rt, alloc, &[("A.class", &A)], Order::Given, NO_CALL, &none)?;
+    let version = Wanted {
+        status: 2,
+        text: b"REJECTED 1\nA.class - - 2 VERSION\n",
+    };
+    checks(
+        &rt,
+        alloc,
+        &[("c/A.class", &changed(alloc, 7, 0x35)?)],
+        Order::Given,
+        NO_CALL,
+        &version,
+    )?;
+    let name = Wanted {
+        status: 2,
+        text: b"REJECTED 1\nB.class - - 3 NAME\n",
+    };
+    checks(
+        &rt,
+        alloc,
+        &[("c/B.class", &A)],
+        Order::Given,
+        NO_CALL,
+        &name,
+    )?;
+    let later = Wanted {
+        status: 75,
+        text: b"LATER A.class\n",
+    };
+    checks(
+        &rt,
+        alloc,
+        &[("c/A.class", &changed(alloc, 10, 3)?)],
+        Order::Given,
+        NO_CALL,
+        &later,
+    )?;
+    Ok(())
+}
+
+#[test]
+fn two_files(rt: HostRuntime) -> Result<(), Fail> {
+    let alloc = rt.alloc();
+    let wanted = Wanted {
+        status: 2,
+        text: b"REJECTED 3\nA.class - - 1 MALFORMED\nB.class finalize()V - 8 FINALIZER\nB.class n()V - 7 NATIVE\n",
+    };
+    let files: [(&str, &[u8]); 2] = [("c/B.class", NATIVE), ("c/A.class", &A[..105])];
+    checks(&rt, alloc, &files, Order::Given, NO_CALL, &wanted)?;
+    checks(&rt, alloc, &files, Order::Reversed, NO_CALL, &wanted)?;
+    let fault = Wanted {
+        status: 65,
+        text: b"",
+    };
+    for call in 0..3u64 {
+        checks(&rt, alloc, &files, Order::Given, call, &fault)?;
+    }
+    Ok(())
+}
+
+#[test]
+fn too_long(rt: HostRuntime) -> Result<(), Fail> {
     let alloc = rt.alloc();
     let long = vec![in alloc; 0u8; 4_194_305]?;
-    let one: [(&str, &[u8]); 2] = [("c/A.class", &A), ("A.class", &A)];
-    let two: [(&str, &[u8]); 2] = [("c/b/A.class", &A), ("c/A.class", &A)];
-    let longer: [(&str, &[u8]); 2] = [("c/A.class", &A), ("c/B.class", &long)];
-    let rows: [(&str, &[(&str, &[u8])], Order, u64, u8, &[u8]); 9] = [
-        ("c", &[], Order::Given, NO_CALL, 0, b"ACCEPTED 0\n"),
-        ("c", &one, Order::Given, NO_CALL, 0, b"ACCEPTED 1\n"),
-        ("c/", &one, Order::Reversed, NO_CALL, 0, b"ACCEPTED 1\n"),
-        (
-            "c",
-            &two,
-            Order::Given,
-            NO_CALL,
-            2,
-            b"REJECTED 1\nb/A.class - - 3 NAME\n",
-        ),
-        (
-            "c",
-            &two,
-            Order::Reversed,
-            NO_CALL,
-            2,
-            b"REJECTED 1\nb/A.class - - 3 NAME\n",
-        ),
-        (
-            "c",
-            &longer,
-            Order::Given,
-            NO_CALL,
-            7,
-            b"LIMIT file 4194304\n",
-        ),
-        ("c", &two, Order::Given, 0, 65, b""),
-        ("c", &two, Order::Given, 1, 65, b""),
-        ("c", &two, Order::Given, 2, 65, b""),
-    ];
-    for (folder, files, order, failing, wanted, lines) in rows {
-        let (status, text) = end_of(
-            &rt,
-            alloc,
-            &Case {
-                words: &["check", folder],
-                files,
-                order,
-                failing,
-                room: 99,
-            },
-        )?;
-        assert_eq!(rt; status, wanted);
-        assert_eq!(rt; text.as_slice(), lines);
-    }
+    let wanted = Wanted {
+        status: 7,
+        text: b"LIMIT file 4194304\n",
+    };
+    checks(
+        &rt,
+        alloc,
+        &[("c/B.class", &long), ("c/A.class", &A)],
+        Order::Given,
+        NO_CALL,
+        &wanted,
+    )?;
     Ok(())
 }
 

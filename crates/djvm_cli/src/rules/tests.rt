@@ -11,7 +11,7 @@ const CUT_SHORT: &[u8] =
     \x0e\0\x01\0\x01\0\0\0\x02\x2a\xb0\0\0\0\0\0";
 
 // A class B with a native n()V, and a finalize()V with code.
-const NATIVE: &[u8] =
+pub const NATIVE: &[u8] =
     b"\xca\xfe\xba\xbe\0\0\04\0\x09\x01\0\x01B\x07\0\x01\x01\0\x10java/lang/Object\x07\0\x03\x01\0\x01n\
     \x01\0\x03()V\x01\0\x08finalize\x01\0\x04Code\0\x21\0\x02\0\x04\0\0\0\0\0\x02\x01\x01\0\x05\0\x06\0\
     \0\0\x01\0\x07\0\x06\0\x01\0\x08\0\0\0\x0d\0\0\0\x01\0\0\0\x01\xb1\0\0\0\0\0\0";
