@@ -1,5 +1,6 @@
 -- How a call of the program ends.
-use Rattle.std.specs.Prelude.{◌≡◌, ℕ, List, [], ◌∷◌, Option, IfSome, ◌⊎◌}
+use Rattle.std.specs.Prelude.{◌≡◌, ℕ, List, [], ◌∷◌, Option, IfSome, ◌⊎◌, IsTrue, nat_eq}
+use Rattle.std.specs.List.{list_any}
 use Rattle.std.specs.Io.KnownBytes.{Appends}
 use Rattle.dj_edge.specs.Held.{Held}
 use Rattle.dj_edge.specs.Counts.{Rose, IsFront, GrowsByFront}
@@ -57,6 +58,9 @@ OutOfMemory words held old new = Broken words held old new ⊎ Appends old new [
 -- every status that a call ends with
 abbrev pub statuses : List ℕ
 statuses = 0 ∷ 2 ∷ 7 ∷ 64 ∷ 65 ∷ 66 ∷ 67 ∷ 75 ∷ []
+
+abbrev pub IsStatus : ℕ → Type 0
+IsStatus status = IsTrue (list_any (nat_eq status) statuses)
 
 -- the store was asked what the words ask of it, up to some place
 abbrev pub AsksInOrder : List (List ℕ) → Option Held → List (List ℕ) → List (List ℕ) → Type 0

@@ -14,7 +14,9 @@ pub struct ClockHost<R: Clock + AllocGlobal + Drop> {
 
 impl<R: Clock + AllocGlobal + Drop> ClockHost<R> {
     /// The system's clocks, of which nothing was asked.
-    pub fn new(rt: R) -> ClockHost<R> {
+    pub fn new(rt: R) -> ClockHost<R>
+        ensures { ⟦<ClockHost<R> as Host>⟧.given result ≡ [] }
+    {
         let made = Instant::now(&rt).ok();
         let given = Vec::new(rt.alloc());
         ClockHost { rt, made, given }

@@ -1,10 +1,10 @@
-ghost use Rattle.std.specs.Prelude.{◌≡◌, ◌≢◌, ◌∷◌, List, map, Contains, IfOk, IfSome, string_bytes};
+ghost use Rattle.std.specs.Prelude.{◌≡◌, ◌≢◌, ◌∷◌, List, map, IfOk, IfSome, string_bytes};
 ghost use Rattle.std.specs.Io.KnownBytes.{Appends};
 ghost use Rattle.dj_edge.specs.Held.{class_files};
 ghost use Rattle.dj_edge.specs.Counts.{Rose, GrowsByFront};
 ghost use Rattle.dj_report.specs.Text.{report_text, report_status};
 ghost use Rattle.djvm_cli.specs.Report.{IsReportOf, files_within};
-ghost use Rattle.djvm_cli.specs.Ends.{statuses, read_fault, write_fault, no_memory, IsRight, Finished, ReadFault, WriteFault, OutOfMemory, AsksInOrder, WritesFront};
+ghost use Rattle.djvm_cli.specs.Ends.{IsStatus, read_fault, write_fault, no_memory, IsRight, Finished, ReadFault, WriteFault, OutOfMemory, AsksInOrder, WritesFront};
 ghost use Rattle.djvm_cli.specs.Steps.{Counted};
 
 use crate::check::check;
@@ -54,7 +54,7 @@ fn report_of<F: Files>(alloc: Global, words: &[String], files: &mut F) -> Result
 
 /// Writes the report and answers the status.
 fn write_report<S: Sink>(alloc: Global, report: &Report, sink: &mut S) -> u8
-    ensures statuses { Contains statuses result }
+    ensures statuses { IsStatus result }
     ensures finished { result ≢ write_fault → result ≢ no_memory → Appends (S.written sink.old) (S.written sink.new) (report_text report.now) }
     ensures status { result ≢ write_fault → result ≢ no_memory → result ≡ report_status report.now }
     ensures no_read_fault { result ≢ read_fault }
@@ -80,7 +80,7 @@ pub fn djvm<F: Files, H: Host, S: Sink>(
     host: &mut H,
     sink: &mut S,
 ) -> u8
-    ensures statuses { Contains statuses result }
+    ensures statuses { IsStatus result }
 
     // The right report is written, and the status is its; else the store failed, the sink failed, or there was no memory.
     ensures finished { result ≢ read_fault → result ≢ write_fault → result ≢ no_memory

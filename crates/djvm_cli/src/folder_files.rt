@@ -2,7 +2,7 @@ ghost use Rattle.std.specs.Prelude.{◌≡◌, [], ◌∷◌, ◌++◌, None, If
 ghost use Rattle.dj_edge.specs.Calls.{IsListing, ReadTells};
 
 use crate::listing::listing_of;
-use crate::walk::{files_below, list_error};
+use crate::walk::files_below;
 use dj_edge::{Files, ListError, ReadError};
 use std::alloc::{AllocError, Global};
 use std::io::Read;
@@ -55,7 +55,10 @@ fn list_folder<R: System + AllocGlobal + Clone + Drop>(
 
 impl<R: System + AllocGlobal + Clone + Drop> FolderFiles<R> {
     /// The files of the system, of which nothing was asked.
-    pub fn new(rt: R) -> FolderFiles<R> {
+    pub fn new(rt: R) -> FolderFiles<R>
+        ensures faults { ⟦<FolderFiles<R> as Files>⟧.faults result ≡ 0 }
+        ensures asked { ⟦<FolderFiles<R> as Files>⟧.asked result ≡ [] }
+    {
         let asked = Vec::new(rt.alloc());
         FolderFiles {
             rt,

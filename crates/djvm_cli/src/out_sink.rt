@@ -1,4 +1,4 @@
-ghost use Rattle.std.specs.Prelude.{None};
+ghost use Rattle.std.specs.Prelude.{◌≡◌, None};
 
 use dj_edge::{Sink, SinkError};
 use std::io;
@@ -13,7 +13,9 @@ pub struct OutSink<R: Print + Drop> {
 
 impl<R: Print + Drop> OutSink<R> {
     /// Standard output, of which no write failed.
-    pub fn new(rt: R) -> OutSink<R> {
+    pub fn new(rt: R) -> OutSink<R>
+        ensures { ⟦<OutSink<R> as Sink>⟧.faults result ≡ 0 }
+    {
         OutSink { rt, faults: 0 }
     }
 }

@@ -1,4 +1,8 @@
+ghost use Rattle.std.specs.Prelude.{◌≡◌, ◌↔◌};
+ghost use Rattle.std.specs.IoError.{error_kind};
+
 use dj_edge::ListError;
+use std::io::ErrorKind;
 use std::rt::Files as System;
 use std::{fs, io};
 
@@ -23,8 +27,11 @@ struct Walk {
     entries: u32,
 }
 
-pub fn list_error(error: io::Error) -> ListError {
-    if error.kind() == io::ErrorKind::OutOfMemory {
+/// Why a listing failed, by the system's error.
+fn list_error(error: io::Error) -> ListError
+    ensures { (result ≡ ListError.Memory) ↔ (error_kind error ≡ ErrorKind.OutOfMemory) }
+{
+    if error.kind() == ErrorKind::OutOfMemory {
         ListError::Memory
     } else {
         ListError::Failed
