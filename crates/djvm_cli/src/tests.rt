@@ -114,35 +114,28 @@ fn changed(alloc: Global, at: usize, byte: u8) -> Result<Vec<u8>, AllocError>
     Vec::from_slice(alloc, &bytes)
 }
 
-#[test]
-fn one_file(rt: HostRuntime) -> Result<(), Fail> {
-    let alloc = rt.alloc();
+fn one_file_in<R: Abort>(rt: &R, alloc: Global, order: Order) -> Result<(), AllocError> {
     let accepted = Wanted {
         status: 0,
         text: b"ACCEPTED 1\n",
     };
-    checks(
-        &rt,
-        alloc,
-        &[("A.class", &A), ("c/A.class", &A)],
-        Order::Given,
-        NO_CALL,
-        &accepted,
-    )?;
+    let files: [(&str, &[u8]); 2] = [("A.class", &A), ("c/A.class", &A)];
+    checks(rt, alloc, &files, order, NO_CALL, &accepted)?;
     let none = Wanted {
         status: 0,
         text: b"ACCEPTED 0\n",
     };
-    checks(&rt, alloc, &[("A.class", &A)], Order::Given, NO_CALL, &none)?;
+    checks(rt, alloc, &files[..1], order, NO_CALL, &none)?;
     let version = Wanted {
         status: 2,
         text: b"REJECTED 1\nA.class - - 2 VERSION\n",
     };
+    let newer = changed(alloc, 7, 0x35)?;
     checks(
-        &rt,
+        rt,
         alloc,
-        &[("c/A.class", &changed(alloc, 7, 0x35)?)],
-        Order::Given,
+        &[("c/A.class", &newer)],
+        order,
         NO_CALL,
         &version,
     )?;
@@ -150,26 +143,27 @@ fn one_file(rt: HostRuntime) -> Result<(), Fail> {
         status: 2,
         text: b"REJECTED 1\nB.class - - 3 NAME\n",
     };
-    checks(
-        &rt,
-        alloc,
-        &[("c/B.class", &A)],
-        Order::Given,
-        NO_CALL,
-        &name,
-    )?;
+    checks(rt, alloc, &[("c/B.class", &A)], order, NO_CALL, &name)?;
     let later = Wanted {
         status: 75,
         text: b"LATER A.class\n",
     };
+    let integer = changed(alloc, 10, 3)?;
     checks(
-        &rt,
+        rt,
         alloc,
-        &[("c/A.class", &changed(alloc, 10, 3)?)],
-        Order::Given,
+        &[("c/A.class", &integer)],
+        order,
         NO_CALL,
         &later,
-    )?;
+    )
+}
+
+#[test]
+fn one_file(rt: HostRuntime) -> Result<(), Fail> {
+    for order in [Order::Given, Order::Reversed] {
+        one_file_in(&rt, rt.alloc(), order)?;
+    }
     Ok(())
 }
 
