@@ -1,11 +1,12 @@
 -- How a call of the program ends.
-use Rattle.std.specs.Prelude.{◌≡◌, ℕ, List, [], ◌∷◌, Option, IfSome, ◌⊎◌, IsTrue, nat_eq}
+use Rattle.std.specs.Prelude.{◌≡◌, ℕ, List, [], ◌∷◌, Option, IfSome, ◌⊎◌, IsTrue, nat_eq, ◌↔◌, None}
 use Rattle.std.specs.List.{list_any}
 use Rattle.std.specs.Io.KnownBytes.{Appends}
 use Rattle.dj_edge.specs.Held.{Held}
 use Rattle.dj_edge.specs.Counts.{Rose, IsFront, GrowsByFront}
 use Rattle.dj_report.specs.declared.report.Report.{Report}
 use Rattle.dj_report.specs.Text.{report_text, report_status}
+use Rattle.djvm_cli.specs.Job.{job_of}
 use Rattle.djvm_cli.specs.Report.{IsReport, asks}
 
 -- the store failed, the sink failed, there was no memory
@@ -61,6 +62,10 @@ statuses = 0 ∷ 2 ∷ 7 ∷ 64 ∷ 65 ∷ 66 ∷ 67 ∷ 75 ∷ []
 
 abbrev pub IsStatus : ℕ → Type 0
 IsStatus status = IsTrue (list_any (nat_eq status) statuses)
+
+-- the status is that of USAGE exactly where the words give no job
+abbrev pub TellsUsage : List (List ℕ) → ℕ → Type 0
+TellsUsage words status = (status ≡ 64) ↔ (job_of words ≡ None)
 
 -- the store was asked what the words ask of it, up to some place
 abbrev pub AsksInOrder : List (List ℕ) → Option Held → List (List ℕ) → List (List ℕ) → Type 0

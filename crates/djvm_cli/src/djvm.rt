@@ -4,7 +4,7 @@ ghost use Rattle.dj_edge.specs.Held.{class_files};
 ghost use Rattle.dj_edge.specs.Counts.{Rose, GrowsByFront};
 ghost use Rattle.dj_report.specs.Text.{report_text, report_status};
 ghost use Rattle.djvm_cli.specs.Report.{IsReportOf, files_within};
-ghost use Rattle.djvm_cli.specs.Ends.{IsStatus, read_fault, write_fault, no_memory, IsRight, Finished, ReadFault, WriteFault, OutOfMemory, AsksInOrder, WritesFront};
+ghost use Rattle.djvm_cli.specs.Ends.{IsStatus, read_fault, write_fault, no_memory, IsRight, Finished, ReadFault, WriteFault, OutOfMemory, AsksInOrder, WritesFront, TellsUsage};
 ghost use Rattle.djvm_cli.specs.Steps.{Counted};
 
 use crate::check::check;
@@ -22,6 +22,7 @@ fn report_on<F: Files>(alloc: Global, folder: &str, files: &mut F) -> Result<Rep
     ensures asks { IfSome (F.held files.old) (λ h.
         GrowsByFront (F.asked files.old) (F.asked files.new) (folder.now ∷ map (λ file. file.0) (class_files folder.now h))) }
     ensures right { IfOk result (λ report. IfSome (F.held files.old) (λ h. IsReportOf (files_within folder.now h) report)) }
+    ensures job { IfOk result (λ report. report_status report ≢ 64) }
 {
     let paths = match list_paths(alloc, files, folder) {
         Ok(Listing::Paths(paths)) => paths,
@@ -45,6 +46,7 @@ fn report_of<F: Files>(alloc: Global, words: &[String], files: &mut F) -> Result
     ensures counts { Counted (F.faults files.old) (F.faults files.new) result }
     ensures asks { AsksInOrder (map string_bytes words.now) (F.held files.old) (F.asked files.old) (F.asked files.new) }
     ensures right { IfOk result (IsRight (map string_bytes words.now) (F.held files.old)) }
+    ensures usage { IfOk result (λ report. TellsUsage (map string_bytes words.now) (report_status report)) }
 {
     match command_of(words) {
         Some(Command::Check { folder }) => report_on(alloc, folder, files),
@@ -85,6 +87,8 @@ pub fn djvm<F: Files, H: Host, S: Sink>(
     // The right report is written, and the status is its; else the store failed, the sink failed, or there was no memory.
     ensures finished { result ≢ read_fault → result ≢ write_fault → result ≢ no_memory
         → Finished (map string_bytes words.now) (F.held files.old) result (S.written sink.old) (S.written sink.new) }
+    ensures usage { result ≢ read_fault → result ≢ write_fault → result ≢ no_memory
+        → TellsUsage (map string_bytes words.now) result }
     ensures read_fault { result ≡ read_fault
         → ReadFault (F.faults files.old) (F.faults files.new) (S.written sink.old) (S.written sink.new) }
     ensures write_fault { result ≡ write_fault
