@@ -2,26 +2,33 @@ ghost use Rattle.std.specs.Prelude.{◌≡◌, ℕ, List, Option, Result, IfOk, 
 ghost use Rattle.dj_edge.specs.Held.{Held};
 
 use std::alloc::Global;
+use thiserror::Error;
 
 /// Why a folder was not listed.
-#[derive(Clone, Copy, Debug, PartialEq, Eq)]
+#[derive(Clone, Copy, Debug, PartialEq, Eq, Error)]
 pub enum ListError {
     /// The store failed.
+    #[error("the folder was not listed")]
     Failed,
     /// There was no memory.
+    #[error("out of memory")]
     Memory,
 }
 
 /// Why a file was not read.
-#[derive(Clone, Copy, Debug, PartialEq, Eq)]
+#[derive(Clone, Copy, Debug, PartialEq, Eq, Error)]
 pub enum ReadError {
     /// The store failed.
+    #[error("the file was not read")]
     Failed,
     /// The store has no such path.
+    #[error("there is no such file")]
     Absent,
     /// There are more bytes than were asked for.
+    #[error("the file is too long")]
     TooLong,
     /// There was no memory.
+    #[error("out of memory")]
     Memory,
 }
 

@@ -2,6 +2,8 @@ ghost use Rattle.std.specs.Prelude.{List};
 ghost use Rattle.dj_edge.specs.declared.host.HostAnswer.{HostAnswer};
 ghost use Rattle.dj_edge.specs.declared.host.HostAnswer.TheVariants.{Word, Nanos, Millis};
 
+use thiserror::Error;
+
 /// What a host answered.
 #[derive(Clone, Copy, Debug, PartialEq, Eq)]
 pub enum HostAnswer {
@@ -14,9 +16,10 @@ pub enum HostAnswer {
 }
 
 /// Why a host gave no answer.
-#[derive(Clone, Copy, Debug, PartialEq, Eq)]
+#[derive(Clone, Copy, Debug, PartialEq, Eq, Error)]
 pub enum HostError {
     /// There was no memory.
+    #[error("out of memory")]
     Memory,
 }
 

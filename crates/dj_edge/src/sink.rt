@@ -1,12 +1,16 @@
 ghost use Rattle.std.specs.Prelude.{ℕ, ◌<◌, List, Option, length};
 ghost use Rattle.dj_edge.specs.Calls.{Writes, Puts, WriteCounts};
 
+use thiserror::Error;
+
 /// Why bytes were not written.
-#[derive(Clone, Copy, Debug, PartialEq, Eq)]
+#[derive(Clone, Copy, Debug, PartialEq, Eq, Error)]
 pub enum SinkError {
     /// The sink failed.
+    #[error("the bytes were not written")]
     Failed,
     /// There was no memory.
+    #[error("out of memory")]
     Memory,
 }
 

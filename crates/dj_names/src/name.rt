@@ -58,8 +58,9 @@ pub fn is_class_name(text: &[u8]) -> bool
     names_class(text)
 }
 
+/// Whether the text is a class name, by one pass over its bytes.
 #[tactic(auto, unfolding(crate::specs::NameReading::reads_class_name))]
-pub fn names_class(text: &[u8]) -> bool
+pub(crate) fn names_class(text: &[u8]) -> bool
     ensures { result ≡ reads_class_name true text.now }
 {
     let mut fresh = true;

@@ -8,11 +8,14 @@ use crate::lists::{Name, NoMemory};
 use crate::measure::type_slots_of;
 use crate::walk::{Element, type_at};
 use std::alloc::Global;
+use thiserror::Error;
 
 /// Why a descriptor was not read.
-#[derive(Clone, Copy, Debug, PartialEq, Eq)]
+#[derive(Clone, Copy, Debug, PartialEq, Eq, Error)]
 pub enum DescError {
+    #[error("the text is no descriptor")]
     NotADescriptor,
+    #[error("out of memory")]
     Memory,
 }
 

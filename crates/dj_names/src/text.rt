@@ -5,12 +5,15 @@ ghost use Rattle.dj_names.specs.Tests.{modified_utf8_test};
 use crate::lists::{NoMemory, Units};
 use crate::unit::unit_at;
 use std::alloc::Global;
+use thiserror::Error;
 
 /// Why a text has no units.
-#[derive(Clone, Copy, Debug, PartialEq, Eq)]
+#[derive(Clone, Copy, Debug, PartialEq, Eq, Error)]
 pub enum TextError {
     /// At this place bytes begin that spell no unit.
+    #[error("byte {0} is no modified UTF-8")]
     NotModifiedUtf8(u32),
+    #[error("out of memory")]
     Memory,
 }
 

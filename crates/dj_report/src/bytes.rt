@@ -5,11 +5,13 @@ use crate::put::put_report;
 use crate::report::Report;
 use dj_names::Bytes;
 use std::alloc::{AllocError, AllocFailed, Global};
+use thiserror::Error;
 
 /// Why a report has no bytes.
-#[derive(Clone, Copy, Debug, PartialEq, Eq)]
+#[derive(Clone, Copy, Debug, PartialEq, Eq, Error)]
 pub enum ReportError {
     /// There was no memory.
+    #[error("out of memory")]
     Memory,
 }
 

@@ -10,4 +10,4 @@ mod tests;
 
 pub use bytes::{ReportError, bytes_of, status_of};
 pub use order::{compare, in_order};
-pub use report::{Limit, PathFile, Report, Violation, Violations};
+pub use report::{Limit, NoMemory, PathFile, Report, Violation, Violations};

@@ -1,8 +1,16 @@
 ghost use Rattle.std.specs.Prelude.{◌≡◌, [], ◌∷◌, ◌++◌, OnOk, OnErr};
 
-use dj_names::{Name, NoMemory};
+use dj_names::Name;
 use std::alloc::Global;
 use std::marker::Model;
+use thiserror::Error;
+
+/// There was no memory.
+#[derive(Clone, Copy, Debug, PartialEq, Eq, Error)]
+pub enum NoMemory {
+    #[error("out of memory")]
+    Memory,
+}
 
 /// A limit on what is read.
 #[derive(Clone, Copy, Debug, PartialEq, Eq)]

@@ -18,12 +18,14 @@ use dj_report::{PathFile, Violation, Violations, in_order};
 use faults::is_memory;
 use lines::add_file_line;
 use std::alloc::{AllocError, AllocFailed, Global};
+use thiserror::Error;
 use whole::add_class_lines;
 
 /// Why files were not judged.
-#[derive(Clone, Copy, Debug, PartialEq, Eq)]
+#[derive(Clone, Copy, Debug, PartialEq, Eq, Error)]
 pub enum RulesError {
     /// There was no memory.
+    #[error("out of memory")]
     Memory,
 }
 
