@@ -37,17 +37,17 @@ tag_is tag h = subst IsUnbuiltTag h.2 (All-from_recursion IsUnbuiltTag unbuilt_t
 -- ---- where a pool stops
 
 -- after so many constants at most, all of them whole, stands the tag of one that is not read yet
-record Stops (n : ℕ) (c : Cursor) (place : ℕ) : Type 0 where
-  front : List Constant
-  mid : Cursor
-  tag : ℕ
-  rest : List ℕ
-  spans : Spans c (flat_map constant_bytes front) mid
-  place_is : mid.place ≡ place
-  stands : mid.rest ≡ tag ∷ rest
-  within : length front < n
-  whole : AllByRecursion IsWhole front
-  unbuilt : Contains unbuilt_tags tag
+pub record Stops (n : ℕ) (c : Cursor) (place : ℕ) : Type 0 where
+  pub front : List Constant
+  pub mid : Cursor
+  pub tag : ℕ
+  pub rest : List ℕ
+  pub spans : Spans c (flat_map constant_bytes front) mid
+  pub place_is : mid.place ≡ place
+  pub stands : mid.rest ≡ tag ∷ rest
+  pub within : length front < n
+  pub whole : AllByRecursion IsWhole front
+  pub unbuilt : Contains unbuilt_tags tag
 
 -- an error of another kind, if any
 record Never {A E : Type 0} (Bad : E → Type 0) (r : Result A E) : Type 0 where
@@ -135,19 +135,19 @@ constants_stop d (suc n) index c place fits e =
     (λ others r e. absurd cc))
 
 -- the count, and then the constants
-record PoolStops (c : Cursor) (place : ℕ) : Type 0 where
-  count : ℕ
-  count_fits : count < 2 ^ 16
-  next : Cursor
-  count_spans : Spans c (u2 count) next
-  some : 0 < count
-  stops : Stops (count - 1) next place
+pub record PoolStops (c : Cursor) (place : ℕ) : Type 0 where
+  pub count : ℕ
+  pub count_fits : count < 2 ^ 16
+  pub next : Cursor
+  pub count_spans : Spans c (u2 count) next
+  pub some : 0 < count
+  pub stops : Stops (count - 1) next place
 
 linked_stops : (d : TestsDecide) (n : ℕ) (c : Cursor) (place : ℕ) → IsBytes c.rest → linked_constants_at n c ≡ Err (pool_errors.Unbuilt place) → Stops n c place
 unfolding linked_constants_at
 linked_stops d n c place fits e = bind_err e (constants_stop d n 1 c place fits) (λ pool r e. absurd ((linked_never _ _).never _ e tt))
 
-pool_stops : (d : TestsDecide) (c : Cursor) (place : ℕ) → IsBytes c.rest → pool_at c ≡ Err (pool_errors.Unbuilt place) → PoolStops c place
+pub pool_stops : (d : TestsDecide) (c : Cursor) (place : ℕ) → IsBytes c.rest → pool_at c ≡ Err (pool_errors.Unbuilt place) → PoolStops c place
 unfolding pool_at
 pool_stops d c place fits e =
     bind_err e (λ r. absurd ((cut_never _).never _ r tt)) (λ count r e.
@@ -177,7 +177,7 @@ constants_halt d (suc n) index c mid (k ∷ front) tag rest within whole s stand
     let first = step_again (constant_reads d index) c k (flat_map constant_bytes front) mid whole.0 s in
     bind_again _ first.1 (bind_fails _ (constants_halt d n (index + 1) first.0 mid front tag rest (omega (arith, within)) whole.1 first.2 stands unbuilt))
 
-pool_halts : (d : TestsDecide) (c mid : Cursor) (count : ℕ) (front : List Constant) (tag : ℕ) (rest : List ℕ)
+pub pool_halts : (d : TestsDecide) (c mid : Cursor) (count : ℕ) (front : List Constant) (tag : ℕ) (rest : List ℕ)
     → count < 2 ^ 16 → length front + 1 < count → AllByRecursion IsWhole front → Spans c (u2 count ++ flat_map constant_bytes front) mid → mid.rest ≡ tag ∷ rest → Contains unbuilt_tags tag → pool_at c ≡ Err (pool_errors.Unbuilt mid.place)
 unfolding pool_at linked_constants_at
 pool_halts d c mid count front tag rest fits within whole s stands unbuilt =

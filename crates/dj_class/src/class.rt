@@ -15,21 +15,28 @@ use dj_names::{
     is_class_name, is_field_descriptor, is_method_descriptor, is_method_name, is_unqualified_name,
 };
 use std::alloc::{AllocError, AllocFailed, Global};
+use thiserror::Error;
 
 /// Why a class file was not read. A place is an offset in the file.
-#[derive(Clone, Copy, Debug, PartialEq, Eq)]
+#[derive(Clone, Copy, Debug, PartialEq, Eq, Error)]
 pub enum ClassError {
     /// The file does not begin with CA FE BA BE.
+    #[error("the file does not begin with CA FE BA BE")]
     Magic,
     /// The item at this place does not fit into the file.
+    #[error("the item at {0} does not fit into the file")]
     Cut(u32),
     /// The constant pool was not read.
+    #[error("the constant pool was not read: {0}")]
     Pool(PoolError),
     /// The index at this place names no constant that its place asks for.
+    #[error("the index at {0} names no constant that its place asks for")]
     Index(u32),
     /// At this place begin bytes after the last item.
+    #[error("at {0} begin bytes after the last item")]
     Trailing(u32),
     /// There was no memory.
+    #[error("there was no memory")]
     Memory,
 }
 

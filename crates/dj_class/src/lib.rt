@@ -9,7 +9,7 @@ mod pool;
 
 pub use class::{Attribute, ClassError, ClassView, MemberView, read_class};
 pub use laws::{no_class_where_unbuilt, one_class_file, one_unbuilt_place, valid_has_texts};
-pub use lists::{Attributes, Indexes, Members};
+pub use lists::{Attributes, Indexes, Members, NoMemory};
 pub use pool::{Entry, Pool, PoolError, read_pool};
 
 #[cfg(test)]

@@ -1,9 +1,38 @@
-ghost use Rattle.std.specs.Prelude.{◌≡◌, map};
+ghost use Rattle.std.specs.Prelude.{◌≡◌, [], ◌∷◌, ◌++◌, map, OnOk, OnErr};
 ghost use Rattle.dj_class.specs.Parts.{attribute_of};
 ghost use Rattle.dj_class.specs.Members.{member_of};
 
 use crate::class::{Attribute, MemberView};
+use std::alloc::{AllocError, AllocFailed, Global};
 use std::marker::Model;
+use thiserror::Error;
+
+/// There was no memory.
+#[derive(Clone, Copy, Debug, PartialEq, Eq, Error)]
+pub enum NoMemory {
+    #[error("there was no memory")]
+    Memory,
+}
+
+impl From<AllocError> for NoMemory {
+    ghost use Rattle.dj_class.specs.declared.lists.NoMemory.TheVariants.{Memory};
+
+    ghost from_gives = { λ _ e. e ≡ Memory };
+
+    fn from(_error: AllocError) -> NoMemory {
+        NoMemory::Memory
+    }
+}
+
+impl<T: Drop> From<AllocFailed<T>> for NoMemory {
+    ghost use Rattle.dj_class.specs.declared.lists.NoMemory.TheVariants.{Memory};
+
+    ghost from_gives = { λ _ e. e ≡ Memory };
+
+    fn from(_error: AllocFailed<T>) -> NoMemory {
+        NoMemory::Memory
+    }
+}
 
 /// The attributes of a file, a field or a method.
 #[derive(Debug, Drop)]
@@ -22,6 +51,26 @@ impl<'a> Model for Attributes<'a> {
 }
 
 impl<'a> Attributes<'a> {
+    /// No attributes.
+    pub fn new(alloc: Global) -> Attributes<'a>
+        ensures { result ≡ [] }
+    {
+        Attributes {
+            items: Vec::new(alloc),
+        }
+    }
+
+    /// Appends an attribute.
+    pub fn push(&mut self, item: Attribute<'a>) -> Result<(), NoMemory>
+        ensures ok { OnOk result (self.new ≡ self.old ++ attribute_of item.entry ∷ []) }
+        ensures err { OnErr result (self.new ≡ self.old) }
+    {
+        match self.items.push(item) {
+            Ok(()) => Ok(()),
+            Err(_) => Err(NoMemory::Memory),
+        }
+    }
+
     pub(crate) fn from_vec(items: Vec<Attribute<'a>>) -> Attributes<'a>
         ensures { result ≡ map attribute_of items.entry.items }
     {
@@ -53,6 +102,26 @@ impl<'a> Model for Members<'a> {
 }
 
 impl<'a> Members<'a> {
+    /// No members.
+    pub fn new(alloc: Global) -> Members<'a>
+        ensures { result ≡ [] }
+    {
+        Members {
+            items: Vec::new(alloc),
+        }
+    }
+
+    /// Appends a member.
+    pub fn push(&mut self, item: MemberView<'a>) -> Result<(), NoMemory>
+        ensures ok { OnOk result (self.new ≡ self.old ++ member_of item.entry ∷ []) }
+        ensures err { OnErr result (self.new ≡ self.old) }
+    {
+        match self.items.push(item) {
+            Ok(()) => Ok(()),
+            Err(_) => Err(NoMemory::Memory),
+        }
+    }
+
     pub(crate) fn from_vec(items: Vec<MemberView<'a>>) -> Members<'a>
         ensures { result ≡ map member_of items.entry.items }
     {
@@ -82,6 +151,26 @@ impl Model for Indexes {
 }
 
 impl Indexes {
+    /// No indexes.
+    pub fn new(alloc: Global) -> Indexes
+        ensures { result ≡ [] }
+    {
+        Indexes {
+            items: Vec::new(alloc),
+        }
+    }
+
+    /// Appends an index.
+    pub fn push(&mut self, item: u16) -> Result<(), NoMemory>
+        ensures ok { OnOk result (self.new ≡ self.old ++ item ∷ []) }
+        ensures err { OnErr result (self.new ≡ self.old) }
+    {
+        match self.items.push(item) {
+            Ok(()) => Ok(()),
+            Err(_) => Err(NoMemory::Memory),
+        }
+    }
+
     pub(crate) fn from_vec(items: Vec<u16>) -> Indexes
         ensures { result ≡ items.items }
     {

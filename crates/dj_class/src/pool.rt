@@ -12,6 +12,7 @@ use crate::cursor::{Cursor, Cut};
 use dj_names::{is_array_descriptor, is_class_name, is_modified_utf8};
 use std::alloc::{AllocError, AllocFailed, Global};
 use std::marker::Model;
+use thiserror::Error;
 
 /// A constant of the pool (JVMS 4.4), whose text is a part of the file.
 #[derive(Clone, Copy, Debug)]
@@ -23,19 +24,25 @@ pub enum Entry<'a> {
 }
 
 /// Why a pool was not read. A place is an offset in the file.
-#[derive(Clone, Copy, Debug, PartialEq, Eq)]
+#[derive(Clone, Copy, Debug, PartialEq, Eq, Error)]
 pub enum PoolError {
     /// The item at this place does not fit into the file.
+    #[error("the item at {0} does not fit into the file")]
     Cut(u32),
     /// The byte at this place is no tag, or the count at this place is 0.
+    #[error("the byte at {0} is no tag, or the count at {0} is 0")]
     Tag(u32),
     /// The constant of this index names none that its place asks for.
+    #[error("constant {0} names none that its place asks for")]
     Link(u16),
     /// The text of this index is not modified UTF-8.
+    #[error("text {0} is not modified UTF-8")]
     Text(u16),
     /// There was no memory.
+    #[error("there was no memory")]
     Memory,
     /// At this place begins a constant that is not read yet.
+    #[error("at {0} begins a constant that is not read yet")]
     Unbuilt(u32),
 }
 

@@ -207,6 +207,20 @@ fn too_long(rt: HostRuntime) -> Result<(), Fail> {
 }
 
 #[test]
+fn first_path_decides(rt: HostRuntime) -> Result<(), Fail> {
+    let alloc = rt.alloc();
+    let integer = changed(alloc, 10, 3)?;
+    let files: [(&str, &[u8]); 2] = [("c/B.class", &integer), ("c/A.class", &integer)];
+    let wanted = Wanted {
+        status: 75,
+        text: b"LATER A.class\n",
+    };
+    checks(&rt, alloc, &files, Order::Given, NO_CALL, &wanted)?;
+    checks(&rt, alloc, &files, Order::Reversed, NO_CALL, &wanted)?;
+    Ok(())
+}
+
+#[test]
 fn full_sinks(rt: HostRuntime) -> Result<(), Fail> {
     let whole = b"ACCEPTED 0\n";
     for room in 0..11u64 {
@@ -216,6 +230,28 @@ fn full_sinks(rt: HostRuntime) -> Result<(), Fail> {
             &Case {
                 words: &["check", "c"],
                 files: &[],
+                order: Order::Given,
+                failing: NO_CALL,
+                room,
+            },
+        )?;
+        assert_eq!(rt; status, 66);
+        assert!(rt; whole.starts_with(&text));
+        assert_eq!(rt; text.len() as u64, room);
+    }
+    Ok(())
+}
+
+#[test]
+fn full_sinks_of_lines(rt: HostRuntime) -> Result<(), Fail> {
+    let whole = b"REJECTED 2\nB.class finalize()V - 8 FINALIZER\nB.class n()V - 7 NATIVE\n";
+    for room in 0..69u64 {
+        let (status, text) = end_of(
+            &rt,
+            rt.alloc(),
+            &Case {
+                words: &["check", "c"],
+                files: &[("c/B.class", NATIVE)],
                 order: Order::Given,
                 failing: NO_CALL,
                 room,

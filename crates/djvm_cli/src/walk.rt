@@ -39,7 +39,7 @@ fn list_error(error: io::Error) -> ListError
 }
 
 impl Walk {
-    /// Takes one entry of a folder: a folder is walked later, and a file is found.
+    /// Takes one entry of a folder: a folder is walked later, and a class file is found.
     fn take<R: System + AllocGlobal>(
         &mut self,
         rt: &R,
@@ -53,16 +53,28 @@ impl Walk {
         let path = String::from_str(rt.alloc(), path).map_err(|_| ListError::Memory)?;
         let kind = fs::metadata(rt, path.as_str()).map_err(list_error)?;
         if kind.is_dir() {
-            if level >= MOST_LEVELS {
-                return Err(ListError::Failed);
-            }
-            let folder = Folder {
-                path,
-                level: level + 1,
-            };
-            return self.pending.push(folder).map_err(|_| ListError::Memory);
+            return self.put_off(path, level);
+        }
+        if !path.as_str().ends_with(".class") {
+            return Ok(());
+        }
+        // A pipe, a socket or a device is no file, and reading it may wait for ever.
+        if !kind.is_file() {
+            return Err(ListError::Failed);
         }
         self.found.push(path).map_err(|_| ListError::Memory)
+    }
+
+    /// Puts off a folder that was met in one of this level.
+    fn put_off(&mut self, path: String, level: u32) -> Result<(), ListError> {
+        if level >= MOST_LEVELS {
+            return Err(ListError::Failed);
+        }
+        let folder = Folder {
+            path,
+            level: level + 1,
+        };
+        self.pending.push(folder).map_err(|_| ListError::Memory)
     }
 
     /// Takes the entries of a folder.
@@ -79,7 +91,7 @@ impl Walk {
     }
 }
 
-/// The files in the folder or below it, which links may lead to, each path as it was met.
+/// The class files in the folder or below it, which links may lead to, each path as it was met.
 pub fn files_below<R: System + AllocGlobal + Clone + Drop>(
     rt: &R,
     folder: &str,
