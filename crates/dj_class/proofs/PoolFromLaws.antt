@@ -1,5 +1,5 @@
 -- A pool that is read where it stands is spelled there, and one that is spelled there is read.
-use Rattle.std.proofs.Common.{◌≡◌, ℕ, ◌+◌, List, ◌∷◌, ◌++◌, length, drop, Result, Ok, Err, refl, sym, ap, subst, ◌∙◌, arith}
+use Rattle.std.proofs.Common.{◌≡◌, ℕ, List, ◌∷◌, ◌++◌, drop, Result, Ok, Err, refl, sym, ap, subst, ◌∙◌, arith}
 use Rattle.std.specs.List.{flat_map}
 use Rattle.dj_class.specs.declared.pool.PoolError.{PoolError}
 use Rattle.dj_class.specs.declared.pool.PoolError.TheVariants as pool_errors

@@ -63,6 +63,29 @@ fn pool_of_class_a(rt: HostRuntime) -> Result<(), Fail> {
 }
 
 #[test]
+fn lists_grow(rt: HostRuntime) -> Result<(), Fail> {
+    let alloc = rt.alloc();
+    let mut attributes = Attributes::new(alloc);
+    attributes.push(Attribute {
+        name: 7,
+        body: b"\0\x01",
+    })?;
+    assert_eq!(rt; attributes.as_slice().len(), 1);
+    let mut members = Members::new(alloc);
+    members.push(MemberView {
+        flags: 9,
+        name: 5,
+        desc: 6,
+        attributes,
+    })?;
+    assert_eq!(rt; members.as_slice().len(), 1);
+    let mut indexes = Indexes::new(alloc);
+    indexes.push(2)?;
+    assert_eq!(rt; indexes.as_slice(), [2].as_slice());
+    Ok(())
+}
+
+#[test]
 fn refusals(rt: HostRuntime) -> Result<(), Fail> {
     let alloc = rt.alloc();
     assert_eq!(rt; read_class(alloc, &[]).err(), Some(ClassError::Cut(0)));

@@ -1,0 +1,5 @@
+pub mod Tables
+pub mod Laws
+pub mod Refusals
+pub mod Whole
+pub mod Examples

@@ -1,0 +1,110 @@
+ghost use Rattle.std.specs.Prelude.{◌≡◌, List, [], ◌∷◌, ◌++◌, OnOk, OnErr};
+
+use std::alloc::{AllocError, AllocFailed, Global};
+use std::marker::Model;
+
+/// There was no memory.
+#[derive(Clone, Copy, Debug, PartialEq, Eq)]
+pub enum NoMemory {
+    Memory,
+}
+
+impl From<AllocError> for NoMemory {
+    ghost use Rattle.dj_ops.specs.declared.lists.NoMemory.TheVariants.{Memory};
+
+    ghost from_gives = { λ _ e. e ≡ Memory };
+
+    fn from(_error: AllocError) -> NoMemory {
+        NoMemory::Memory
+    }
+}
+
+impl<T: Drop> From<AllocFailed<T>> for NoMemory {
+    ghost use Rattle.dj_ops.specs.declared.lists.NoMemory.TheVariants.{Memory};
+
+    ghost from_gives = { λ _ e. e ≡ Memory };
+
+    fn from(_error: AllocFailed<T>) -> NoMemory {
+        NoMemory::Memory
+    }
+}
+
+/// The targets of a table, in its order.
+#[derive(Debug, Drop)]
+pub struct Targets {
+    targets: Vec<i64>,
+}
+
+impl Model for Targets {
+    ghost use Rattle.std.specs.Prelude.{List, ℤ};
+
+    ghost Value = { List ℤ };
+
+    ghost view = { λ targets. targets.targets.items };
+}
+
+impl Targets {
+    /// No targets.
+    pub fn new(alloc: Global) -> Targets
+        ensures { result ≡ [] }
+    {
+        Targets {
+            targets: Vec::new(alloc),
+        }
+    }
+
+    /// Appends a target.
+    pub fn push(&mut self, item: i64) -> Result<(), NoMemory>
+        ensures ok { OnOk result (self.new ≡ self.old ++ item ∷ []) }
+        ensures err { OnErr result (self.new ≡ self.old) }
+    {
+        Ok(self.targets.push(item)?)
+    }
+
+    /// The targets, lent.
+    pub fn as_slice(&self) -> &[i64]
+        ensures { result.now ≡ self.now }
+    {
+        self.targets.as_slice()
+    }
+}
+
+/// The matches of a lookup and their targets, in its order.
+#[derive(Debug, Drop)]
+pub struct Pairs {
+    pairs: Vec<(i32, i64)>,
+}
+
+impl Model for Pairs {
+    ghost use Rattle.std.specs.Prelude.{List, ℤ};
+
+    ghost Value = { List (ℤ × ℤ) };
+
+    ghost view = { λ pairs. pairs.pairs.items };
+}
+
+impl Pairs {
+    /// No pairs.
+    pub fn new(alloc: Global) -> Pairs
+        ensures { result ≡ [] }
+    {
+        Pairs {
+            pairs: Vec::new(alloc),
+        }
+    }
+
+    /// Appends a match and its target.
+    pub fn push(&mut self, item: (i32, i64)) -> Result<(), NoMemory>
+        ensures ok { OnOk result (self.new ≡ self.old ++ item ∷ []) }
+        ensures err { OnErr result (self.new ≡ self.old) }
+    {
+        Ok(self.pairs.push(item)?)
+    }
+
+    /// The pairs, lent.
+    pub fn as_slice(&self) -> &[(i32, i64)]
+        ensures { result.now ≡ self.now }
+    {
+        self.pairs.as_slice()
+    }
+}
