@@ -5,3 +5,4 @@ pub mod UnitReading
 pub mod NameReading
 pub mod DescReading
 pub mod Tests
+pub mod Objects

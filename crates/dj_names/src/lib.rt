@@ -1,4 +1,4 @@
-//! Names, descriptors and texts of class files (JVMS 4.2 to 4.4).
+//! Names, descriptors and texts of class files (JVMS 4.2 to 4.4), and the values, objects, costs and outcomes of a run.
 #![tactic(auto)]
 
 mod descriptor;
@@ -6,6 +6,7 @@ mod lists;
 mod measure;
 mod name;
 mod read;
+mod run;
 #[cfg(test)]
 mod tests;
 mod text;
@@ -17,5 +18,6 @@ pub use lists::{Bytes, Name, NoMemory, Units};
 pub use measure::{kind_of, slots};
 pub use name::{is_class_name, is_method_name, is_unqualified_name};
 pub use read::{DescError, one_descriptor, read_desc};
+pub use run::{Charge, Costs, Element, Message, Outcome, Raised, Thresholds, Value};
 pub use text::{TextError, is_modified_utf8, one_spelling, units_of};
 pub use walk::{is_array_descriptor, is_field_descriptor, is_method_descriptor};
