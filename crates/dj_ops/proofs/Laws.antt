@@ -13,7 +13,7 @@ use Rattle.dj_ops.specs.Forms.{Form, Bare, SignedByte, SignedShort, ShortLiteral
 use Rattle.dj_ops.specs.Instructions.{s1, s2, signed_bytes, IsPushed, IsLiteral, IsProper, Spells}
 use Rattle.dj_ops.specs.Straight.{is_straight_op, first_byte, IsStraight}
 use Rattle.dj_ops.specs.Reading.{push_byte_read, push_short_read, local_read, array_read, form_read, front_read}
-use Rattle.dj_ops.proofs.Tables.{is_straight_form, straight_form, straight_low, straight_other, switches_not_straight, calls_not_straight, arrays_not_straight, increments_not_straight}
+use Rattle.dj_ops.proofs.Tables.{is_straight_form, straight_form, straight_below, straight_low, straight_other, switches_not_straight, calls_not_straight, arrays_not_straight, increments_not_straight}
 
 -- each element is below 256
 abbrev pub IsBytes : List ℕ → Type 0
@@ -179,8 +179,8 @@ straight_op instr not_array (inl s) = s
 straight_op instr not_array (inr e) = absurd (not_array e)
 
 -- no straight opcode has such a form
-no_form : {P : Type 0} (f : Form) (op : ℕ) → op < 256 → is_straight_op op ≡ true → form_of op ≡ f → is_straight_form f ≡ false → P
-no_form f op lt s e other = absurd (true≢false (sym (straight_form op lt s) ∙ ap is_straight_form e ∙ other))
+no_form : {P : Type 0} (f : Form) (op : ℕ) → is_straight_op op ≡ true → form_of op ≡ f → is_straight_form f ≡ false → P
+no_form f op s e other = absurd (true≢false (sym (straight_form op (straight_below op s) s) ∙ ap is_straight_form e ∙ other))
 
 no_literal : (f : Form) (index : ℕ) → IsLiteral f index → is_straight_form f ≡ false
 no_literal ShortLiteral index h = refl
@@ -238,38 +238,34 @@ array_again : (base : ℕ) (more : List ℕ) → IsStraight (instrs.Array base) 
 array_again base more (inl s) = absurd (true≢false (sym s ∙ arrays_not_straight.0))
 array_again base more (inr e) = subst (λ (k : ℕ). ReadsBack (instrs.Array k) (188 ∷ k ∷ []) more) (sym (ap base_of e)) (eight_again more)
 
--- the first byte of a text that begins so
-first_below : (op : ℕ) (tail text more : List ℕ) → text ≡ op ∷ tail → IsBytes (text ++ more) → op < 256
-first_below op tail text more e fits = subst (λ (t : List ℕ). IsBytes (t ++ more)) e fits 0
-
 never : {P : Type 0} {b : Bool} → b ≡ true → b ≡ false → P
 never s other = absurd (true≢false (sym s ∙ other))
 
-pub front_again : (at : ℕ) (instr : Instr) (text more : List ℕ) → IsBytes (text ++ more) → IsProper instr → IsStraight instr → Spells at instr text → ReadsBack instr text more
-front_again at (instrs.Simple op) text more fits proper straight e =
+pub front_again : (at : ℕ) (instr : Instr) (text more : List ℕ) → IsProper instr → IsStraight instr → Spells at instr text → ReadsBack instr text more
+front_again at (instrs.Simple op) text more proper straight e =
     let s = straight_op _ (λ d. cc) straight in
-    subst (λ (t : List ℕ). ReadsBack (instrs.Simple op) t more) (sym e) (by_form Bare op more _ (first_below op [] text more e fits) s proper refl)
-front_again at (instrs.Push op value) text more fits proper straight e =
+    subst (λ (t : List ℕ). ReadsBack (instrs.Simple op) t more) (sym e) (by_form Bare op more _ (straight_below op s) s proper refl)
+front_again at (instrs.Push op value) text more proper straight e =
     let s = straight_op _ (λ d. cc) straight in
-    subst (λ (t : List ℕ). ReadsBack (instrs.Push op value) t more) (sym e) (push_again op value more (first_below op _ text more e fits) s proper)
-front_again at (instrs.Literal op index) text more fits proper straight e =
-    no_form (form_of op) op (first_below op _ text more e fits) (straight_op _ (λ d. cc) straight) refl (no_literal _ index proper)
-front_again at (instrs.Local op slot false) text more fits proper straight e =
+    subst (λ (t : List ℕ). ReadsBack (instrs.Push op value) t more) (sym e) (push_again op value more (straight_below op s) s proper)
+front_again at (instrs.Literal op index) text more proper straight e =
+    no_form (form_of op) op (straight_op _ (λ d. cc) straight) refl (no_literal _ index proper)
+front_again at (instrs.Local op slot false) text more proper straight e =
     let s = straight_op _ (λ d. cc) straight in
-    subst (λ (t : List ℕ). ReadsBack (instrs.Local op slot false) t more) (sym e) (local_again op slot more (first_below op _ text more e fits) s proper.0)
-front_again at (instrs.Local op slot true) text more fits proper straight e = never (straight_op _ (λ d. cc) straight) increments_not_straight.1
-front_again at (instrs.Inc slot by false) text more fits proper straight e = never (straight_op _ (λ d. cc) straight) increments_not_straight.0
-front_again at (instrs.Inc slot by true) text more fits proper straight e = never (straight_op _ (λ d. cc) straight) increments_not_straight.1
-front_again at (instrs.Branch op target) text more fits proper straight e =
-    no_form (form_of op) op (first_below op _ text more e.1 fits) (straight_op _ (λ d. cc) straight) refl (no_offset _ proper)
-front_again at (instrs.Table default low targets) text more fits proper straight e = never (straight_op _ (λ d. cc) straight) switches_not_straight.0
-front_again at (instrs.Lookup default pairs) text more fits proper straight e = never (straight_op _ (λ d. cc) straight) switches_not_straight.1
-front_again at (instrs.Member op index) text more fits proper straight e =
-    no_form MemberIndex op (first_below op _ text more e fits) (straight_op _ (λ d. cc) straight) proper.0 refl
-front_again at (instrs.Interface index count) text more fits proper straight e = never (straight_op _ (λ d. cc) straight) calls_not_straight.0
-front_again at (instrs.Dynamic index) text more fits proper straight e = never (straight_op _ (λ d. cc) straight) calls_not_straight.1
-front_again at (instrs.Class op index) text more fits proper straight e =
-    no_form ClassIndex op (first_below op _ text more e fits) (straight_op _ (λ d. cc) straight) proper.0 refl
-front_again at (instrs.Array base) text more fits proper straight e =
+    subst (λ (t : List ℕ). ReadsBack (instrs.Local op slot false) t more) (sym e) (local_again op slot more (straight_below op s) s proper.0)
+front_again at (instrs.Local op slot true) text more proper straight e = never (straight_op _ (λ d. cc) straight) increments_not_straight.1
+front_again at (instrs.Inc slot by false) text more proper straight e = never (straight_op _ (λ d. cc) straight) increments_not_straight.0
+front_again at (instrs.Inc slot by true) text more proper straight e = never (straight_op _ (λ d. cc) straight) increments_not_straight.1
+front_again at (instrs.Branch op target) text more proper straight e =
+    no_form (form_of op) op (straight_op _ (λ d. cc) straight) refl (no_offset _ proper)
+front_again at (instrs.Table default low targets) text more proper straight e = never (straight_op _ (λ d. cc) straight) switches_not_straight.0
+front_again at (instrs.Lookup default pairs) text more proper straight e = never (straight_op _ (λ d. cc) straight) switches_not_straight.1
+front_again at (instrs.Member op index) text more proper straight e =
+    no_form MemberIndex op (straight_op _ (λ d. cc) straight) proper.0 refl
+front_again at (instrs.Interface index count) text more proper straight e = never (straight_op _ (λ d. cc) straight) calls_not_straight.0
+front_again at (instrs.Dynamic index) text more proper straight e = never (straight_op _ (λ d. cc) straight) calls_not_straight.1
+front_again at (instrs.Class op index) text more proper straight e =
+    no_form ClassIndex op (straight_op _ (λ d. cc) straight) proper.0 refl
+front_again at (instrs.Array base) text more proper straight e =
     subst (λ (t : List ℕ). ReadsBack (instrs.Array base) t more) (sym e) (array_again base more straight)
-front_again at (instrs.Multi index dims) text more fits proper straight e = never (straight_op _ (λ d. cc) straight) arrays_not_straight.1
+front_again at (instrs.Multi index dims) text more proper straight e = never (straight_op _ (λ d. cc) straight) arrays_not_straight.1

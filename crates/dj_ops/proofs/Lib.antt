@@ -3,3 +3,4 @@ pub mod Laws
 pub mod Refusals
 pub mod Whole
 pub mod Examples
+pub mod Cuts

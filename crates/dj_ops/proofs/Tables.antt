@@ -1,8 +1,10 @@
 -- What the tables of opcodes say of the opcodes below 256.
-use Rattle.std.proofs.Common.{◌≡◌, ℕ, ◌<◌, Bool, true, false, not, ◌&&◌, ◌||◌, eqb, ltb, refl}
-use Rattle.std.proofs.lemmas.Bool.{agree_below, agree_below_at}
+use Rattle.std.proofs.Common.{◌≡◌, ℕ, ◌<◌, ◌≤◌, Bool, true, false, not, ◌&&◌, ◌||◌, eqb, ltb, nat_le, List, [], ◌∷◌, refl, sym, ◌∙◌, arith, inl, inr}
+use Rattle.std.specs.List.{list_any, AllByRecursion}
+use Rattle.std.proofs.lemmas.Bool.{agree_below, agree_below_at, cases_lt, lt-leb, true≢false}
+use Rattle.std.proofs.Math.Bool.{and-false}
 use Rattle.dj_ops.specs.Forms.{Form, Bare, SignedByte, SignedShort, Slot, ArrayType, form_of}
-use Rattle.dj_ops.specs.Straight.{is_straight_op}
+use Rattle.dj_ops.specs.Straight.{straight_ranges, is_straight_op}
 use Rattle.dj_ops.specs.Reading.{takes_slot}
 
 abbrev is_bare : Form → Bool
@@ -77,6 +79,24 @@ straight_table = refl
 
 pub straight_form : (op : ℕ) → op < 256 → is_straight_op op ≡ true → is_straight_form (form_of op) ≡ true
 straight_form op lt s = follows _ _ (agree_below_at (λ op. is_straight_op op && not (is_straight_form (form_of op))) (λ op. false) 256 op straight_table lt) s
+
+above_all : (ranges : List (ℕ × ℕ)) (op : ℕ) → 256 ≤ op → AllByRecursion (λ range. range.1 < 256) ranges → list_any (λ range. nat_le range.0 op && nat_le op range.1) ranges ≡ false
+above_all [] op high below = refl
+above_all (range ∷ ranges) op high below =
+    let past : nat_le op range.1 ≡ false = lt-leb op range.1 (omega (arith, below.0)) in
+    rw (past, and-false) (above_all ranges op high below.1)
+
+ranges_low : AllByRecursion (λ range. range.1 < 256) straight_ranges
+ranges_low = search arith
+
+-- no straight opcode is more than a byte
+pub straight_below : (op : ℕ) → is_straight_op op ≡ true → op < 256
+unfolding is_straight_op
+straight_below op s =
+    elim (cases_lt op 256) [
+      | inl lt ↦ lt
+      | inr high ↦ absurd (true≢false (sym s ∙ above_all straight_ranges op high ranges_low))
+    ]
 
 low_table : agree_below (λ op. is_straight_op op && ltb 202 op) (λ op. false) 256 ≡ true
 unfolding is_straight_op

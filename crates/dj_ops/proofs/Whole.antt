@@ -60,19 +60,18 @@ what_is_read code at (Err d) fits lt e = tt
 
 -- ---- what stands there
 
-pub reads_again : (code : List ℕ) (at : ℕ) (instr : Instr) (next : ℕ) → IsBytes code → IsStraightAt code at instr next → placed at (front_read (drop at code)) ≡ Ok (instr, next)
-reads_again code at instr next fits s =
+pub reads_again : (code : List ℕ) (at : ℕ) (instr : Instr) (next : ℕ) → IsStraightAt code at instr next → placed at (front_read (drop at code)) ≡ Ok (instr, next)
+reads_again code at instr next s =
     let text : List ℕ = slice_range code at next in
     let parts : drop at code ≡ text ++ drop next code = drop_split code at next (omega (arith, s.stands.later)) in
-    let few : IsBytes (text ++ drop next code) = subst IsBytes parts (IsBytes-drop at code fits) in
     let len : at + length text ≡ next = omega (arith, s.stands.later, s.stands.within, length-take (next - at) (drop at code), length-drop at code) in
     ap (λ (l : List ℕ). placed at (front_read l)) parts
-    ∙ ap (placed at) (front_again at instr text (drop next code) few s.stands.proper s.straight s.stands.spelled)
+    ∙ ap (placed at) (front_again at instr text (drop next code) s.stands.proper s.straight s.stands.spelled)
     ∙ ap (λ (n : ℕ). Ok (instr, n)) len
 
-pub what_stands : (code : List ℕ) (at : ℕ) (r : Result (Instr × ℕ) OpError) → IsBytes code → r ≡ placed at (front_read (drop at code))
+pub what_stands : (code : List ℕ) (at : ℕ) (r : Result (Instr × ℕ) OpError) → r ≡ placed at (front_read (drop at code))
     → (instr : Instr) (next : ℕ) → IsStraightAt code at instr next → Yields r (Ok (instr, next))
-what_stands code at r fits e instr next s = inl (e ∙ reads_again code at instr next fits s)
+what_stands code at r e instr next s = inl (e ∙ reads_again code at instr next s)
 
 abbrev found : Instr → ℕ → Result (Instr × ℕ) OpError
 found instr next = Ok (instr, next)
@@ -85,9 +84,9 @@ both_same a b m n h =
     (ap (λ (p : Instr × ℕ). p.0) same, ap (λ (p : Instr × ℕ). p.1) same)
 
 -- at an address stands one straight instruction at most
-pub one_straight : (code : List ℕ) → IsBytes code → (at m n : ℕ) (a b : Instr) → IsStraightAt code at a m → IsStraightAt code at b n → (a ≡ b) × (m ≡ n)
-one_straight code fits at m n a b s t =
-    both_same a b m n (sym (reads_again code at a m fits s) ∙ reads_again code at b n fits t)
+pub one_straight : (code : List ℕ) (at m n : ℕ) (a b : Instr) → IsStraightAt code at a m → IsStraightAt code at b n → (a ≡ b) × (m ≡ n)
+one_straight code at m n a b s t =
+    both_same a b m n (sym (reads_again code at a m s) ∙ reads_again code at b n t)
 
 -- ---- refusals
 

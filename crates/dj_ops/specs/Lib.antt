@@ -2,3 +2,4 @@ pub mod Forms
 pub mod Instructions
 pub mod Straight
 pub mod Reading
+pub mod Cuts

@@ -1,12 +1,16 @@
-//! One instruction and its bytes (JVMS chapter 6).
+//! One instruction and its bytes (JVMS chapter 6), straight code, and exception tables.
 #![tactic(auto)]
 
+mod cut;
 mod instruction;
 mod lists;
 mod read;
+mod rows;
 #[cfg(test)]
 mod tests;
 
+pub use cut::{Instrs, cut_is_straight, one_cut, read_instrs};
 pub use instruction::Instr;
 pub use lists::{NoMemory, Pairs, Targets};
 pub use read::{OpError, one_instruction, read_instr};
+pub use rows::{CatchRow, Rows};

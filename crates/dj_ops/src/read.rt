@@ -8,19 +8,25 @@ ghost use Rattle.dj_ops.specs.Reading.{takes_slot, push_byte_read, push_short_re
 
 use crate::instruction::Instr;
 use std::alloc::Global;
+use thiserror::Error;
 
 /// Why an instruction was not read.
-#[derive(Clone, Copy, Debug, PartialEq, Eq)]
+#[derive(Clone, Copy, Debug, PartialEq, Eq, Error)]
 pub enum OpError {
     /// This opcode is no instruction's.
+    #[error("opcode {0} is no instruction's")]
     Reserved(u8),
     /// The operands pass the end.
+    #[error("the operands pass the end of the code")]
     Cut,
     /// An operand is none that the instruction may have.
+    #[error("an operand is none that the instruction may have")]
     BadOperand,
     /// There was no memory.
+    #[error("out of memory")]
     Memory,
     /// The instruction of this opcode is not read yet.
+    #[error("the instruction of opcode {0} is not read yet")]
     Unbuilt(u8),
 }
 

@@ -106,3 +106,41 @@ fn lists(rt: HostRuntime) -> Result<(), Fail> {
     assert_eq!(rt; pairs.as_slice(), [(-1, 7)].as_slice());
     Ok(())
 }
+
+#[test]
+fn rows(rt: HostRuntime) -> Result<(), Fail> {
+    let row = CatchRow {
+        start: 0,
+        end: 4,
+        handler: 7,
+        catch_type: 0,
+    };
+    let mut rows = Rows::new(rt.alloc());
+    rows.push(row)?;
+    assert_eq!(rt; rows.as_slice(), [row].as_slice());
+    Ok(())
+}
+
+#[test]
+fn cuts(rt: HostRuntime) -> Result<(), Fail> {
+    let alloc = rt.alloc();
+    one_cut();
+    cut_is_straight();
+    // aload_0, bipush 7, newarray of bytes and areturn, and the same without its last byte but one.
+    match read_instrs(alloc, b"\x2a\x10\x07\xbc\x08\xb0")? {
+        Some(instrs) => assert!(rt;
+            matches!(
+                instrs.as_slice(),
+                [
+                    Instr::Simple { op: 42 },
+                    Instr::Push { op: 16, value: 7 },
+                    Instr::Array { base: 8 },
+                    Instr::Simple { op: 176 },
+                ]
+            )
+        ),
+        None => return Err(Fail::from("straight code was not read")),
+    }
+    assert!(rt; read_instrs(alloc, b"\x2a\x10\x07\xbc\xb0")?.is_none());
+    Ok(())
+}

@@ -6,7 +6,7 @@ pub returns-clause-read : goal.returns-clause-read
 returns-clause-read c = what_is_read c.args.code.now c.args.at c.instr_of.result (λ i. omega (arith, c.type_inv.code i)) c.requires.within c.instr_of.ensures
 
 pub returns-clause-all_read : goal.returns-clause-all_read
-returns-clause-all_read c = what_stands c.args.code.now c.args.at c.instr_of.result (λ i. omega (arith, c.type_inv.code i)) c.instr_of.ensures
+returns-clause-all_read c = what_stands c.args.code.now c.args.at c.instr_of.result c.instr_of.ensures
 
 pub returns-clause-refused : goal.returns-clause-refused
 returns-clause-refused c = what_is_refused c.args.code.now c.args.at c.instr_of.result (λ i. omega (arith, c.type_inv.code i)) c.requires.within c.instr_of.ensures
