@@ -1,0 +1,5 @@
+pub mod Turns
+pub mod Sound
+pub mod Shapes
+pub mod Runs
+mod Rows

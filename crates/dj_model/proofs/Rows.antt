@@ -1,0 +1,80 @@
+-- Whole runs of small programs, computed.
+use Rattle.std.proofs.Common.{refl}
+use Rattle.std.specs.Int.{int_wrap}
+use Rattle.dj_model.specs.Instructions.{instruction_of, simple}
+use Rattle.dj_model.specs.Program.{code_of, has_initialiser, chain_of, is_subclass, ancestors_of}
+use Rattle.dj_model.specs.Effects.{effect}
+use Rattle.dj_model.specs.Step.{step, unwound}
+use Rattle.dj_model.specs.Charges.{amounts}
+use Rattle.dj_model.specs.Metered.{begin, turn, turns}
+use Rattle.dj_model.specs.Rows.{WorkedReturns, WorkedInts, WorkedArrays, WorkedCharges, WorkedHandlers, WorkedRuns}
+
+returns : WorkedReturns
+unfolding begin turns turn step unwound effect instruction_of simple amounts code_of has_initialiser chain_of int_wrap
+returns = record {
+  same_input = (4, refl);
+  no_input = (4, refl);
+  null = (4, refl);
+  popped = (10, refl);
+  other_slot = (8, refl);
+  int_slot = (18, refl);
+  told_slot = (18, refl);
+}
+
+ints : WorkedInts
+unfolding begin turns turn step unwound effect instruction_of simple amounts code_of has_initialiser chain_of int_wrap
+ints = record {
+  low_byte = (14, refl);
+  low_byte_negative = (14, refl);
+  doubled = (18, refl);
+  added = (18, refl);
+  subtracted = (18, refl);
+  multiplied = (18, refl);
+  and = (18, refl);
+  and_negative = (18, refl);
+  or = (18, refl);
+  or_negative = (18, refl);
+  xor = (18, refl);
+  xor_negative = (18, refl);
+  wraps_to_zero = (14, refl);
+  wraps_to_negative = (12, refl);
+}
+
+arrays : WorkedArrays
+unfolding begin turns turn step unwound effect instruction_of simple amounts code_of has_initialiser chain_of int_wrap
+arrays = record {
+  loaded = (18, refl);
+  sign = (22, refl);
+  stored = (12, refl);
+  counted = (16, refl);
+  loads_outside = (6, refl);
+  loads_negative = (6, refl);
+  stores_outside = (8, refl);
+  loads_null = (6, refl);
+  stores_null = (8, refl);
+  counts_null = (4, refl);
+  negative_size = (4, refl);
+}
+
+charges : WorkedCharges
+unfolding begin turns turn step unwound effect instruction_of simple amounts code_of has_initialiser chain_of int_wrap
+charges = record {
+  no_bytes = (6, refl);
+  not_rounded = (10, refl);
+  rounded_up = (10, refl);
+  at_threshold = (6, refl);
+  above_threshold = (3, refl);
+  sum_at_threshold = (12, refl);
+  sum_above_threshold = (9, refl);
+}
+
+handlers : WorkedHandlers
+unfolding begin turns turn step unwound effect instruction_of simple amounts code_of has_initialiser chain_of is_subclass ancestors_of
+handlers = record {
+  again = (33, refl);
+  by_class = (10, refl);
+  by_initialiser = (4, refl);
+}
+
+pub worked_runs : WorkedRuns
+worked_runs = record { returns = returns; ints = ints; arrays = arrays; charges = charges; handlers = handlers }

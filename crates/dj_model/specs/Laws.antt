@@ -1,0 +1,47 @@
+-- Laws of the model, for every program of the instructions that run so far, which neither jump nor throw.
+use Rattle.std.specs.Prelude.{◌≡◌, ℕ, List, ◌*◌, ◌<◌, [], ◌∷◌, length, Option, Some, Contains, IsFalse}
+use Rattle.dj_names.specs.declared.descriptor.Kind.TheVariants as kinds
+use Rattle.dj_names.specs.declared.run.Costs.{Costs}
+use Rattle.dj_names.specs.declared.run.Thresholds.{Thresholds}
+use Rattle.dj_names.specs.declared.run.Outcome.{Outcome}
+use Rattle.dj_model.specs.Program.{Name, Program, MethodName, Code, code_of, chain, is_initialiser, has_initialiser}
+use Rattle.dj_model.specs.Instructions.{Instruction}
+use Rattle.dj_model.specs.Effects.{Part}
+use Rattle.dj_model.specs.Metered.{RunsTo, run, Ends}
+use Rattle.dj_model.specs.Shape.{Signature, Kinds, after, HasShape, IsShapeFault}
+use Rattle.dj_model.specs.Sound.{HasKinds, HasSoundEffect}
+
+-- a run ends in one way, at one cost
+abbrev pub HasOneEnd : Type 0
+HasOneEnd = (program : Program) (entry : MethodName) (input : List ℕ) (most : Thresholds) (a b : Outcome) (c d : Costs)
+    → RunsTo program entry input most a c → RunsTo program entry input most b d → (a ≡ b) × (c ≡ d)
+
+-- an instruction that finds values of the kinds that it takes has an effect, and leaves values of the kinds that it leaves
+abbrev pub KeepsKinds : Type 0
+KeepsKinds = (signature : Signature) (code : Code) (i : Instruction) (k left : Kinds) (limit : Option ℕ) (p : Part)
+    → HasKinds p.locals p.operands k → length p.locals ≡ code.max_locals → after signature code i k ≡ Some left
+    → HasSoundEffect limit code i left p
+
+-- code without shape is reported with one number
+abbrev pub HasOneShapeFault : Type 0
+HasOneShapeFault = (signature : Signature) (code : Code) (a b : ℕ) → IsShapeFault signature code a → IsShapeFault signature code b → a ≡ b
+
+-- and code with shape with none
+abbrev pub HasNoFaultWithShape : Type 0
+HasNoFaultWithShape = (signature : Signature) (code : Code) (n : ℕ) → HasShape signature code → IsShapeFault signature code n → ⊥
+
+-- a method that takes an array, whose code has shape, with nothing before it and no handlers
+pub record IsStraightEntry (program : Program) (entry : MethodName) (signature : Signature) (code : Code) : Type 0 where
+  pub code_is : code_of program entry ≡ Some code
+  pub parameters : signature.parameters ≡ kinds.Ref ∷ []
+  pub shape : HasShape signature code
+  pub some : 0 < length code.instructions
+  pub no_handlers : code.ranges ≡ []
+  pub no_initialiser : IsFalse (is_initialiser entry)
+  pub no_initialisers : (class : Name) → Contains (chain program entry.class) class → IsFalse (has_initialiser program class)
+
+-- its run ends, in two turns for each instruction at most
+abbrev pub StraightCodeEnds : Type 0
+StraightCodeEnds = (program : Program) (entry : MethodName) (signature : Signature) (code : Code) (input : List ℕ) (most : Thresholds)
+    → IsStraightEntry program entry signature code
+    → (outcome : Outcome) × (costs : Costs) × (run program entry input most (2 * length code.instructions) ≡ Ends outcome costs)

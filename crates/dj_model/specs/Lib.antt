@@ -1,0 +1,12 @@
+pub mod Instructions
+pub mod StackMaps
+pub mod Program
+pub mod State
+pub mod Effects
+pub mod Step
+pub mod Charges
+pub mod Metered
+pub mod Shape
+pub mod Sound
+pub mod Laws
+pub mod Rows

@@ -1,0 +1,35 @@
+-- Values of the kinds that code's shape tells, and effects that keep them: of the instructions that run so far, which neither jump nor throw.
+use Rattle.std.specs.Prelude.{◌≡◌, ℕ, List, [], ◌∷◌, length, map, Option, Some, None, IsTrue, IsFalse, ⊤}
+use Rattle.dj_names.specs.declared.descriptor.Kind.{Kind}
+use Rattle.dj_names.specs.declared.run.Value.{Value}
+use Rattle.dj_names.specs.Objects.{value_kind}
+use Rattle.dj_model.specs.Program.{Code}
+use Rattle.dj_model.specs.Instructions.{Instruction}
+use Rattle.dj_model.specs.Effects.{Part, Flow, Next, To, Raise, Throw, Back, Broken, Full, Effect, effect}
+use Rattle.dj_model.specs.Shape.{Kinds, ends}
+
+-- as many local variables, and each that has a kind has a value of it
+abbrev pub LocalsHave : List (Option Value) → List (Option Kind) → Type 0
+LocalsHave [] [] = ⊤
+LocalsHave (v ∷ vs) (None ∷ ks) = LocalsHave vs ks
+LocalsHave (Some v ∷ vs) (Some k ∷ ks) = (value_kind v ≡ k) × LocalsHave vs ks
+LocalsHave _ _ = ⊥
+
+-- local variables and operands are of these kinds
+pub record HasKinds (variables : List (Option Value)) (stack : List Value) (k : Kinds) : Type 0 where
+  pub locals : LocalsHave variables k.locals
+  pub operands : map value_kind stack ≡ k.stack
+
+-- what may follow an instruction after which these kinds are left: the next instruction finds them, and only one that ends the run returns
+abbrev pub IsSoundFlow : Code → Instruction → Kinds → Part → Flow → Type 0
+IsSoundFlow code i left p Next = HasKinds p.locals p.operands left × (length p.locals ≡ code.max_locals) × IsFalse (ends i)
+IsSoundFlow code i left p (To number) = ⊥
+IsSoundFlow code i left p (Raise raised) = ⊤
+IsSoundFlow code i left p (Throw exception) = ⊥
+IsSoundFlow code i left p (Back result) = IsTrue (ends i)
+IsSoundFlow code i left p Broken = ⊤
+IsSoundFlow code i left p (Full used size) = ⊤
+
+-- the instruction has an effect, and it keeps the kinds
+abbrev pub HasSoundEffect : Option ℕ → Code → Instruction → Kinds → Part → Type 0
+HasSoundEffect limit code i left p = (e : Effect) × (effect limit i p ≡ Some e) × IsSoundFlow code i left e.part e.flow

@@ -1,0 +1,32 @@
+ghost use Rattle.dj_model.specs.Rows.{WorkedRuns};
+ghost use Rattle.dj_model.specs.Laws.{HasOneEnd, KeepsKinds, HasOneShapeFault, HasNoFaultWithShape, StraightCodeEnds};
+
+/// A run ends in one way, at one cost.
+pub fn one_end()
+    ensures { HasOneEnd }
+{}
+
+/// An instruction that finds the kinds that it takes has an effect, and leaves the kinds that it leaves.
+pub fn sound_effect()
+    ensures { KeepsKinds }
+{}
+
+/// Code without shape is reported with one number.
+pub fn one_shape_fault()
+    ensures { HasOneShapeFault }
+{}
+
+/// Code with shape is reported with none.
+pub fn no_fault_with_shape()
+    ensures { HasNoFaultWithShape }
+{}
+
+/// The run of straight code with shape ends.
+pub fn straight_code_ends()
+    ensures { StraightCodeEnds }
+{}
+
+/// The worked runs end as they are told.
+pub fn worked_runs()
+    ensures { WorkedRuns }
+{}
