@@ -12,3 +12,4 @@ pub mod PoolFromLaws
 pub mod TextLaws
 pub mod TestsAre
 pub mod Rows
+pub mod CodeLaws

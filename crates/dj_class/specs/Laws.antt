@@ -3,6 +3,7 @@ use Rattle.std.specs.Prelude.{◌≡◌, ℕ, ◌⊎◌, ⊤, List, All, Option,
 use Rattle.dj_names.specs.Names.{IsUnqualifiedName, IsMethodName, IsClassName}
 use Rattle.dj_names.specs.Descriptors.{IsFieldDescriptor, IsMethodDescriptor}
 use Rattle.dj_class.specs.ClassFile.{Constant, AttributeInfo, MemberInfo, ClassFile, text_at, class_name_at, IsValid, IsClassFile}
+use Rattle.dj_class.specs.Code.{CodeInfo, IsCode}
 use Rattle.dj_class.specs.Unbuilt.{IsUnbuiltAt}
 
 -- bytes are one class file at most
@@ -16,6 +17,10 @@ NoClassWhereUnbuilt = (bytes : List ℕ) (c : ClassFile) (place : ℕ) → IsCla
 -- there is one place at most where the first such constant stands
 abbrev pub OneUnbuiltPlace : Type 0
 OneUnbuiltPlace = (bytes : List ℕ) (a b : ℕ) → IsUnbuiltAt bytes a → IsUnbuiltAt bytes b → a ≡ b
+
+-- a body is one Code attribute's at most
+abbrev pub OneCode : Type 0
+OneCode = (body : List ℕ) (c d : CodeInfo) → IsCode body c → IsCode body d → c ≡ d
 
 -- there is a text, and it is so
 pub record HasText (found : Option (List ℕ)) (P : List ℕ → Type 0) : Type 0 where

@@ -8,3 +8,6 @@ pub mod Gives
 pub mod Tests
 pub mod Laws
 pub mod Pools
+pub mod Code
+pub mod CodeViews
+pub mod CodeReading

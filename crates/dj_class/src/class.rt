@@ -29,8 +29,8 @@ pub enum ClassError {
     /// The constant pool was not read.
     #[error("the constant pool was not read: {0}")]
     Pool(PoolError),
-    /// The index at this place names no constant that its place asks for.
-    #[error("the index at {0} names no constant that its place asks for")]
+    /// The index at this place names no constant that its place asks for, or the code's length at this place is none that code may have.
+    #[error("the index at {0} names no constant that its place asks for, or the length at {0} is none that code may have")]
     Index(u32),
     /// At this place begin bytes after the last item.
     #[error("at {0} begin bytes after the last item")]

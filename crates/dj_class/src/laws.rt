@@ -1,4 +1,4 @@
-ghost use Rattle.dj_class.specs.Laws.{OneClassFile, NoClassWhereUnbuilt, OneUnbuiltPlace, ValidHasTexts};
+ghost use Rattle.dj_class.specs.Laws.{OneClassFile, NoClassWhereUnbuilt, OneUnbuiltPlace, OneCode, ValidHasTexts};
 
 /// Bytes are one class file at most.
 pub fn one_class_file()
@@ -13,6 +13,11 @@ pub fn no_class_where_unbuilt()
 /// There is one place at most where the first such constant stands.
 pub fn one_unbuilt_place()
     ensures { OneUnbuiltPlace }
+{}
+
+/// A body is one Code attribute's at most.
+pub fn one_code()
+    ensures { OneCode }
 {}
 
 /// The texts that a valid class file names are there.

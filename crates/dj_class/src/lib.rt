@@ -2,13 +2,17 @@
 #![tactic(auto)]
 
 mod class;
+mod code;
 mod cursor;
 mod laws;
 mod lists;
 mod pool;
 
 pub use class::{Attribute, ClassError, ClassView, MemberView, read_class};
-pub use laws::{no_class_where_unbuilt, one_class_file, one_unbuilt_place, valid_has_texts};
+pub use code::{CodeView, read_code};
+pub use laws::{
+    no_class_where_unbuilt, one_class_file, one_code, one_unbuilt_place, valid_has_texts,
+};
 pub use lists::{Attributes, Indexes, Members, NoMemory};
 pub use pool::{Entry, Pool, PoolError, read_pool};
 

@@ -34,7 +34,7 @@ impl<T: Drop> From<AllocFailed<T>> for NoMemory {
     }
 }
 
-/// The attributes of a file, a field or a method.
+/// The attributes of a file, a field, a method or a Code attribute.
 #[derive(Debug, Drop)]
 pub struct Attributes<'a> {
     items: Vec<Attribute<'a>>,

@@ -121,3 +121,31 @@ fn refusals(rt: HostRuntime) -> Result<(), Fail> {
     }
     Ok(())
 }
+
+// max_stack 1, max_locals 1, aload_0 and areturn, no rows and no attributes.
+const CODE: &[u8; 14] = b"\0\x01\0\x01\0\0\0\x02\x2a\xb0\0\0\0\0";
+
+#[test]
+fn code(rt: HostRuntime) -> Result<(), Fail> {
+    let alloc = rt.alloc();
+    let code = read_code(alloc, CODE)?;
+    assert_eq!(rt; (code.max_stack, code.max_locals), (1, 1));
+    assert_eq!(rt; code.code, b"\x2a\xb0".as_slice());
+    assert_eq!(rt; code.table.as_slice().len(), 0);
+    assert_eq!(rt; code.attributes.as_slice().len(), 0);
+    assert_eq!(rt;
+        read_code(alloc, &CODE[..13]).err(),
+        Some(ClassError::Cut(12))
+    );
+    let mut empty = CODE.to_vec(alloc)?;
+    assert!(rt; 7 < empty.len());
+    empty[7] = 0;
+    assert_eq!(rt; read_code(alloc, &empty).err(), Some(ClassError::Index(4)));
+    let mut longer = CODE.to_vec(alloc)?;
+    longer.push(0)?;
+    assert_eq!(rt;
+        read_code(alloc, &longer).err(),
+        Some(ClassError::Trailing(14))
+    );
+    Ok(())
+}
