@@ -1,3 +1,5 @@
 pub mod Order
 pub mod OrderLaws
+pub mod Outcomes
+pub mod Parts
 pub mod Text

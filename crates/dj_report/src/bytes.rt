@@ -1,6 +1,7 @@
 ghost use Rattle.std.specs.Prelude.{◌≡◌, IfOk};
 ghost use Rattle.dj_report.specs.Text.{report_text, report_status};
 
+use crate::outcome::status_of_outcome;
 use crate::put::put_report;
 use crate::report::Report;
 use dj_names::Bytes;
@@ -55,6 +56,8 @@ pub fn status_of(report: &Report) -> u8
         Report::Rejected(_) => 2,
         Report::Limited(_) => 7,
         Report::Later(_) => 75,
+        Report::Absent(_) => 65,
+        Report::Costed { outcome, .. } => status_of_outcome(outcome),
         Report::Usage => 64,
     }
 }

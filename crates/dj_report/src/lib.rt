@@ -1,8 +1,10 @@
-//! Reports: what is told of a job, its bytes and its status.
+//! Reports: what is told of a job or a run, its bytes and its status.
 #![tactic(auto)]
 
 mod bytes;
 mod order;
+mod outcome;
+mod parts;
 mod put;
 mod report;
 #[cfg(test)]

@@ -1,49 +1,12 @@
 // Each function appends a part of a report's text.
-ghost use Rattle.std.specs.Prelude.{◌≡◌, ◌<◌, ◌++◌, OnOk};
+ghost use Rattle.std.specs.Prelude.{◌≡◌, ◌++◌, OnOk};
 ghost use Rattle.std.specs.List.{flat_map};
-ghost use Rattle.std.specs.Fmt.{decimal};
-ghost use Rattle.dj_report.specs.Text.{escaped_byte, escaped, rule_name, member_text, number_text, violation_text, limit_text, report_text, hex_digit};
+ghost use Rattle.dj_report.specs.Text.{rule_name, member_text, number_text, violation_text, limit_text, report_text};
 
 use crate::bytes::ReportError;
+use crate::outcome::put_run;
+use crate::parts::{put_decimal, put_escaped};
 use crate::report::{Limit, Report, Violation};
-use itoa::Buffer;
-
-fn hex_digit_of(d: u8) -> u8
-    requires { d < 16 }
-    ensures { result ≡ hex_digit d }
-{
-    if d < 10 { b'0' + d } else { b'A' - 10 + d }
-}
-
-fn put_escaped_byte(out: &mut Vec<u8>, byte: u8) -> Result<(), ReportError>
-    ensures { OnOk result (out.new.items ≡ out.old.items ++ escaped_byte byte) }
-{
-    if (33..=126).contains(&byte) && byte != b'%' {
-        out.push(byte)?;
-    } else {
-        out.push(b'%')?;
-        out.push(hex_digit_of(byte / 16))?;
-        out.push(hex_digit_of(byte % 16))?;
-    }
-    Ok(())
-}
-
-fn put_escaped(out: &mut Vec<u8>, text: &[u8]) -> Result<(), ReportError>
-    ensures { OnOk result (out.new.items ≡ out.old.items ++ escaped text.now) }
-{
-    for byte in text {
-        put_escaped_byte(out, *byte)?;
-    }
-    Ok(())
-}
-
-fn put_decimal(out: &mut Vec<u8>, n: u64) -> Result<(), ReportError>
-    ensures { OnOk result (out.new.items ≡ out.old.items ++ decimal n) }
-{
-    let mut buffer = Buffer::new();
-    out.extend_from_slice(buffer.format(n).as_bytes())?;
-    Ok(())
-}
 
 fn rule_name_of(rule: u8) -> &'static str
     ensures { result.now ≡ rule_name rule }
@@ -54,6 +17,8 @@ fn rule_name_of(rule: u8) -> &'static str
         3 => "NAME",
         7 => "NATIVE",
         8 => "FINALIZER",
+        19 => "SHAPE",
+        20 => "ENTRY",
         _ => "",
     }
 }
@@ -113,6 +78,7 @@ fn limit_text_of(limit: Limit) -> &'static str
         Limit::FileCount => "files 4096",
         Limit::File => "file 4194304",
         Limit::Total => "total 67108864",
+        Limit::Input => "input 1048576",
     }
 }
 
@@ -143,6 +109,12 @@ pub fn put_report(out: &mut Vec<u8>, report: &Report) -> Result<(), ReportError>
             put_escaped(out, path.as_slice())?;
             out.push(b'\n')?;
         }
+        Report::Absent(path) => {
+            out.extend_from_slice(b"ABSENT ")?;
+            put_escaped(out, path.as_slice())?;
+            out.push(b'\n')?;
+        }
+        Report::Costed { outcome, costs } => put_run(out, outcome, costs)?,
         Report::Usage => {
             out.extend_from_slice(b"USAGE\n")?;
         }

@@ -1,6 +1,6 @@
 ghost use Rattle.std.specs.Prelude.{◌≡◌, [], ◌∷◌, ◌++◌, OnOk, OnErr};
 
-use dj_names::Name;
+use dj_names::{Costs, Name, Outcome};
 use std::alloc::Global;
 use std::marker::Model;
 use thiserror::Error;
@@ -21,6 +21,8 @@ pub enum Limit {
     File,
     /// At most 67,108,864 bytes of class files together.
     Total,
+    /// At most 1,048,576 bytes of the input.
+    Input,
 }
 
 /// A line of a rejected report: a rule that a file, a member or an instruction violates.
@@ -110,6 +112,10 @@ pub enum Report {
     Limited(Limit),
     /// The path within the folder of the first file that needs parts of the format that are not read yet.
     Later(Name),
+    /// The path of a file that isn't there, as UTF-8.
+    Absent(Name),
+    /// How a run ended, and what it was charged.
+    Costed { outcome: Outcome, costs: Costs },
     /// The words are those of no job.
     Usage,
 }

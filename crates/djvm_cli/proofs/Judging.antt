@@ -1,5 +1,6 @@
 -- Files that are judged, also under their paths within the folder.
-use Rattle.std.proofs.Common.{◌≡◌, ℕ, ◌^◌, ◌<◌, ◌≤◌, List, [], ◌∷◌, length, map, All, refl, sym, subst, arith}
+use Rattle.std.proofs.Common.{◌≡◌, ℕ, ◌^◌, ◌<◌, ◌≤◌, List, [], ◌∷◌, length, map, All, Some, None, refl, sym, ap, subst, inl, inr, arith}
+use Rattle.std.specs.Prelude.{slice_get}
 use Rattle.std.proofs.lemmas.List.{length-map}
 use Rattle.std.proofs.lemmas.List.Sums.{sum_by-cons}
 use Rattle.std.proofs.lemmas.List.Elements.{All-weaker, All-map, All-from_recursion, recursion_from_All}
@@ -8,7 +9,8 @@ use Rattle.dj_report.specs.declared.report.PathFile.{PathFile}
 use Rattle.dj_report.specs.declared.report.Report.{Report}
 use Rattle.dj_report.specs.declared.report.Report.TheVariants as reports
 use Rattle.djvm_cli.specs.Limits.{most_file_bytes, total_bytes, AreWithin}
-use Rattle.djvm_cli.specs.Report.{AreJudged, IsFirstUnbuilt, IsReportOf, within_folder}
+use Rattle.djvm_cli.specs.Report.{AreJudged, AreSound, IsFirstUnbuilt, IsLater, IsReportOf, IsVerdict, within_folder}
+use Rattle.djvm_cli.specs.Straight.{IsNotStraight}
 use Rattle.djvm_cli.specs.Views.{path_file_view}
 use Rattle.djvm_cli.proofs.Loading.{All-unmap}
 
@@ -49,3 +51,24 @@ pub later_right : (folder : List ℕ) (files : List File) (within : List PathFil
 later_right folder files within path report same judged first is =
     subst (IsReportOf (map (within_folder folder) files)) (sym is)
     (judged_within folder files judged, subst (λ all. IsFirstUnbuilt all path) same first)
+
+-- a file that isn't built is told of under its path within the folder
+pub later_verdict : (folder : List ℕ) (files : List File) (within : List PathFile) (class input path : List ℕ) (report : Report)
+    → map path_file_view within ≡ map (within_folder folder) files → IsFirstUnbuilt (map path_file_view within) path → report ≡ reports.Later path
+    → IsVerdict (map (within_folder folder) files) class input report
+later_verdict folder files within class input path report same first is =
+    subst (IsVerdict (map (within_folder folder) files) class input) (sym is) (inl (subst (λ all. IsFirstUnbuilt all path) same first))
+
+-- a set that isn't straight has a first file, of which the report is
+pub later_straight : (files : List File) (class input : List ℕ) (report : Report) → ((path : List ℕ) × (report ≡ reports.Later path) × IsLater files path)
+    → IsVerdict files class input report
+later_straight files class input report p = subst (IsVerdict files class input) (sym p.1) p.2
+
+pub not_straight_some : (files : List PathFile) → IsNotStraight (map path_file_view files) → slice_get files 0 ≡ None → ⊥
+not_straight_some [] not none = not [] refl
+not_straight_some (file ∷ files) not none = absurd cc
+
+pub later_of_first : (files : List PathFile) (file : PathFile) → AreSound (map path_file_view files) → IsNotStraight (map path_file_view files) → slice_get files 0 ≡ Some file
+    → IsLater (map path_file_view files) file.path.now
+later_of_first [] file sound not is = absurd (not [] refl)
+later_of_first (first ∷ files) file sound not is = let same : first ≡ file = cc in inr (sound, not, ap (λ (f : PathFile). f.path.now) (sym same))

@@ -126,6 +126,7 @@ parts_at xs i x within is = sym (take-append-drop i xs) ∙ ap (λ l. take i xs 
 pub first_past : (files : List File) (i : ℕ) (file : File) (total : ℕ) (limit : Limit) → i < length files → get_or files i file ≡ file → AreWithin (take i files)
     → total ≡ total_bytes (take i files) → IsNext file total (next_files.Passed limit) → IsLoaded files (loads.Passed limit)
 first_past files i file total limits.FileCount within is before sum past = past
+first_past files i file total limits.Input within is before sum past = past
 first_past files i file total limits.File within is before sum past =
     record { front = take i files; file = file; rest = drop (i + 1) files; parts = parts_at files i file within is; before = before; past = past }
 first_past files i file total limits.Total within is before sum past =

@@ -77,13 +77,14 @@ too_much_cut folder files past =
       past = (past.past.0, subst (λ n. most_total_bytes < n + length past.file.1) (sym (total_same folder past.front)) past.past.1);
     }
 
-passed_right : (folder : List ℕ) (files : List File) (limit : Limit) → length files ≤ most_files → IsLoaded files (loads.Passed limit)
+pub passed_right : (folder : List ℕ) (files : List File) (limit : Limit) → length files ≤ most_files → IsLoaded files (loads.Passed limit)
     → IsReportOf (map (within_folder folder) files) (reports.Limited limit)
 passed_right folder files limits.FileCount few past = absurd past
+passed_right folder files limits.Input few past = absurd past
 passed_right folder files limits.File few past = (omega (arith, length-map files (within_folder folder)), too_long_cut folder files past)
 passed_right folder files limits.Total few past = (omega (arith, length-map files (within_folder folder)), too_much_cut folder files past)
 
-few_class_files : (folder : List ℕ) (h : Held) (paths : List String) → map string_bytes paths ≡ class_paths folder h → length paths ≤ 4096 → length (class_files folder h) ≤ 4096
+pub few_class_files : (folder : List ℕ) (h : Held) (paths : List String) → map string_bytes paths ≡ class_paths folder h → length paths ≤ 4096 → length (class_files folder h) ≤ 4096
 few_class_files folder h paths same few =
     let left : length (map string_bytes paths) ≡ length paths = length-map paths string_bytes in
     let right : length (class_paths folder h) ≡ length (class_files folder h) = length-map (class_files folder h) path_of in

@@ -1,15 +1,15 @@
 -- How a call of the program ends.
-use Rattle.std.specs.Prelude.{◌≡◌, ℕ, List, [], ◌∷◌, Option, IfSome, ◌⊎◌, IsTrue, nat_eq, ◌↔◌, None}
+use Rattle.std.specs.Prelude.{◌≡◌, ◌≢◌, ℕ, List, [], ◌∷◌, Option, Some, IfSome, IsSome, ◌⊎◌, IsTrue, nat_eq, ◌↔◌, None}
 use Rattle.std.specs.List.{list_any}
 use Rattle.std.specs.Io.KnownBytes.{Appends}
 use Rattle.dj_edge.specs.Held.{Held}
 use Rattle.dj_edge.specs.Counts.{Rose, IsFront, GrowsByFront}
 use Rattle.dj_report.specs.declared.report.Report.{Report}
 use Rattle.dj_report.specs.Text.{report_text, report_status}
-use Rattle.djvm_cli.specs.Job.{job_of}
+use Rattle.djvm_cli.specs.Job.{Job, Check, Verify, job_of}
 use Rattle.djvm_cli.specs.Report.{IsReport, asks}
 
--- the store failed, the sink failed, there was no memory
+-- the store failed or lacks the input, the sink failed, there was no memory
 abbrev pub read_fault : ℕ
 read_fault = 65
 
@@ -47,6 +47,11 @@ pub record ReadFault (faults_before faults_now : ℕ) (old new : Option (List �
   pub rose : Rose faults_before faults_now
   pub written : Appends old new []
 
+-- the store failed, or it tells what it holds and lacks the input, which is reported
+abbrev pub ReadEnds : List (List ℕ) → Option Held → ℕ → ℕ → Option (List ℕ) → Option (List ℕ) → Type 0
+ReadEnds words held faults_before faults_now old new =
+    ReadFault faults_before faults_now old new ⊎ (IsSome held × Finished words held read_fault old new)
+
 -- the sink failed in this call, after a front of the right report
 pub record WriteFault (words : List (List ℕ)) (held : Option Held) (faults_before faults_now : ℕ) (old new : Option (List ℕ)) : Type 0 where
   pub rose : Rose faults_before faults_now
@@ -56,12 +61,30 @@ pub record WriteFault (words : List (List ℕ)) (held : Option Held) (faults_bef
 abbrev pub OutOfMemory : List (List ℕ) → Option Held → Option (List ℕ) → Option (List ℕ) → Type 0
 OutOfMemory words held old new = Broken words held old new ⊎ Appends old new []
 
--- every status that a call ends with
-abbrev pub statuses : List ℕ
-statuses = 0 ∷ 2 ∷ 7 ∷ 64 ∷ 65 ∷ 66 ∷ 67 ∷ 75 ∷ []
+-- the statuses of the reports of a job: ABSENT has 65
+abbrev pub report_statuses : Option Job → List ℕ
+report_statuses None = 64 ∷ []
+report_statuses (Some (Check folder)) = 0 ∷ 2 ∷ 7 ∷ 75 ∷ []
+report_statuses (Some (Verify folder entry input)) = 0 ∷ 1 ∷ 2 ∷ 3 ∷ 7 ∷ 65 ∷ 75 ∷ []
 
-abbrev pub IsStatus : ℕ → Type 0
-IsStatus status = IsTrue (list_any (nat_eq status) statuses)
+abbrev pub IsAmong : ℕ → List ℕ → Type 0
+IsAmong status statuses = IsTrue (list_any (nat_eq status) statuses)
+
+-- every status that a call with these words ends with: those of its reports, and those of faults and of want of memory
+abbrev pub IsStatus : List (List ℕ) → ℕ → Type 0
+IsStatus words status = IsAmong status (read_fault ∷ write_fault ∷ no_memory ∷ report_statuses (job_of words))
+
+-- the status of a report of the job: only a store that tells what it holds has one that the input isn't there
+abbrev pub IsReportStatus : Option Job → Option Held → ℕ → Type 0
+IsReportStatus job held status = IsAmong status (report_statuses job) × (status ≡ read_fault → IsSome held)
+
+-- a report was written, and its status answered, or that of a fault or of want of memory
+abbrev pub IsWritten : ℕ → ℕ → Type 0
+IsWritten status result = IsAmong result (write_fault ∷ no_memory ∷ status ∷ [])
+
+-- the status of what is told of files within the limits, of which a class is run
+abbrev pub IsVerdictStatus : ℕ → Type 0
+IsVerdictStatus status = IsAmong status (0 ∷ 1 ∷ 2 ∷ 3 ∷ 75 ∷ [])
 
 -- the status is that of USAGE exactly where the words give no job
 abbrev pub TellsUsage : List (List ℕ) → ℕ → Type 0

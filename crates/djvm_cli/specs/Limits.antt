@@ -1,6 +1,7 @@
--- The limits on the files of a job, and the first that is passed.
+-- The limits on the files and the input of a job, and the first that is passed.
 use Rattle.std.specs.Prelude.{◌≡◌, ℕ, ◌+◌, ◌<◌, ◌≤◌, List, ◌∷◌, ◌++◌, length, sum_by}
 use Rattle.std.specs.List.{AllByRecursion}
+use Rattle.dj_names.specs.declared.run.Thresholds.{Thresholds}
 use Rattle.dj_edge.specs.Held.{File}
 
 abbrev pub most_files : ℕ
@@ -11,6 +12,13 @@ most_file_bytes = 4194304
 
 abbrev pub most_total_bytes : ℕ
 most_total_bytes = 67108864
+
+abbrev pub most_input_bytes : ℕ
+most_input_bytes = 1048576
+
+-- what a run may be charged
+abbrev pub default_thresholds : Thresholds
+default_thresholds = record { alloc = 67108864; invoke = 1000000; jump = 1000000; throw = 1000000 }
 
 -- the bytes of the files together
 abbrev pub total_bytes : List File → ℕ

@@ -18,4 +18,4 @@ abbrev pub IsNext : File → ℕ → NextFile → Type 0
 IsNext file total (next_files.Read read) = source_view read ≡ file
 IsNext file total (next_files.Passed limits.File) = most_file_bytes < length file.1
 IsNext file total (next_files.Passed limits.Total) = (length file.1 ≤ most_file_bytes) × (most_total_bytes < total + length file.1)
-IsNext file total (next_files.Passed limits.FileCount) = ⊥
+IsNext file total (next_files.Passed _) = ⊥

@@ -10,7 +10,9 @@ use Rattle.djvm_cli.specs.declared.load.Loaded.{Loaded}
 use Rattle.djvm_cli.specs.declared.load.Loaded.TheVariants as loads
 use Rattle.dj_report.specs.declared.report.Limit.TheVariants as limits
 use Rattle.djvm_cli.specs.Limits.{most_files, AreWithin, IsFirstPast, IsTooLong, IsTooMuch}
+use Rattle.djvm_cli.specs.Report.{class_paths}
 use Rattle.djvm_cli.specs.Views.{source_view}
+use Rattle.dj_edge.specs.InMemory.{String}
 
 -- the store's count didn't fall, and rose where a fault stopped the step
 abbrev pub Counted : {T : Type 0} → ℕ → ℕ → Result T Stop → Type 0
@@ -20,6 +22,10 @@ Counted before now _ = before ≤ now
 -- the files of these paths
 abbrev pub files_at : Held → List (List ℕ) → List File
 files_at held paths = map (λ path. (path, unwrap_or (bytes_at held path) [])) paths
+
+-- the paths are those of the folder's class files, in order
+abbrev pub ArePathsOf : List ℕ → List String → Held → Type 0
+ArePathsOf folder paths held = map string_bytes paths ≡ class_paths folder held
 
 -- the paths of the folder's class files in order, or there are too many of them
 abbrev pub IsListed : List ℕ → Held → Listing → Type 0
@@ -42,4 +48,4 @@ abbrev pub IsLoaded : List File → Loaded → Type 0
 IsLoaded files (loads.Files read) = map source_view read.items ≡ files
 IsLoaded files (loads.Passed limits.File) = IsFirstPast IsTooLong files
 IsLoaded files (loads.Passed limits.Total) = IsFirstPast IsTooMuch files
-IsLoaded files (loads.Passed limits.FileCount) = ⊥
+IsLoaded files (loads.Passed _) = ⊥

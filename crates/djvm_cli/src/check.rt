@@ -25,7 +25,7 @@ fn cut_folder<'a>(folder: &str, file: &'a SourceFile) -> PathFile<'a>
 }
 
 /// The files under their paths within the folder.
-fn cut_folders<'a>(
+pub fn cut_folders<'a>(
     alloc: Global,
     folder: &str,
     files: &'a [SourceFile],
@@ -44,7 +44,7 @@ fn cut_folders<'a>(
 }
 
 /// The report that the file of this path is not read yet.
-fn later(alloc: Global, path: &str) -> Result<Report, RulesError>
+pub fn later(alloc: Global, path: &str) -> Result<Report, RulesError>
     ensures { IfOk result (λ report. report ≡ Later path.now) }
 {
     match Name::from_slice(alloc, path.as_bytes()) {

@@ -1,17 +1,24 @@
-ghost use Rattle.std.specs.Prelude.{◌≡◌, ◌≢◌, ◌∷◌, List, map, IfOk, IfSome, string_bytes};
+ghost use Rattle.std.specs.Prelude.{◌≡◌, ◌≢◌, ◌≤◌, ◌∷◌, ℕ, List, Some, length, map, All, IsTrue, IfOk, IfErr, IfSome, string_bytes};
 ghost use Rattle.std.specs.Io.KnownBytes.{Appends};
-ghost use Rattle.dj_edge.specs.Held.{class_files};
+ghost use Rattle.dj_edge.specs.Held.{bytes_at, is_class_path};
 ghost use Rattle.dj_edge.specs.Counts.{Rose, GrowsByFront};
+ghost use Rattle.dj_report.specs.declared.report.Report.TheVariants.{Absent};
 ghost use Rattle.dj_report.specs.Text.{report_text, report_status};
-ghost use Rattle.djvm_cli.specs.Report.{IsReportOf, files_within};
-ghost use Rattle.djvm_cli.specs.Ends.{IsStatus, read_fault, write_fault, no_memory, IsRight, Finished, ReadFault, WriteFault, OutOfMemory, AsksInOrder, WritesFront, TellsUsage};
-ghost use Rattle.djvm_cli.specs.Steps.{Counted};
+ghost use Rattle.djvm_cli.specs.declared.load.Stop.TheVariants.{Memory};
+ghost use Rattle.djvm_cli.specs.Job.{Check, Verify, job_of};
+ghost use Rattle.djvm_cli.specs.Entry.{entry_name};
+ghost use Rattle.djvm_cli.specs.Limits.{most_files, most_input_bytes};
+ghost use Rattle.djvm_cli.specs.Report.{IsReportOf, IsInputReport, IsFewReport, IsRunReport, files_within, class_paths};
+ghost use Rattle.djvm_cli.specs.Ends.{IsStatus, IsReportStatus, IsWritten, read_fault, write_fault, no_memory, IsRight, Finished, ReadEnds, WriteFault, OutOfMemory, AsksInOrder, WritesFront, TellsUsage};
+ghost use Rattle.djvm_cli.specs.Steps.{Counted, ArePathsOf};
 
 use crate::check::check;
-use crate::load::{Listing, Loaded, Stop, list_paths, read_files};
+use crate::load::{Input, Listing, Loaded, Stop, list_paths, read_files, read_input};
 use crate::rules::RulesError;
+use crate::verify::verify;
 use crate::words::{Command, command_of};
 use dj_edge::{Files, Host, Sink, SinkError, put_all};
+use dj_names::Name;
 use dj_report::{Limit, Report, bytes_of, status_of};
 use std::alloc::Global;
 
@@ -20,9 +27,9 @@ fn report_on<F: Files>(alloc: Global, folder: &str, files: &mut F) -> Result<Rep
     ensures held { F.held files.new ≡ F.held files.old }
     ensures counts { Counted (F.faults files.old) (F.faults files.new) result }
     ensures asks { IfSome (F.held files.old) (λ h.
-        GrowsByFront (F.asked files.old) (F.asked files.new) (folder.now ∷ map (λ file. file.0) (class_files folder.now h))) }
+        GrowsByFront (F.asked files.old) (F.asked files.new) (folder.now ∷ class_paths folder.now h)) }
     ensures right { IfOk result (λ report. IfSome (F.held files.old) (λ h. IsReportOf (files_within folder.now h) report)) }
-    ensures job { IfOk result (λ report. report_status report ≢ 64) }
+    ensures status { IfOk result (λ report. IsReportStatus (Some (Check folder.now)) (F.held files.old) (report_status report)) }
 {
     let paths = match list_paths(alloc, files, folder) {
         Ok(Listing::Paths(paths)) => paths,
@@ -40,6 +47,98 @@ fn report_on<F: Files>(alloc: Global, folder: &str, files: &mut F) -> Result<Rep
     }
 }
 
+/// The report on a run of the class on an input that is short, where these are the folder's class files.
+fn report_on_input<F: Files>(
+    alloc: Global,
+    folder: &str,
+    entry: &str,
+    input: &[u8],
+    paths: &[String],
+    files: &mut F,
+) -> Result<Report, Stop>
+    requires theirs { IfSome (F.held files.old) (ArePathsOf folder.now paths.now) }
+    requires few { length paths.now ≤ most_files }
+    requires class_paths { All (λ path. IsTrue (is_class_path folder.now (string_bytes path))) paths.now }
+    requires input { length input.now ≤ most_input_bytes }
+    ensures held { F.held files.new ≡ F.held files.old }
+    ensures counts { Counted (F.faults files.old) (F.faults files.new) result }
+    ensures asks { GrowsByFront (F.asked files.old) (F.asked files.new) (map string_bytes paths.now) }
+    ensures right { IfOk result (λ report. IfSome (F.held files.old) (λ h.
+        IsInputReport (files_within folder.now h) (entry_name entry.now) input.now report)) }
+    ensures status { (path : List ℕ) → IfOk result (λ report. IsReportStatus (Some (Verify folder.now entry.now path)) (F.held files.old) (report_status report)) }
+{
+    let sources = match read_files(alloc, files, paths) {
+        Ok(Loaded::Files(sources)) => sources,
+        Ok(Loaded::Passed(limit)) => return Ok(Report::Limited(limit)),
+        Err(stop) => return Err(stop),
+    };
+    match verify(alloc, folder, &sources, entry, input) {
+        Ok(report) => Ok(report),
+        Err(RulesError::Memory) => Err(Stop::Memory),
+    }
+}
+
+/// The report on a run of the class on the input of the path, where these are the folder's class files.
+fn report_on_paths<F: Files>(
+    alloc: Global,
+    folder: &str,
+    entry: &str,
+    path: &str,
+    paths: &[String],
+    files: &mut F,
+) -> Result<Report, Stop>
+    requires theirs { IfSome (F.held files.old) (ArePathsOf folder.now paths.now) }
+    requires few { length paths.now ≤ most_files }
+    requires class_paths { All (λ path. IsTrue (is_class_path folder.now (string_bytes path))) paths.now }
+    ensures held { F.held files.new ≡ F.held files.old }
+    ensures counts { Counted (F.faults files.old) (F.faults files.new) result }
+    ensures asks { GrowsByFront (F.asked files.old) (F.asked files.new) (path.now ∷ map string_bytes paths.now) }
+    ensures right { IfOk result (λ report. IfSome (F.held files.old) (λ h.
+        IsFewReport (files_within folder.now h) (entry_name entry.now) path.now (bytes_at h path.now) report)) }
+    ensures status { IfOk result (λ report. IsReportStatus (Some (Verify folder.now entry.now path.now)) (F.held files.old) (report_status report)) }
+{
+    match read_input(alloc, files, path) {
+        Ok(Input::Bytes(input)) => report_on_input(alloc, folder, entry, &input, paths, files),
+        Ok(Input::Absent) => absent(alloc, path),
+        Ok(Input::TooLong) => Ok(Report::Limited(Limit::Input)),
+        Err(stop) => Err(stop),
+    }
+}
+
+/// The report on a run of the class on the input of the path.
+fn report_on_run<F: Files>(
+    alloc: Global,
+    folder: &str,
+    entry: &str,
+    path: &str,
+    files: &mut F,
+) -> Result<Report, Stop>
+    ensures held { F.held files.new ≡ F.held files.old }
+    ensures counts { Counted (F.faults files.old) (F.faults files.new) result }
+    ensures asks { IfSome (F.held files.old) (λ h.
+        GrowsByFront (F.asked files.old) (F.asked files.new) (folder.now ∷ path.now ∷ class_paths folder.now h)) }
+    ensures right { IfOk result (λ report. IfSome (F.held files.old) (λ h.
+        IsRunReport (files_within folder.now h) (entry_name entry.now) path.now (bytes_at h path.now) report)) }
+    ensures status { IfOk result (λ report. IsReportStatus (Some (Verify folder.now entry.now path.now)) (F.held files.old) (report_status report)) }
+{
+    match list_paths(alloc, files, folder) {
+        Ok(Listing::Paths(paths)) => report_on_paths(alloc, folder, entry, path, &paths, files),
+        Ok(Listing::TooMany) => Ok(Report::Limited(Limit::FileCount)),
+        Err(stop) => Err(stop),
+    }
+}
+
+/// The report that the file of this path isn't there.
+fn absent(alloc: Global, path: &str) -> Result<Report, Stop>
+    ensures absent { IfOk result (λ report. report ≡ Absent path.now) }
+    ensures no_fault { IfErr result (λ stop. stop ≡ Memory) }
+{
+    match Name::from_slice(alloc, path.as_bytes()) {
+        Ok(path) => Ok(Report::Absent(path)),
+        Err(_) => Err(Stop::Memory),
+    }
+}
+
 /// The report of the job that the words ask for.
 fn report_of<F: Files>(alloc: Global, words: &[String], files: &mut F) -> Result<Report, Stop>
     ensures held { F.held files.new ≡ F.held files.old }
@@ -47,19 +146,26 @@ fn report_of<F: Files>(alloc: Global, words: &[String], files: &mut F) -> Result
     ensures asks { AsksInOrder (map string_bytes words.now) (F.held files.old) (F.asked files.old) (F.asked files.new) }
     ensures right { IfOk result (IsRight (map string_bytes words.now) (F.held files.old)) }
     ensures usage { IfOk result (λ report. TellsUsage (map string_bytes words.now) (report_status report)) }
+    ensures status { IfOk result (λ report. IsReportStatus (job_of (map string_bytes words.now)) (F.held files.old) (report_status report)) }
 {
     match command_of(words) {
         Some(Command::Check { folder }) => report_on(alloc, folder, files),
+        Some(
+            Command::Verify {
+                folder,
+                entry,
+                input,
+            },
+        ) => report_on_run(alloc, folder, entry, input, files),
         None => Ok(Report::Usage),
     }
 }
 
 /// Writes the report and answers the status.
 fn write_report<S: Sink>(alloc: Global, report: &Report, sink: &mut S) -> u8
-    ensures statuses { IsStatus result }
+    ensures statuses { IsWritten (report_status report.now) result }
     ensures finished { result ≢ write_fault → result ≢ no_memory → Appends (S.written sink.old) (S.written sink.new) (report_text report.now) }
     ensures status { result ≢ write_fault → result ≢ no_memory → result ≡ report_status report.now }
-    ensures no_read_fault { result ≢ read_fault }
     ensures write_fault { result ≡ write_fault → Rose (S.faults sink.old) (S.faults sink.new) }
     ensures broken { WritesFront (S.written sink.old) (S.written sink.new) (report_text report.now) }
 {
@@ -82,7 +188,7 @@ pub fn djvm<F: Files, H: Host, S: Sink>(
     host: &mut H,
     sink: &mut S,
 ) -> u8
-    ensures statuses { IsStatus result }
+    ensures statuses { IsStatus (map string_bytes words.now) result }
 
     // The right report is written, and the status is its; else the store failed, the sink failed, or there was no memory.
     ensures finished { result ≢ read_fault → result ≢ write_fault → result ≢ no_memory
@@ -90,7 +196,8 @@ pub fn djvm<F: Files, H: Host, S: Sink>(
     ensures usage { result ≢ read_fault → result ≢ write_fault → result ≢ no_memory
         → TellsUsage (map string_bytes words.now) result }
     ensures read_fault { result ≡ read_fault
-        → ReadFault (F.faults files.old) (F.faults files.new) (S.written sink.old) (S.written sink.new) }
+        → ReadEnds (map string_bytes words.now) (F.held files.old)
+        (F.faults files.old) (F.faults files.new) (S.written sink.old) (S.written sink.new) }
     ensures write_fault { result ≡ write_fault
         → WriteFault (map string_bytes words.now) (F.held files.old)
         (S.faults sink.old) (S.faults sink.new) (S.written sink.old) (S.written sink.new) }

@@ -3,6 +3,7 @@ ghost use Rattle.dj_edge.specs.Held.{bytes_at};
 ghost use Rattle.dj_edge.specs.Counts.{GrowsByFront};
 ghost use Rattle.djvm_cli.specs.Limits.{most_total_bytes};
 ghost use Rattle.djvm_cli.specs.Steps.{Counted, IsListed, AreClassPaths, AreRead, IsLoaded, files_at};
+ghost use Rattle.djvm_cli.specs.Inputs.{IsShortInput, IsAbsentWhereTold, IsReadInput};
 ghost use Rattle.djvm_cli.specs.Next.{IsNextRead, IsNext};
 
 use dj_edge::{Files, ListError, ReadError};
@@ -43,6 +44,17 @@ pub enum Loaded {
     Passed(Limit),
 }
 
+/// What reading the input found.
+#[derive(Debug, Drop)]
+pub enum Input {
+    /// Its bytes.
+    Bytes(Vec<u8>),
+    /// There is no such file.
+    Absent,
+    /// It has more than 1,048,576 bytes.
+    TooLong,
+}
+
 /// What reading one more file found.
 #[derive(Debug, Drop)]
 enum NextFile {
@@ -53,6 +65,8 @@ enum NextFile {
 }
 
 const MOST_FILES: u32 = 4_096;
+
+const MOST_INPUT_BYTES: u64 = 1_048_576;
 
 const MOST_FILE_BYTES: u64 = 4_194_304;
 
@@ -78,6 +92,25 @@ pub fn list_paths<F: Files>(alloc: Global, files: &mut F, folder: &str) -> Resul
     match paths.sort() {
         Ok(()) => Ok(Listing::Paths(paths)),
         Err(_) => Err(Stop::Memory),
+    }
+}
+
+/// Reads the input of the path.
+pub fn read_input<F: Files>(alloc: Global, files: &mut F, path: &str) -> Result<Input, Stop>
+    ensures held { F.held files.new ≡ F.held files.old }
+    ensures counts { Counted (F.faults files.old) (F.faults files.new) result }
+    ensures asks { GrowsByFront (F.asked files.old) (F.asked files.new) (path.now ∷ []) }
+    ensures asked { OnOk result (F.asked files.new ≡ F.asked files.old ++ path.now ∷ []) }
+    ensures short { IfOk result IsShortInput }
+    ensures absent { IfOk result (IsAbsentWhereTold (F.held files.old)) }
+    ensures told { IfSome (F.held files.old) (λ h. IfOk result (IsReadInput (bytes_at h path.now))) }
+{
+    match files.read(alloc, path, MOST_INPUT_BYTES) {
+        Ok(bytes) => Ok(Input::Bytes(bytes)),
+        Err(ReadError::Absent) => Ok(Input::Absent),
+        Err(ReadError::TooLong) => Ok(Input::TooLong),
+        Err(ReadError::Failed) => Err(Stop::Fault),
+        Err(ReadError::Memory) => Err(Stop::Memory),
     }
 }
 

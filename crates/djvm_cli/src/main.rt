@@ -4,15 +4,22 @@
 mod check;
 mod clock_host;
 mod djvm;
+mod entry;
 mod folder_files;
 mod laws;
 mod listing;
 mod load;
+mod machine;
 mod out_sink;
+mod program;
 mod rules;
+mod run_rules;
+mod shape;
+mod straight;
 #[cfg(test)]
 mod tests;
 mod unbuilt;
+mod verify;
 mod walk;
 mod words;
 

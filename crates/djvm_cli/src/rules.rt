@@ -7,7 +7,7 @@ ghost use Rattle.djvm_cli.specs.Views.{path_file_view};
 pub mod faults;
 mod lines;
 mod members;
-mod named;
+pub mod named;
 #[cfg(test)]
 pub mod tests;
 mod whole;
@@ -35,6 +35,16 @@ impl From<NoMemory> for RulesError {
     ghost from_gives = { λ _ e. e ≡ Memory };
 
     fn from(_error: NoMemory) -> RulesError {
+        RulesError::Memory
+    }
+}
+
+impl From<dj_ops::NoMemory> for RulesError {
+    ghost use Rattle.djvm_cli.specs.declared.rules.RulesError.TheVariants.{Memory};
+
+    ghost from_gives = { λ _ e. e ≡ Memory };
+
+    fn from(_error: dj_ops::NoMemory) -> RulesError {
         RulesError::Memory
     }
 }

@@ -1,5 +1,7 @@
 ghost use Rattle.std.specs.Prelude.{◌<◌};
 
+mod runs;
+
 use crate::djvm::djvm;
 use crate::rules::tests::NATIVE;
 use dj_edge::{MemFiles, MemHost, MemSink, Order, paths_differ};
@@ -8,7 +10,7 @@ use std::process::Abort;
 use std::test::Fail;
 
 // The class A, whose one method returns its argument.
-const A: [u8; 106] = [
+pub const A: [u8; 106] = [
     0xca, 0xfe, 0xba, 0xbe, 0x00, 0x00, 0x00, 0x34, 0x00, 0x08, 0x01, 0x00, 0x01, 0x41, 0x07, 0x00,
     0x01, 0x01, 0x00, 0x10, 0x6a, 0x61, 0x76, 0x61, 0x2f, 0x6c, 0x61, 0x6e, 0x67, 0x2f, 0x4f, 0x62,
     0x6a, 0x65, 0x63, 0x74, 0x07, 0x00, 0x03, 0x01, 0x00, 0x06, 0x76, 0x65, 0x72, 0x69, 0x66, 0x79,
@@ -20,17 +22,21 @@ const A: [u8; 106] = [
 
 // What a call is given: the words, the files, which call of the store fails, and how many bytes the sink takes.
 #[derive(Clone, Copy)]
-struct Case<'a> {
-    words: &'a [&'a str],
-    files: &'a [(&'a str, &'a [u8])],
-    order: Order,
-    failing: u64,
-    room: u64,
+pub struct Case<'a> {
+    pub words: &'a [&'a str],
+    pub files: &'a [(&'a str, &'a [u8])],
+    pub order: Order,
+    pub failing: u64,
+    pub room: u64,
 }
 
-const NO_CALL: u64 = 99;
+pub const NO_CALL: u64 = 99;
 
-fn end_of<R: Abort>(rt: &R, alloc: Global, case: &Case<'_>) -> Result<(u8, Vec<u8>), AllocError> {
+pub fn end_of<R: Abort>(
+    rt: &R,
+    alloc: Global,
+    case: &Case<'_>,
+) -> Result<(u8, Vec<u8>), AllocError> {
     let mut words = Vec::new(alloc);
     for word in case.words {
         words.push(String::from_str(alloc, word)?)?;
@@ -53,12 +59,15 @@ fn end_of<R: Abort>(rt: &R, alloc: Global, case: &Case<'_>) -> Result<(u8, Vec<u
 
 #[test]
 fn words_of_no_job(rt: HostRuntime) -> Result<(), Fail> {
-    let rows: [&[&str]; 5] = [
+    let rows: [&[&str]; 8] = [
         &[],
         &["check"],
         &["check", "-x"],
         &["check", "a", "b"],
-        &["verify", "c"],
+        &["verify", "c", "A"],
+        &["verify", "c", "A", "-in"],
+        &["verify", "c", "A", "in", "more"],
+        &["check", "c", "A", "in"],
     ];
     for words in rows {
         let (status, text) = end_of(

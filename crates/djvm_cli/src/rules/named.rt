@@ -8,8 +8,8 @@ use std::alloc::Global;
 // The units of .class
 const SUFFIX: [u16; 6] = [46, 99, 108, 97, 115, 115];
 
-// The UTF-16 units of a path.
-fn units_of_path(alloc: Global, path: &str) -> Result<Vec<u16>, RulesError>
+/// The UTF-16 units of a path.
+pub fn units_of_path(alloc: Global, path: &str) -> Result<Vec<u16>, RulesError>
     ensures { IfOk result (λ units. units.items ≡ path_units path.now) }
 {
     let mut units = Vec::new(alloc);

@@ -1,0 +1,23 @@
+use Rattle.std.proofs.Common.{arith}
+use Rattle.std.proofs.lemmas.Option.{MatchOption-at_none, MatchOption-at_some}
+use Rattle.dj_model.specs.Shape.{IsShapeFault}
+use Rattle.djvm_cli.specs.Methods.{code_view, straight_signature}
+use Rattle.djvm_cli.specs.Shaped.{IsShaped}
+use Rattle.djvm_cli.proofs.Lines.{on_ok}
+use Rattle.djvm_cli.proofs.RunRules.{adds_fault, adds_no_fault}
+use Rattle.djvm_cli.proofs.run_rules.add_shape_line.Goals as goal
+
+pub shape_fault-requires : goal.shape_fault-requires
+shape_fault-requires c = omega (arith, c.requires, c.args.method.now.actions.ok.0)
+
+pub returns-in-Some-clause-lines : goal.returns-in-Some-clause-lines
+returns-in-Some-clause-lines c =
+    on_ok c.add_shape_fault.result
+    (adds_fault c.args.path.now c.args.method.now c.in-Some.number c.args.out.now.items c.add_shape_fault.new.out.items
+    (MatchOption-at_some (IsShaped c.args.method.now) (IsShapeFault straight_signature (code_view c.args.method.now)) c.in-Some.number c.in-Some.is c.in_ok-number.ensures))
+    c.add_shape_fault.ensures
+
+pub returns-in-None-clause-lines : goal.returns-in-None-clause-lines
+returns-in-None-clause-lines c =
+    adds_no_fault c.args.path.now c.args.method.now c.args.out.now.items
+    (MatchOption-at_none (IsShaped c.args.method.now) (IsShapeFault straight_signature (code_view c.args.method.now)) c.in-None.is c.in_ok-number.ensures)

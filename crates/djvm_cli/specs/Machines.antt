@@ -1,0 +1,36 @@
+-- The machine's parts as the model has them.
+use Rattle.std.specs.Prelude.{◌≡◌, ◌^◌, ◌<◌, ⊤, [], length, Option, Some, None, codes}
+use Rattle.dj_names.specs.declared.run.Element.TheVariants as elements
+use Rattle.dj_names.specs.declared.run.Value.TheVariants as values
+use Rattle.dj_model.specs.Instructions.{Instruction}
+use Rattle.dj_model.specs.Effects as model
+use Rattle.dj_model.specs.Effects.{Part, Effect, effect, goes}
+use Rattle.djvm_cli.specs.declared.machine.heap.Found.{Found}
+use Rattle.djvm_cli.specs.declared.machine.heap.Found.TheVariants as founds
+use Rattle.djvm_cli.specs.declared.machine.parts.Machine.{Machine}
+use Rattle.djvm_cli.specs.declared.machine.parts.Progress.{Progress}
+use Rattle.djvm_cli.specs.declared.machine.parts.Progress.TheVariants as ways
+
+abbrev pub found_view : Found → model.Found
+found_view founds.Null = model.Null
+found_view founds.NoArray = model.NoArray
+found_view (founds.Bytes bytes) = model.IsArray (codes "[B") elements.Byte bytes.now
+
+abbrev pub IsShort : Found → Type 0
+IsShort (founds.Bytes bytes) = length bytes.now < 2 ^ 31
+IsShort _ = ⊤
+
+abbrev pub machine_view : Machine → Part
+machine_view m = record { locals = m.locals.items; operands = m.operands; heap = m.heap; statics = []; literals = [] }
+
+-- the effect that is told so, of an instruction from the one state to the other
+abbrev pub told : Part → Part → Progress → Option Effect
+told before after ways.Next = Some (goes after model.Next)
+told before after (ways.Raises raised) = Some (goes before (model.Raise raised))
+told before after (ways.Returns reference) = Some (goes after (model.Back (Some (values.Ref reference))))
+told before after ways.Broken = Some (goes before model.Broken)
+told before after ways.IllFormed = None
+
+-- the instruction has the effect that is told so
+abbrev pub Does : Instruction → Part → Part → Progress → Type 0
+Does i before after way = effect None i before ≡ told before after way

@@ -1,0 +1,27 @@
+use crate::machine::heap::Heap;
+use crate::machine::operands::Operands;
+use dj_names::{Raised, Value};
+
+/// What the instructions of a run change: the local variables, the operands and the heap.
+#[derive(Debug, Drop)]
+pub struct Machine {
+    /// One without a value has none.
+    pub locals: Vec<Option<Value>>,
+    pub operands: Operands,
+    pub heap: Heap,
+}
+
+/// How a run goes on after an instruction.
+#[derive(Clone, Copy, Debug, PartialEq, Eq)]
+pub enum Progress {
+    /// At the next one.
+    Next,
+    /// With this exception.
+    Raises(Raised),
+    /// This reference is returned.
+    Returns(u32),
+    /// Not at all: a reference is of no array.
+    Broken,
+    /// Not at all: the instruction doesn't find what it takes.
+    IllFormed,
+}
