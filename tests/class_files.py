@@ -1,6 +1,9 @@
 """Makes small class files whose pools hold texts and class names alone (JVMS 4.1 to 4.7)."""
 
+PUBLIC = 0x0001
+STATIC = 0x0008
 NATIVE = 0x0100
+INTERFACE = 0x0200
 ABSTRACT = 0x0400
 
 OBJECT = "java/lang/Object"
@@ -104,9 +107,16 @@ def class_file(
     return u4(magic) + u2(minor) + u2(major) + pool.bytes() + body + end
 
 
-def code(body=b"\xb1", max_stack=0, max_locals=1):
-    """A Code attribute without exception rows and attributes; alone it is `return`."""
-    return ("Code", u2(max_stack) + u2(max_locals) + u4(len(body)) + body + u2(0) + u2(0))
+def code(body=b"\xb1", max_stack=0, max_locals=1, handlers=(), listed=b"\0\0"):
+    """A Code attribute; alone it is `return`. A handler is (start, end, handler, type); `listed` is the table of its own
+    attributes, whose names are indexes of the pool."""
+    rows = b"".join(u2(number) for handler in handlers for number in handler)
+    return ("Code", u2(max_stack) + u2(max_locals) + u4(len(body)) + body + u2(len(handlers)) + rows + listed)
+
+
+def straight(body, max_stack=4, max_locals=4, name="verify", flags=PUBLIC | STATIC, **more):
+    """A static method from an array of bytes to one with this code."""
+    return (name, "([B)[B", flags, [code(body, max_stack, max_locals, **more)])
 
 
 def native(name, descriptor="()V"):

@@ -1,8 +1,9 @@
 #!/usr/bin/env python3
 """Makes the folders of tests/cases anew.
 
-The class files come from class_files.py. The expected output and status of each case are those of reference.py, a small
-reference checker that was written from the description of the command and not from the program.
+The class files come from class_files.py, and the cases of `djvm verify` from verify_cases.py. The expected output and
+status of each case are those of reference.py, a small reference implementation that was written from the description of
+the commands and not from the program.
 
 A case is a folder with `files/`, in which the program is run, `words`, one a line (an empty line is an empty word),
 `stdout` and `status`. An empty `.keep` makes a folder exist; it is no class file.
@@ -15,6 +16,7 @@ import sys
 
 sys.dont_write_bytecode = True
 
+import verify_cases
 from class_files import (
     ABSTRACT,
     NATIVE,
@@ -523,6 +525,8 @@ def write(path, data):
 
 
 def main():
+    for name, made in verify_cases.found.items():
+        case(name, *made)
     shutil.rmtree(CASES, ignore_errors=True)
     for name, (files, words, folders) in cases.items():
         top = os.path.join(CASES, name)

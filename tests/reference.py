@@ -1,8 +1,10 @@
 #!/usr/bin/env python3
-"""A small reference checker: what `djvm check FOLDER` must write, and its exit status.
+"""A small reference implementation: what `djvm check FOLDER` and `djvm verify FOLDER ENTRY INPUT` must write, and the exit
+status.
 
-It was written from the description of the command and from the JVM Specification SE 8, chapter 4, and shares nothing with
-the program. tests/make_cases.py takes the expected output of each case from it. It can stand in for the program:
+It was written from the description of the commands and from the JVM Specification SE 8, chapters 4 and 6, and shares
+nothing with the program. tests/make_cases.py takes the expected output of each case from it. It can stand in for the
+program:
 
     DJVM=tests/reference.py tests/run
 """
@@ -14,12 +16,19 @@ import sys
 MOST_FILES = 4096
 MOST_BYTES = 4194304
 MOST_TOTAL = 67108864
+MOST_INPUT = 1048576
 MOST_ENTRIES = 1048576
 MOST_LEVELS = 64
 
-REJECTED, LIMIT, USAGE, FAULT, SINK, LATER = 2, 7, 64, 65, 66, 75
+EXCEPTION, REJECTED, THRESHOLD, LIMIT, USAGE, FAULT, SINK, LATER = 1, 2, 3, 7, 64, 65, 66, 75
 
-RULES = {1: "MALFORMED", 2: "VERSION", 3: "NAME", 7: "NATIVE", 8: "FINALIZER"}
+RULES = {1: "MALFORMED", 2: "VERSION", 3: "NAME", 7: "NATIVE", 8: "FINALIZER", 19: "SHAPE", 20: "ENTRY"}
+
+# What a run may be charged for its arrays.
+MOST_ALLOC = 67108864
+
+# Flags of classes and methods.
+STATIC, NATIVE, INTERFACE, ABSTRACT = 0x0008, 0x0100, 0x0200, 0x0400
 
 # Entries of these tags aren't read yet.
 UNBUILT = (3, 4, 5, 6, 8, 9, 10, 11, 12, 15, 16, 18)
@@ -124,25 +133,11 @@ def is_array(text):
 # Class files (JVMS 4.1 to 4.7).
 
 
-class ClassFile:
+class Reader:
+    """Reads bytes from left to right."""
+
     def __init__(self, data):
         self.data, self.at = data, 0
-        if self.number(4) != 0xCAFEBABE:
-            raise Malformed
-        self.minor, self.major = self.number(2), self.number(2)
-        self.read_pool()
-        self.flags = self.number(2)
-        self.this_class = self.class_name(self.number(2))
-        super_class = self.number(2)
-        if super_class != 0:
-            self.class_name(super_class)
-        for _ in range(self.number(2)):
-            self.class_name(self.number(2))
-        self.fields = self.members(is_unqualified, is_field_descriptor)
-        self.methods = self.members(is_method_name, is_method_descriptor)
-        self.attributes()
-        if self.at != len(data):
-            raise Malformed
 
     def bytes(self, length):
         if self.at + length > len(self.data):
@@ -152,6 +147,28 @@ class ClassFile:
 
     def number(self, length):
         return int.from_bytes(self.bytes(length), "big")
+
+    def end(self):
+        if self.at != len(self.data):
+            raise Malformed
+
+
+class ClassFile(Reader):
+    def __init__(self, data):
+        super().__init__(data)
+        if self.number(4) != 0xCAFEBABE:
+            raise Malformed
+        self.minor, self.major = self.number(2), self.number(2)
+        self.read_pool()
+        self.flags = self.number(2)
+        self.this_class = self.class_name(self.number(2))
+        super_class = self.number(2)
+        self.super_class = self.class_name(super_class) if super_class != 0 else None
+        self.interfaces = [self.class_name(self.number(2)) for _ in range(self.number(2))]
+        self.fields = self.members(is_unqualified, is_field_descriptor)
+        self.methods = self.members(is_method_name, is_method_descriptor)
+        self.attributes()
+        self.end()
 
     def read_pool(self):
         count = self.number(2)
@@ -200,34 +217,38 @@ class ClassFile:
             descriptor = self.text(self.number(2))
             if not is_descriptor(descriptor):
                 raise Malformed
-            self.attributes()
-            found.append((flags, name, descriptor))
+            found.append(Member(flags, name, descriptor, self.attributes()))
         return found
 
     def attributes(self):
-        for _ in range(self.number(2)):
-            self.text(self.number(2))
-            self.bytes(self.number(4))
+        """The name and the body of each attribute."""
+        return [(self.text(self.number(2)), self.bytes(self.number(4))) for _ in range(self.number(2))]
 
 
-# The rules. A line is a path, a member (empty for none), and a rule's number.
+class Member:
+    def __init__(self, flags, name, descriptor, attributes):
+        self.flags, self.name, self.descriptor, self.attributes = flags, name, descriptor, attributes
+
+
+# The rules that are judged of every set. A line is a path, a member (empty for none), an instruction's number (-1 for
+# none), and a rule's number.
 
 
 def lines_of(path, data):
     try:
         view = ClassFile(data)
     except Malformed:
-        return {(path, b"", 1)}
+        return {(path, b"", -1, 1)}
     lines = set()
     if view.major not in (50, 51, 52):
-        lines.add((path, b"", 2))
+        lines.add((path, b"", -1, 2))
     if utf16(path.decode("utf-8")) != units_of(view.this_class) + utf16(".class"):
-        lines.add((path, b"", 3))
-    for flags, name, descriptor in view.methods:
-        if flags & 0x0100:
-            lines.add((path, name + descriptor, 7))
-        if name == b"finalize" and descriptor == b"()V":
-            lines.add((path, name + descriptor, 8))
+        lines.add((path, b"", -1, 3))
+    for method in view.methods:
+        if method.flags & NATIVE:
+            lines.add((path, method.name + method.descriptor, -1, 7))
+        if method.name == b"finalize" and method.descriptor == b"()V":
+            lines.add((path, method.name + method.descriptor, -1, 8))
     return lines
 
 
@@ -246,6 +267,304 @@ def is_unbuilt(data):
     return False
 
 
+# Straight sets: at most one class, whose methods are static and straight code from an array of bytes to one.
+
+
+class NotStraight(Exception):
+    """The set needs more than straight code."""
+
+
+class StraightClass:
+    def __init__(self, view):
+        is_plain = not view.flags & INTERFACE and view.super_class == b"java/lang/Object"
+        is_reserved = view.this_class.startswith((b"sandbox/", b"java/", b"javax/"))
+        if not is_plain or is_reserved or view.interfaces or view.fields:
+            raise NotStraight
+        self.name = view.this_class
+        self.methods = {method.name: straight_code(view, method) for method in view.methods}
+        if len(self.methods) != len(view.methods):
+            raise NotStraight
+
+
+def straight_code(view, method):
+    """The code of a method of a straight class."""
+    bodies = [body for name, body in method.attributes if name == b"Code"]
+    is_plain = method.descriptor == b"([B)[B" and not method.name.startswith(b"<")
+    if not is_plain or method.flags & (STATIC | NATIVE | ABSTRACT) != STATIC or len(bodies) != 1:
+        raise NotStraight
+    try:
+        return Code(bodies[0], view.texts)
+    except Malformed:
+        raise NotStraight
+
+
+class Code(Reader):
+    """The body of a Code attribute (JVMS 4.7.3) without handlers and stack map, all of it straight instructions."""
+
+    def __init__(self, body, texts):
+        super().__init__(body)
+        self.max_stack, self.max_locals = self.number(2), self.number(2)
+        length = self.number(4)
+        if not 1 <= length <= 65535:
+            raise Malformed
+        code = self.bytes(length)
+        handlers = [self.bytes(8) for _ in range(self.number(2))]
+        # The name of an attribute in here may be no text.
+        attributes = [(texts.get(self.number(2)), self.bytes(self.number(4))) for _ in range(self.number(2))]
+        self.end()
+        if handlers or any(name == b"StackMapTable" for name, _ in attributes):
+            raise NotStraight
+        self.instructions = straight_instructions(code)
+
+
+# Straight instructions (JVMS 6.5). An instruction is a word and the values or places that it names.
+
+INT, REFERENCE = "int", "reference"
+
+COMPUTED = {
+    96: lambda a, b: a + b,
+    100: lambda a, b: a - b,
+    104: lambda a, b: a * b,
+    126: lambda a, b: a & b,
+    128: lambda a, b: a | b,
+    130: lambda a, b: a ^ b,
+}
+OTHERS = {0: "nop", 51: "baload", 84: "bastore", 87: "pop", 89: "dup", 176: "areturn", 190: "arraylength"}
+
+# The first opcode of the four short forms of loads and stores, and the opcode with a slot of one byte.
+SHORT = {26: ("load", INT), 42: ("load", REFERENCE), 59: ("store", INT), 75: ("store", REFERENCE)}
+LONG = {21: ("load", INT), 25: ("load", REFERENCE), 54: ("store", INT), 58: ("store", REFERENCE)}
+
+
+def straight_instructions(code):
+    reader, found = Reader(code), []
+    while reader.at < len(code):
+        found.append(straight_instruction(reader))
+    return found
+
+
+def straight_instruction(reader):
+    op = reader.number(1)
+    if op in OTHERS:
+        return (OTHERS[op],)
+    if op in COMPUTED:
+        return "compute", COMPUTED[op]
+    if op == 1:
+        return "push", None
+    if 2 <= op <= 8:
+        return "push", op - 3
+    if op in (16, 17):
+        return "push", int.from_bytes(reader.bytes(op - 15), "big", signed=True)
+    if op in LONG:
+        return *LONG[op], reader.number(1)
+    for first, form in SHORT.items():
+        if first <= op <= first + 3:
+            return *form, op - first
+    if op == 188 and reader.number(1) == 8:
+        return ("newarray",)
+    raise NotStraight
+
+
+# The shape of straight code: the kinds in the local variables and on the operands before each instruction.
+
+NO_KIND = "none"
+
+# What an instruction takes, the top last, and what it gives.
+TAKES = {
+    "baload": ([REFERENCE, INT], [INT]),
+    "bastore": ([REFERENCE, INT, INT], []),
+    "compute": ([INT, INT], [INT]),
+    "areturn": ([REFERENCE], []),
+    "newarray": ([INT], [REFERENCE]),
+    "arraylength": ([REFERENCE], [INT]),
+}
+
+
+class Fault(Exception):
+    """An instruction doesn't find what it takes, or what it gives doesn't fit."""
+
+
+class Kinds:
+    def __init__(self, code):
+        self.max_stack = code.max_stack
+        self.slots = [REFERENCE] + [NO_KIND] * (code.max_locals - 1)
+        self.stack = []
+
+    def take(self, kinds):
+        if len(self.stack) < len(kinds) or self.stack[len(self.stack) - len(kinds) :] != kinds:
+            raise Fault
+        del self.stack[len(self.stack) - len(kinds) :]
+
+    def give(self, kinds):
+        self.stack += kinds
+        if len(self.stack) > self.max_stack:
+            raise Fault
+
+    def check_slot(self, slot):
+        if slot >= len(self.slots):
+            raise Fault
+
+    def go(self, word, *operands):
+        """Goes on to the state after this instruction."""
+        if word == "push":
+            self.give([REFERENCE if operands[0] is None else INT])
+        elif word == "load":
+            kind, slot = operands
+            self.check_slot(slot)
+            if self.slots[slot] != kind:
+                raise Fault
+            self.give([kind])
+        elif word == "store":
+            kind, slot = operands
+            self.take([kind])
+            self.check_slot(slot)
+            self.slots[slot] = kind
+        elif word in ("pop", "dup"):
+            if not self.stack:
+                raise Fault
+            kind = self.stack[-1]
+            self.take([kind])
+            self.give([kind, kind] if word == "dup" else [])
+        elif word in TAKES:
+            takes, gives = TAKES[word]
+            self.take(takes)
+            self.give(gives)
+
+
+def shape_fault(code):
+    """The number of the first instruction that fails, or None."""
+    if code.max_locals < 1:
+        return 0
+    kinds, last = Kinds(code), len(code.instructions) - 1
+    for number, instruction in enumerate(code.instructions):
+        # The run comes here from the instruction before, which must not return, and must not leave the code's end.
+        is_reached = number == 0 or code.instructions[number - 1][0] != "areturn"
+        try:
+            kinds.go(*instruction)
+        except Fault:
+            return number
+        if not is_reached or (number == last and instruction[0] != "areturn"):
+            return number
+    return None
+
+
+def straight_lines(path, straight, entry):
+    """The lines of a straight set by the rules that are judged of such a set alone."""
+    lines = set()
+    if straight is not None:
+        for name, code in straight.methods.items():
+            number = shape_fault(code)
+            if number is not None:
+                lines.add((path, name + b"([B)[B", number, 19))
+    if straight is None or straight.name != entry or b"verify" not in straight.methods:
+        lines.add((entry + b".class", b"", -1, 20))
+    return lines
+
+
+# Runs of straight code that has shape. Values are ints, None for null, and arrays of bytes.
+
+
+class Threw(Exception):
+    """The class of an exception that left the method."""
+
+
+class Stopped(Exception):
+    """A charge passed what a run may be charged."""
+
+
+class Machine:
+    def __init__(self, code, argument):
+        self.instructions = code.instructions
+        self.slots = {0: argument}
+        self.stack = []
+        self.alloc = 0
+
+    def run(self):
+        for word, *operands in self.instructions:
+            if word == "areturn":
+                return self.stack.pop()
+            getattr(self, "do_" + word)(*operands)
+
+    def do_nop(self):
+        pass
+
+    def do_push(self, value):
+        self.stack.append(value)
+
+    def do_load(self, _, slot):
+        self.stack.append(self.slots[slot])
+
+    def do_store(self, _, slot):
+        self.slots[slot] = self.stack.pop()
+
+    def do_pop(self):
+        self.stack.pop()
+
+    def do_dup(self):
+        self.stack.append(self.stack[-1])
+
+    def do_compute(self, operation):
+        right, left = self.stack.pop(), self.stack.pop()
+        self.stack.append(signed(operation(left, right), 32))
+
+    def do_newarray(self):
+        length = self.stack.pop()
+        if length < 0:
+            raise Threw("java/lang/NegativeArraySizeException")
+        self.alloc += 16 + (length + 7) // 8 * 8
+        if self.alloc > MOST_ALLOC:
+            raise Stopped
+        self.stack.append(bytearray(length))
+
+    def do_arraylength(self):
+        self.stack.append(len(self.pop_array()))
+
+    def do_baload(self):
+        index, array = self.stack.pop(), self.pop_array()
+        check_index(array, index)
+        self.stack.append(signed(array[index], 8))
+
+    def do_bastore(self):
+        value, index, array = self.stack.pop(), self.stack.pop(), self.pop_array()
+        check_index(array, index)
+        array[index] = value & 0xFF
+
+    def pop_array(self):
+        array = self.stack.pop()
+        if array is None:
+            raise Threw("java/lang/NullPointerException")
+        return array
+
+
+def check_index(array, index):
+    if not 0 <= index < len(array):
+        raise Threw("java/lang/ArrayIndexOutOfBoundsException")
+
+
+def signed(number, bits):
+    """The number of so many bits, with a sign, that a whole number wraps to."""
+    return (number + (1 << bits - 1)) % (1 << bits) - (1 << bits - 1)
+
+
+def run_report(code, data):
+    machine = Machine(code, bytearray(data))
+    try:
+        outcome, status = ok_line(machine.run()), 0
+    except Threw as threw:
+        outcome, status = b"EXCEPTION %s null\n" % str(threw).encode(), EXCEPTION
+    except Stopped:
+        outcome, status = b"THRESHOLD alloc\n", THRESHOLD
+    return outcome + b"costs alloc %d invoke 0 jump 0 throw 0\n" % machine.alloc, status
+
+
+def ok_line(result):
+    if result is None:
+        return b"OK null\n"
+    if not result:
+        return b"OK 0\n"
+    return b"OK %d %s\n" % (len(result), result.hex().encode())
+
+
 # The report.
 
 
@@ -254,36 +573,116 @@ def escaped(text):
 
 
 def spelled(line):
-    path, member, rule = line
-    return b"%s %s - %d %s\n" % (escaped(path), escaped(member) or b"-", rule, RULES[rule].encode())
+    path, member, number, rule = line
+    place = b"-" if number < 0 else b"%d" % number
+    return b"%s %s %s %d %s\n" % (escaped(path), escaped(member) or b"-", place, rule, RULES[rule].encode())
+
+
+def rejected(lines):
+    return b"REJECTED %d\n" % len(lines) + b"".join(spelled(line) for line in sorted(lines)), REJECTED
+
+
+def later(path):
+    return b"LATER %s\n" % escaped(path), LATER
+
+
+class Decided(Exception):
+    """A report that is decided before all has been looked at: its text and status."""
 
 
 def report(words):
     """What is written, and the status."""
-    if len(words) != 2 or words[0] != "check" or words[1].startswith("-"):
+    commands = {"check": (1, check), "verify": (3, verify)}
+    count, command = commands.get(words[0], (0, None)) if words else (0, None)
+    if command is None or len(words) != count + 1 or any(word.startswith("-") for word in words):
         return b"USAGE\n", USAGE
-    folder = words[1][:-1] if words[1].endswith("/") else words[1]
+    try:
+        return command(*words[1:])
+    except Decided as decided:
+        return decided.args
+
+
+def check(folder):
+    folder = without_slash(folder)
+    files = class_files(folder, listed(folder))
+    lines = first_lines(files)
+    if lines:
+        return rejected(lines)
+    return b"ACCEPTED %d\n" % len(files), 0
+
+
+def verify(folder, entry, input_path):
+    folder, entry = without_slash(folder), modified_utf8(entry.replace(".", "/"))
+    paths = listed(folder)
+    data = read(input_path.encode(), MOST_INPUT)
+    if len(data) > MOST_INPUT:
+        return b"LIMIT input %d\n" % MOST_INPUT, LIMIT
+    files = class_files(folder, paths)
+    lines = first_lines(files)
+    if lines:
+        return rejected(lines)
+    if len(files) > 1:
+        return later(files[0][0])
+    path, straight = None, None
+    for path, bytes_of_class in files:
+        try:
+            straight = StraightClass(ClassFile(bytes_of_class))
+        except NotStraight:
+            return later(path)
+    lines = straight_lines(path, straight, entry)
+    if lines:
+        return rejected(lines)
+    return run_report(straight.methods[b"verify"], data)
+
+
+def without_slash(folder):
+    return folder[:-1] if folder.endswith("/") else folder
+
+
+def modified_utf8(text):
+    """A name's modified UTF-8 (JVMS 4.4.7)."""
+    spelled_units = bytearray()
+    for unit in utf16(text):
+        if 0 < unit < 0x80:
+            spelled_units.append(unit)
+        elif unit < 0x800:
+            spelled_units += bytes([0xC0 | unit >> 6, 0x80 | unit & 0x3F])
+        else:
+            spelled_units += bytes([0xE0 | unit >> 12, 0x80 | unit >> 6 & 0x3F, 0x80 | unit & 0x3F])
+    return bytes(spelled_units)
+
+
+def listed(folder):
+    """The paths of the class files within the folder, in order."""
     paths = class_paths(folder)
     if len(paths) > MOST_FILES:
-        return b"LIMIT files %d\n" % MOST_FILES, LIMIT
+        raise Decided(b"LIMIT files %d\n" % MOST_FILES, LIMIT)
+    return sorted(paths)
+
+
+def class_files(folder, paths):
+    """The path and the bytes of each file."""
     files, total = [], 0
-    for path in sorted(paths):
-        data = read(folder.encode() + b"/" + path)
+    for path in paths:
+        data = read(folder.encode() + b"/" + path, MOST_BYTES)
         if len(data) > MOST_BYTES:
-            return b"LIMIT file %d\n" % MOST_BYTES, LIMIT
+            raise Decided(b"LIMIT file %d\n" % MOST_BYTES, LIMIT)
         total += len(data)
         if total > MOST_TOTAL:
-            return b"LIMIT total %d\n" % MOST_TOTAL, LIMIT
+            raise Decided(b"LIMIT total %d\n" % MOST_TOTAL, LIMIT)
         files.append((path, data))
+    return files
+
+
+def first_lines(files):
+    """The lines by the rules that are judged of every set."""
     for path, data in files:
         if is_unbuilt(data):
-            return b"LATER %s\n" % escaped(path), LATER
+            raise Decided(*later(path))
     lines = set()
     for path, data in files:
         lines |= lines_of(path, data)
-    if lines:
-        return b"REJECTED %d\n" % len(lines) + b"".join(spelled(line) for line in sorted(lines)), REJECTED
-    return b"ACCEPTED %d\n" % len(files), 0
+    return lines
 
 
 # The folder. Links are followed. FOLDER is no level deep, a folder right in it one level.
@@ -312,6 +711,8 @@ def class_paths(folder):
                     raise Failed
                 waiting.append((inside + name + b"/", level + 1))
             elif name.endswith(b".class"):
+                if not stat.S_ISREG(mode):
+                    raise Failed
                 found.append(inside + name)
     return found
 
@@ -324,10 +725,11 @@ def is_utf8(name):
     return True
 
 
-def read(path):
+def read(path, most):
+    """The bytes of a file, or the first ones and one more than `most`."""
     try:
         with open(path, "rb") as file:
-            return file.read(MOST_BYTES + 1)
+            return file.read(most + 1)
     except OSError:
         raise Failed
 
