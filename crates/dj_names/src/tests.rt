@@ -1,5 +1,6 @@
 use super::*;
 use std::alloc::Global;
+use std::process::Abort;
 use std::test::*;
 
 #[test]
@@ -43,6 +44,29 @@ fn texts(rt: HostRuntime) -> Result<(), Fail> {
     Ok(())
 }
 
+// Whether the text is a field's, a method's and an array's.
+fn describes<R: Abort>(rt: &R, text: &[u8], wanted: (bool, bool, bool)) {
+    let found = (
+        is_field_descriptor(text),
+        is_method_descriptor(text),
+        is_array_descriptor(text),
+    );
+    assert_eq!(rt; found, wanted);
+}
+
+// Whether the text is read as a field's and as a method's.
+fn reads<R: Abort>(rt: &R, alloc: Global, text: &[u8], field: bool, method: bool) {
+    let found = match read_desc(alloc, text) {
+        Ok(Desc::Field(_)) => (true, false),
+        Ok(Desc::Method { .. }) => (false, true),
+        Err(error) => {
+            assert_eq!(rt; error, DescError::NotADescriptor);
+            (false, false)
+        }
+    };
+    assert_eq!(rt; found, (field, method));
+}
+
 #[test]
 fn descriptors(rt: HostRuntime) {
     // the text, and whether it is a field's, a method's and an array's
@@ -70,17 +94,8 @@ fn descriptors(rt: HostRuntime) {
         (b"(V)V", false, false, false),
     ];
     for (text, field, method, array) in rows {
-        assert_eq!(rt; is_field_descriptor(text), field);
-        assert_eq!(rt; is_method_descriptor(text), method);
-        assert_eq!(rt; is_array_descriptor(text), array);
-        match read_desc(rt.alloc(), text) {
-            Ok(Desc::Field(_)) => assert!(rt; field),
-            Ok(Desc::Method { .. }) => assert!(rt; method),
-            Err(error) => {
-                assert_eq!(rt; error, DescError::NotADescriptor);
-                assert!(rt; !field && !method);
-            }
-        }
+        describes(&rt, text, (field, method, array));
+        reads(&rt, rt.alloc(), text, field, method);
     }
     one_descriptor();
 }
@@ -138,26 +153,40 @@ fn limits(rt: HostRuntime) -> Result<(), Fail> {
     Ok(())
 }
 
+fn has_bytes<R: Abort>(rt: &R, bytes: &[u8], wanted: &[u8]) {
+    assert_eq!(rt; bytes, wanted);
+}
+
 #[test]
-fn lists(rt: HostRuntime) -> Result<(), Fail> {
+fn names_grow(rt: HostRuntime) -> Result<(), Fail> {
     let alloc = rt.alloc();
     let mut name = Name::from_slice(alloc, b"ab")?;
     name.push(b'c')?;
     name.extend(b"de")?;
-    assert_eq!(rt; name.as_slice(), b"abcde".as_slice());
-    assert!(rt; Name::new(alloc).as_slice().is_empty());
-    assert_eq!(rt;
-        Name::from(b"xy".to_vec(alloc)?).as_slice(),
-        b"xy".as_slice()
-    );
-    assert_eq!(rt;
-        Bytes::from(b"xy".to_vec(alloc)?).as_slice(),
-        b"xy".as_slice()
-    );
-    let mut units = Units::from_slice(alloc, &[1])?;
+    has_bytes(&rt, name.as_slice(), b"abcde");
+    has_bytes(&rt, Name::new(alloc).as_slice(), b"");
+    Ok(())
+}
+
+#[test]
+fn lists_of_vectors(rt: HostRuntime) -> Result<(), Fail> {
+    let alloc = rt.alloc();
+    has_bytes(&rt, Name::from(b"xy".to_vec(alloc)?).as_slice(), b"xy");
+    has_bytes(&rt, Bytes::from(b"xy".to_vec(alloc)?).as_slice(), b"xy");
+    Ok(())
+}
+
+#[test]
+fn units_grow(rt: HostRuntime) -> Result<(), Fail> {
+    let mut units = Units::from_slice(rt.alloc(), &[1])?;
     units.push(65535)?;
     assert_eq!(rt; units.as_slice(), [1, 65535].as_slice());
-    let mut types = Tys::new(alloc);
+    Ok(())
+}
+
+#[test]
+fn types_grow(rt: HostRuntime) -> Result<(), Fail> {
+    let mut types = Tys::new(rt.alloc());
     types.push(Ty {
         dims: 0,
         of: Of::Base(Base::Double),
