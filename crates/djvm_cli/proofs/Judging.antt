@@ -9,9 +9,10 @@ use Rattle.dj_report.specs.declared.report.PathFile.{PathFile}
 use Rattle.dj_report.specs.declared.report.Report.{Report}
 use Rattle.dj_report.specs.declared.report.Report.TheVariants as reports
 use Rattle.djvm_cli.specs.Limits.{most_file_bytes, total_bytes, AreWithin}
-use Rattle.djvm_cli.specs.Report.{AreJudged, AreSound, IsFirstUnbuilt, IsLater, IsReportOf, IsVerdict, within_folder}
+use Rattle.dj_rules.specs.Built.{IsFirstUnbuilt}
+use Rattle.djvm_cli.specs.Report.{AreJudged, AreSound, IsLater, IsReportOf, IsVerdict, within_folder}
 use Rattle.djvm_cli.specs.Straight.{IsNotStraight}
-use Rattle.djvm_cli.specs.Views.{path_file_view}
+use Rattle.dj_rules.specs.Views.{path_file_view}
 use Rattle.djvm_cli.proofs.Loading.{All-unmap}
 
 pub short_files : (files : List PathFile) → AreJudged (map path_file_view files) → All (λ file. length file.bytes.now < 2 ^ 32) files

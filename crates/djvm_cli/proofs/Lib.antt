@@ -9,10 +9,6 @@ pub mod Reporting
 pub mod RunReporting
 pub mod Same
 pub mod Shaping
-pub mod Lines
-pub mod Judged
-pub mod Named
-pub mod Faulty
 pub mod EachOnce
 pub mod RunRules
 pub mod Entries

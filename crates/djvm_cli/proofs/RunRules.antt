@@ -12,15 +12,15 @@ use Rattle.dj_report.specs.declared.report.Violation.{Violation}
 use Rattle.djvm_cli.specs.declared.program.StraightMethod.{StraightMethod}
 use Rattle.djvm_cli.specs.declared.program.StraightClass.{StraightClass}
 use Rattle.djvm_cli.specs.Entry.{has_entry, AreRunViolations, IsEntryLine, IsShapeLine, IsShapeLineOf}
-use Rattle.djvm_cli.specs.Lines.{Adds, IsLineAmong}
+use Rattle.dj_rules.specs.Lines.{Adds, IsLineAmong}
 use Rattle.djvm_cli.specs.Methods.{code_view, method_view, program_view, straight_signature}
 use Rattle.djvm_cli.specs.Running.{IsRunnable}
 use Rattle.djvm_cli.proofs.Straights.{are_runnable}
 use Rattle.djvm_cli.specs.Shaped.{shape_line, AreTold, AreShaped, AreShort, IsShaped}
 use Rattle.djvm_cli.specs.Straight.{IsStraightSet}
-use Rattle.djvm_cli.specs.Views.{path_file_view}
-use Rattle.djvm_cli.specs.Violations.{file_line}
-use Rattle.djvm_cli.proofs.Lines.{adds_same, adds_nothing, adds_both, contains_none, contains_map, from_contains_map}
+use Rattle.dj_rules.specs.Views.{path_file_view}
+use Rattle.dj_rules.specs.Violations.{file_line}
+use Rattle.dj_rules.proofs.Adding.{adds_same, adds_nothing, adds_both, contains_none, contains_map, from_contains_map}
 
 -- ---- the entry
 

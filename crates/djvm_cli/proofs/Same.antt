@@ -21,8 +21,9 @@ use Rattle.djvm_cli.specs.Straight.{IsStraightSet}
 use Rattle.djvm_cli.specs.Entry.{entry_name, entry_method, AreRunViolations}
 use Rattle.djvm_cli.proofs.Straights.{one_program}
 use Rattle.djvm_cli.specs.Limits.{most_files, most_file_bytes, most_total_bytes, most_input_bytes, default_thresholds, total_bytes, AreWithin, IsFirstPast, IsTooLong, IsTooMuch}
-use Rattle.djvm_cli.specs.Report.{IsBuilt, IsFirstUnbuilt, AreSound, IsFirstPath, IsLater, AreJobViolations, IsRun, IsInput, IsTooLongInput, IsReportOf, IsVerdict, IsInputReport, IsFewReport, IsRunReport, IsJobReport, files_within}
-use Rattle.djvm_cli.specs.Violations.{AreViolations}
+use Rattle.dj_rules.specs.Built.{IsBuilt, IsFirstUnbuilt}
+use Rattle.djvm_cli.specs.Report.{AreSound, IsFirstPath, IsLater, AreJobViolations, IsRun, IsInput, IsTooLongInput, IsReportOf, IsVerdict, IsInputReport, IsFewReport, IsRunReport, IsJobReport, files_within}
+use Rattle.dj_rules.specs.Violations.{AreViolations}
 use Rattle.djvm_cli.specs.OneReport.{HasOneReport, HasOneEnd}
 
 -- ---- two places of one list

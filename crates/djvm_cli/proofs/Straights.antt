@@ -18,9 +18,9 @@ use Rattle.djvm_cli.specs.declared.program.StraightMethod.{StraightMethod}
 use Rattle.djvm_cli.specs.declared.program.StraightClass.{StraightClass}
 use Rattle.djvm_cli.specs.Methods.{straight_descriptor, action_view, code_view, method_view, class_view, program_view, object_name}
 use Rattle.djvm_cli.specs.Straight.{bodies_of, IsStraightCode, IsStraightBody, HasStraightCode, IsStraightMethod, AreStraightMethods, IsStraightClass, IsStraightFile, IsStraightSet}
-use Rattle.djvm_cli.specs.Views.{path_file_view}
+use Rattle.dj_rules.specs.Views.{path_file_view}
 use Rattle.dj_report.specs.declared.report.PathFile.{PathFile}
-use Rattle.djvm_cli.specs.Violations.{this_name}
+use Rattle.dj_rules.specs.Violations.{this_name}
 use Rattle.djvm_cli.specs.Entry.{entry_method}
 use Rattle.djvm_cli.specs.Running.{PushesNull, IsRunnable, AreRunnable}
 use Rattle.djvm_cli.proofs.PushedNulls.{all_push_null}

@@ -7,7 +7,7 @@ use Rattle.dj_edge.specs.Held.{File}
 use Rattle.dj_model.specs.Program.{Program, Class, Method, Code, Runs, MethodName, class_at, method_in, runs_static}
 use Rattle.dj_model.specs.Shape.{IsShapeFault}
 use Rattle.djvm_cli.specs.Methods.{straight_descriptor, straight_signature}
-use Rattle.djvm_cli.specs.Violations.{file_line, path_units}
+use Rattle.dj_rules.specs.Violations.{file_line, path_units}
 
 -- each dot is taken as a slash
 abbrev pub with_slashes : List ℕ → List ℕ

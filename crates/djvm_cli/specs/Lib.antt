@@ -1,6 +1,5 @@
 pub mod Job
 pub mod Limits
-pub mod Violations
 pub mod Methods
 pub mod Straight
 pub mod Entry
@@ -18,5 +17,3 @@ pub mod Views
 pub mod Steps
 pub mod Next
 pub mod Inputs
-pub mod Lines
-pub mod Faults

@@ -5,7 +5,6 @@ use Rattle.std.specs.List.{AllByRecursion}
 use Rattle.dj_names.specs.declared.run.Outcome.{Outcome}
 use Rattle.dj_names.specs.declared.run.Costs.{Costs}
 use Rattle.dj_edge.specs.Held.{File, Held, class_files, bytes_at}
-use Rattle.dj_class.specs.Unbuilt.{IsUnbuiltAt}
 use Rattle.dj_report.specs.declared.report.Report.{Report}
 use Rattle.dj_report.specs.declared.report.Report.TheVariants as reports
 use Rattle.dj_report.specs.declared.report.Limit.TheVariants as limits
@@ -16,7 +15,8 @@ use Rattle.djvm_cli.specs.Job.{Job, Check, Verify, job_of}
 use Rattle.djvm_cli.specs.Limits.{most_files, most_input_bytes, default_thresholds, AreWithin, IsFirstPast, IsTooLong, IsTooMuch}
 use Rattle.djvm_cli.specs.Straight.{IsStraightSet, IsNotStraight}
 use Rattle.djvm_cli.specs.Entry.{entry_name, entry_method, AreRunViolations}
-use Rattle.djvm_cli.specs.Violations.{AreViolations}
+use Rattle.dj_rules.specs.Built.{IsBuilt, IsFirstUnbuilt}
+use Rattle.dj_rules.specs.Violations.{AreViolations}
 
 -- the file under its path within the folder
 abbrev pub within_folder : List ℕ → File → File
@@ -25,21 +25,6 @@ within_folder folder file = (drop (length folder + 1) file.0, file.1)
 -- the class files of the folder, by their paths within it
 abbrev pub files_within : List ℕ → Held → List File
 files_within folder held = map (within_folder folder) (class_files folder held)
-
--- no constant of the file's pool is one that is not read yet
-abbrev pub IsBuilt : File → Type 0
-IsBuilt file = (place : ℕ) → IsUnbuiltAt file.1 place → ⊥
-
--- the first file that has a constant that is not read yet has this path
-pub record IsFirstUnbuilt (files : List File) (path : List ℕ) : Type 0 where
-  pub front : List File
-  pub file : File
-  pub rest : List File
-  pub place : ℕ
-  pub parts : files ≡ front ++ file ∷ rest
-  pub before : AllByRecursion IsBuilt front
-  pub unbuilt : IsUnbuiltAt file.1 place
-  pub path_is : path ≡ file.0
 
 -- the files are so few and so short that they are judged
 pub record AreJudged (files : List File) : Type 0 where

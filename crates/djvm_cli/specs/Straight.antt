@@ -11,7 +11,7 @@ use Rattle.dj_class.specs.Code.{CodeInfo, IsCode}
 use Rattle.dj_model.specs.Instructions.{instruction_of}
 use Rattle.dj_model.specs.Program.{Program, Class, Method, Code, Runs}
 use Rattle.djvm_cli.specs.Methods.{straight_descriptor, object_name}
-use Rattle.djvm_cli.specs.Violations.{this_name}
+use Rattle.dj_rules.specs.Violations.{this_name}
 
 -- the attribute at which the index names this text
 abbrev pub is_named : List Constant → List ℕ → AttributeInfo → Bool

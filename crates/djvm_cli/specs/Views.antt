@@ -1,7 +1,6 @@
 -- The program's values as the definitions see them.
 use Rattle.std.specs.Prelude.{string_bytes}
 use Rattle.dj_edge.specs.Held.{File}
-use Rattle.dj_report.specs.declared.report.PathFile.{PathFile}
 use Rattle.djvm_cli.specs.declared.words.Command.{Command}
 use Rattle.djvm_cli.specs.declared.words.Command.TheVariants as commands
 use Rattle.djvm_cli.specs.declared.load.SourceFile.{SourceFile}
@@ -15,7 +14,3 @@ job_view (commands.Verify folder entry input) = Verify folder.now entry.now inpu
 -- a file that was read, under its path
 abbrev pub source_view : SourceFile → File
 source_view file = (string_bytes file.path, file.bytes.items)
-
--- a file under its path within the folder
-abbrev pub path_file_view : PathFile → File
-path_file_view file = (file.path.now, file.bytes.now)

@@ -2,14 +2,15 @@ ghost use Rattle.std.specs.Prelude.{◌≡◌, map, All, IsTrue, IfOk, string_by
 ghost use Rattle.std.specs.List.{AllByRecursion};
 ghost use Rattle.dj_edge.specs.Held.{is_class_path};
 ghost use Rattle.dj_report.specs.declared.report.Report.TheVariants.{Later};
-ghost use Rattle.djvm_cli.specs.Report.{AreJudged, IsBuilt, IsReportOf, within_folder};
-ghost use Rattle.djvm_cli.specs.Views.{source_view, path_file_view};
+ghost use Rattle.dj_rules.specs.Built.{IsBuilt};
+ghost use Rattle.djvm_cli.specs.Report.{AreJudged, IsReportOf, within_folder};
+ghost use Rattle.djvm_cli.specs.Views.{source_view};
+ghost use Rattle.dj_rules.specs.Views.{path_file_view};
 
 use crate::load::SourceFile;
-use crate::rules::{RulesError, rules};
-use crate::unbuilt::first_unbuilt;
 use dj_names::Name;
 use dj_report::{PathFile, Report};
+use dj_rules::{RulesError, first_unbuilt, rules};
 use std::alloc::Global;
 
 /// The file under its path within the folder.

@@ -14,12 +14,12 @@ ghost use Rattle.djvm_cli.specs.Steps.{Counted, ArePathsOf};
 
 use crate::check::check;
 use crate::load::{Input, Listing, Loaded, Stop, list_paths, read_files, read_input};
-use crate::rules::RulesError;
 use crate::verify::verify;
 use crate::words::{Command, command_of};
 use dj_edge::{Files, Host, Sink, SinkError, put_all};
 use dj_names::Name;
 use dj_report::{Limit, Report, bytes_of, status_of};
+use dj_rules::RulesError;
 use std::alloc::Global;
 
 /// The report on the class files of the folder.

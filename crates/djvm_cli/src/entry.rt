@@ -5,9 +5,8 @@ ghost use Rattle.djvm_cli.specs.Entry.{entry_name};
 #[cfg(test)]
 mod tests;
 
-use crate::rules::RulesError;
-use crate::rules::named::units_of_path;
 use dj_names::{Name, NoMemory};
+use dj_rules::{RulesError, units_of_path};
 use std::alloc::Global;
 
 // A dot is taken as a slash.

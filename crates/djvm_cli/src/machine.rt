@@ -19,8 +19,8 @@ mod turns;
 mod values;
 
 use crate::program::StraightMethod;
-use crate::rules::RulesError;
 use dj_names::{Costs, Outcome, Thresholds};
+use dj_rules::RulesError;
 use first::first_machine;
 use std::alloc::Global;
 use turns::Turns;

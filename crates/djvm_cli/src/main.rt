@@ -12,13 +12,11 @@ mod load;
 mod machine;
 mod out_sink;
 mod program;
-mod rules;
 mod run_rules;
 mod shape;
 mod straight;
 #[cfg(test)]
 mod tests;
-mod unbuilt;
 mod verify;
 mod walk;
 mod words;

@@ -1,19 +1,19 @@
 ghost use Rattle.std.specs.Prelude.{◌≡◌, true, false, ◌<◌, ◌^◌, ◌++◌, [], ◌∷◌, length, map, codes, All, Contains, Some, None, IfOk, OnOk, MatchOption};
 ghost use Rattle.dj_model.specs.Program.{code_of, is_static, method_in};
 ghost use Rattle.djvm_cli.specs.Entry.{entry_method, has_entry, AreRunViolations, IsEntryLine, IsShapeLine, IsShapeLineOf};
-ghost use Rattle.djvm_cli.specs.Lines.{Adds};
+ghost use Rattle.dj_rules.specs.Lines.{Adds};
 ghost use Rattle.djvm_cli.specs.Methods.{code_view, method_view, program_view, straight_descriptor};
 ghost use Rattle.djvm_cli.specs.Shaped.{shape_line, AreTold, AreShaped, AreShort, IsTold, IsMethodOf};
-ghost use Rattle.djvm_cli.specs.Views.{path_file_view};
+ghost use Rattle.dj_rules.specs.Views.{path_file_view};
 
 #[cfg(test)]
 mod tests;
 
 use crate::program::{ACC_STATIC, DESCRIPTOR, StraightClass, StraightMethod};
-use crate::rules::RulesError;
 use crate::shape::shape_fault;
 use dj_names::Name;
 use dj_report::{PathFile, Violation, Violations, in_order};
+use dj_rules::RulesError;
 use std::alloc::Global;
 
 // The numbers of the rules SHAPE and ENTRY.

@@ -12,8 +12,8 @@ ghost use Rattle.djvm_cli.specs.Shaping.{room, HasRoomOf, SameRoom, SameLocals, 
 mod tests;
 
 use crate::program::{Action, StraightMethod};
-use crate::rules::RulesError;
 use dj_names::{Kind, Value};
+use dj_rules::RulesError;
 use std::alloc::Global;
 use std::marker::Model;
 

@@ -4,8 +4,8 @@ ghost use Rattle.dj_class.specs.Views.{class_of};
 ghost use Rattle.djvm_cli.specs.Methods.{object_name, class_view, program_view};
 ghost use Rattle.djvm_cli.specs.Running.{AreRunnable};
 ghost use Rattle.djvm_cli.specs.Straight.{is_reserved, IsPlainClass, IsStraightClass, IsStraightFile, IsNotStraight, IsStraightSet};
-ghost use Rattle.djvm_cli.specs.Violations.{this_name};
-ghost use Rattle.djvm_cli.specs.Views.{path_file_view};
+ghost use Rattle.dj_rules.specs.Violations.{this_name};
+ghost use Rattle.dj_rules.specs.Views.{path_file_view};
 ghost use Rattle.djvm_cli.specs.Finds.{Finds};
 
 mod code;
@@ -14,11 +14,10 @@ mod method;
 mod tests;
 
 use crate::program::StraightClass;
-use crate::rules::RulesError;
-use crate::rules::faults::is_memory;
 use dj_class::{ClassView, read_class};
 use dj_names::Name;
 use dj_report::PathFile;
+use dj_rules::{RulesError, is_memory};
 use method::distinct_methods;
 use std::alloc::Global;
 

@@ -3,7 +3,6 @@ ghost use Rattle.std.specs.Prelude.{◌<◌};
 mod runs;
 
 use crate::djvm::djvm;
-use crate::rules::tests::NATIVE;
 use dj_edge::{MemFiles, MemHost, MemSink, Order, paths_differ};
 use std::alloc::{AllocError, Global};
 use std::process::Abort;
@@ -20,6 +19,12 @@ pub const A: [u8; 106] = [
     0x00, 0x02, 0x2a, 0xb0, 0x00, 0x00, 0x00, 0x00, 0x00, 0x00,
 ];
 
+// The class B, which has a native n()V, and a finalize()V with code.
+const NATIVE: &[u8] =
+    b"\xca\xfe\xba\xbe\0\0\04\0\x09\x01\0\x01B\x07\0\x01\x01\0\x10java/lang/Object\x07\0\x03\x01\0\x01n\
+    \x01\0\x03()V\x01\0\x08finalize\x01\0\x04Code\0\x21\0\x02\0\x04\0\0\0\0\0\x02\x01\x01\0\x05\0\x06\0\
+    \0\0\x01\0\x07\0\x06\0\x01\0\x08\0\0\0\x0d\0\0\0\x01\0\0\0\x01\xb1\0\0\0\0\0\0";
+
 // What a call is given: the words, the files, which call of the store fails, and how many bytes the sink takes.
 #[derive(Clone, Copy)]
 pub struct Case<'a> {
@@ -32,22 +37,32 @@ pub struct Case<'a> {
 
 pub const NO_CALL: u64 = 99;
 
-pub fn end_of<R: Abort>(
-    rt: &R,
-    alloc: Global,
-    case: &Case<'_>,
-) -> Result<(u8, Vec<u8>), AllocError> {
-    let mut words = Vec::new(alloc);
-    for word in case.words {
-        words.push(String::from_str(alloc, word)?)?;
+fn words_of(alloc: Global, words: &[&str]) -> Result<Vec<String>, AllocError> {
+    let mut all = Vec::new(alloc);
+    for word in words {
+        all.push(String::from_str(alloc, word)?)?;
     }
+    Ok(all)
+}
+
+fn held_of(alloc: Global, files: &[(&str, &[u8])]) -> Result<Vec<(String, Vec<u8>)>, AllocError> {
     let mut held = Vec::new(alloc);
-    for (path, bytes) in case.files {
+    for (path, bytes) in files {
         held.push((
             String::from_str(alloc, path)?,
             Vec::from_slice(alloc, bytes)?,
         ))?;
     }
+    Ok(held)
+}
+
+pub fn end_of<R: Abort>(
+    rt: &R,
+    alloc: Global,
+    case: &Case<'_>,
+) -> Result<(u8, Vec<u8>), AllocError> {
+    let words = words_of(alloc, case.words)?;
+    let held = held_of(alloc, case.files)?;
     assert!(rt; paths_differ(&held));
     let failing = vec![in alloc; case.failing]?;
     let mut files = MemFiles::new(alloc, held, case.order, failing);

@@ -10,22 +10,23 @@ ghost use Rattle.djvm_cli.specs.Limits.{most_input_bytes, default_thresholds};
 ghost use Rattle.djvm_cli.specs.Methods.{program_view};
 ghost use Rattle.djvm_cli.specs.Straight.{IsStraightSet, IsNotStraight};
 ghost use Rattle.djvm_cli.specs.Entry.{entry_name, entry_method, has_entry};
-ghost use Rattle.djvm_cli.specs.Report.{AreJudged, AreSound, IsBuilt, IsLater, IsVerdict, within_folder};
+ghost use Rattle.dj_rules.specs.Built.{IsBuilt};
+ghost use Rattle.djvm_cli.specs.Report.{AreJudged, AreSound, IsLater, IsVerdict, within_folder};
 ghost use Rattle.djvm_cli.specs.Running.{IsStraightEnd, AreRunnable};
 ghost use Rattle.djvm_cli.specs.Shaped.{AreShaped};
 ghost use Rattle.djvm_cli.specs.Ends.{IsVerdictStatus};
-ghost use Rattle.djvm_cli.specs.Views.{source_view, path_file_view};
+ghost use Rattle.djvm_cli.specs.Views.{source_view};
+ghost use Rattle.dj_rules.specs.Views.{path_file_view};
 
 use crate::check::{cut_folders, later};
 use crate::entry::entry_name;
 use crate::load::SourceFile;
 use crate::machine::{Ending, run_method};
-use crate::rules::{RulesError, rules};
 use crate::run_rules::{entry_of, run_violations};
 use crate::straight::{StraightSet, straight_set};
-use crate::unbuilt::first_unbuilt;
 use dj_names::Thresholds;
 use dj_report::{PathFile, Report};
+use dj_rules::{RulesError, first_unbuilt, rules};
 use std::alloc::Global;
 
 // What a run may be charged.

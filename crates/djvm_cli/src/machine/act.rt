@@ -4,7 +4,7 @@ ghost use Rattle.djvm_cli.specs.Machines.{machine_view, Does};
 
 use crate::machine::parts::{Machine, Progress};
 use crate::program::Action;
-use crate::rules::RulesError;
+use dj_rules::RulesError;
 use std::alloc::Global;
 
 #[tactic(auto, unfolding(dj_model::specs::Effects::effect))]

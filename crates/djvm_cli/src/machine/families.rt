@@ -11,8 +11,8 @@ use crate::machine::heap::{Found, element};
 use crate::machine::parts::{Machine, Progress};
 use crate::machine::values::{computed, is_of_kind, last_slot, low_byte, store_local};
 use crate::program::IntOperation;
-use crate::rules::RulesError;
 use dj_names::{Kind, Raised, Value};
+use dj_rules::RulesError;
 use std::alloc::Global;
 
 #[tactic(auto, unfolding(dj_model::specs::Effects::effect))]

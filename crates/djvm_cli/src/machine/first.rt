@@ -6,8 +6,8 @@ ghost use Rattle.dj_model.specs.Metered.{input_array, input_size};
 use crate::machine::heap::Heap;
 use crate::machine::operands::Operands;
 use crate::machine::parts::Machine;
-use crate::rules::RulesError;
 use dj_names::{Bytes, Value};
+use dj_rules::RulesError;
 use std::alloc::Global;
 
 // The bytes as elements of an array.

@@ -6,7 +6,7 @@ ghost use Rattle.dj_model.specs.Effects.{array_at, array_size, element_at, with_
 ghost use Rattle.djvm_cli.specs.Arrays.{byte_array, heap_of};
 ghost use Rattle.djvm_cli.specs.Machines.{found_view, IsShort};
 
-use crate::rules::RulesError;
+use dj_rules::RulesError;
 use std::alloc::Global;
 use std::marker::Model;
 

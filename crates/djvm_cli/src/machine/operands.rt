@@ -1,8 +1,8 @@
 ghost use Rattle.std.specs.Prelude.{◌≡◌, List, [], ◌∷◌, IfSome, IfNone, OnOk};
 ghost use Rattle.dj_names.specs.declared.run.Value.{Value as RunValue};
 
-use crate::rules::RulesError;
 use dj_names::Value;
+use dj_rules::RulesError;
 use std::alloc::Global;
 use std::marker::Model;
 

@@ -18,8 +18,8 @@ use crate::machine::heap::{Found, Heap};
 use crate::machine::parts::{Machine, Progress};
 use crate::machine::pay::{Payment, pay};
 use crate::program::Action;
-use crate::rules::RulesError;
 use dj_names::{Charge, Costs, Message, Name, Outcome, Raised, Thresholds};
+use dj_rules::RulesError;
 use std::alloc::Global;
 
 /// How a run stands after an instruction.

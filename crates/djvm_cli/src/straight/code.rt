@@ -9,10 +9,9 @@ ghost use Rattle.djvm_cli.specs.Straight.{is_named, bodies_of, IsStraightCode, I
 ghost use Rattle.djvm_cli.specs.Finds.{Finds, found_code};
 
 use crate::program::{Action, action_of};
-use crate::rules::RulesError;
-use crate::rules::faults::is_memory;
 use dj_class::{Attribute, CodeView, Pool, read_code};
 use dj_ops::{Instr, read_instrs};
+use dj_rules::{RulesError, is_memory};
 use std::alloc::Global;
 
 /// Straight code.
@@ -86,13 +85,14 @@ fn straight_code(
     if !is_plain(alloc, pool, code)? {
         return Ok(None);
     }
-    match read_instrs(alloc, code.code)? {
-        Some(instrs) => Ok(Some(StraightCode {
+    match read_instrs(alloc, code.code) {
+        Ok(Some(instrs)) => Ok(Some(StraightCode {
             max_stack: code.max_stack,
             max_locals: code.max_locals,
             actions: actions_of(alloc, instrs.as_slice())?,
         })),
-        None => Ok(None),
+        Ok(None) => Ok(None),
+        Err(_) => Err(RulesError::Memory),
     }
 }
 

@@ -9,10 +9,10 @@ ghost use Rattle.djvm_cli.specs.declared.program.StraightMethod.{StraightMethod}
 ghost use Rattle.djvm_cli.specs.Finds.{Finds, methods_view};
 
 use crate::program::{ACC_STATIC, DESCRIPTOR, StraightMethod};
-use crate::rules::RulesError;
 use crate::straight::code::code_of_attributes;
 use dj_class::{MemberView, Pool};
 use dj_names::Name;
+use dj_rules::RulesError;
 use std::alloc::Global;
 use std::collections::BTreeSet;
 

@@ -1,7 +1,8 @@
 use Rattle.std.proofs.Common.{◌≡◌, map, ap, ◌∙◌}
 use Rattle.dj_report.specs.declared.report.Report.TheVariants.{Later}
 use Rattle.djvm_cli.specs.Report.{IsReportOf, within_folder}
-use Rattle.djvm_cli.specs.Views.{source_view, path_file_view}
+use Rattle.djvm_cli.specs.Views.{source_view}
+use Rattle.dj_rules.specs.Views.{path_file_view}
 use Rattle.djvm_cli.proofs.Known.{ok_so}
 use Rattle.djvm_cli.proofs.Judging.{short_files, judged_cut, later_right}
 use Rattle.djvm_cli.proofs.check.check.Goals as goal

@@ -1,7 +1,8 @@
 use Rattle.std.proofs.Common.{◌∷◌, ◌++◌, [], map, ap, sym, ◌∙◌, arith, ◌<◌, length}
 use Rattle.std.proofs.lemmas.List.{length-map, map-append}
 use Rattle.djvm_cli.specs.Report.{within_folder}
-use Rattle.djvm_cli.specs.Views.{source_view, path_file_view}
+use Rattle.djvm_cli.specs.Views.{source_view}
+use Rattle.dj_rules.specs.Views.{path_file_view}
 use Rattle.djvm_cli.proofs.Loading.{mapped_at, mapped_more}
 use Rattle.djvm_cli.proofs.check.cut_folders.Goals as goal
 

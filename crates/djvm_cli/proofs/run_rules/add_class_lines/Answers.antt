@@ -2,10 +2,10 @@ use Rattle.std.proofs.Common.{List, Option, map, subst, sym}
 use Rattle.djvm_cli.specs.declared.program.StraightMethod.{StraightMethod}
 use Rattle.djvm_cli.specs.declared.program.StraightClass.{StraightClass}
 use Rattle.djvm_cli.specs.Entry.{IsShapeLine, IsShapeLineOf}
-use Rattle.djvm_cli.specs.Lines.{Adds}
+use Rattle.dj_rules.specs.Lines.{Adds}
 use Rattle.djvm_cli.specs.Methods.{method_view, program_view}
-use Rattle.djvm_cli.specs.Views.{path_file_view}
-use Rattle.djvm_cli.proofs.Lines.{on_ok}
+use Rattle.dj_rules.specs.Views.{path_file_view}
+use Rattle.dj_rules.proofs.Adding.{on_ok}
 use Rattle.djvm_cli.proofs.RunRules.{adds_class}
 use Rattle.djvm_cli.proofs.run_rules.add_class_lines.Goals as goal
 

@@ -3,7 +3,7 @@ use Rattle.std.proofs.lemmas.Option.{MatchOption-at_none, MatchOption-at_some}
 use Rattle.dj_model.specs.Shape.{IsShapeFault}
 use Rattle.djvm_cli.specs.Methods.{code_view, straight_signature}
 use Rattle.djvm_cli.specs.Shaped.{IsShaped}
-use Rattle.djvm_cli.proofs.Lines.{on_ok}
+use Rattle.dj_rules.proofs.Adding.{on_ok}
 use Rattle.djvm_cli.proofs.RunRules.{adds_fault, adds_no_fault}
 use Rattle.djvm_cli.proofs.run_rules.add_shape_line.Goals as goal
 

@@ -2,9 +2,9 @@ use Rattle.std.proofs.Common.{All, List, subst}
 use Rattle.std.proofs.lemmas.List.{take_all}
 use Rattle.std.proofs.lemmas.List.Elements.{All-more}
 use Rattle.djvm_cli.specs.declared.program.StraightMethod.{StraightMethod}
-use Rattle.djvm_cli.specs.Lines.{Adds, IsLineAmong}
+use Rattle.dj_rules.specs.Lines.{Adds, IsLineAmong}
 use Rattle.djvm_cli.specs.Shaped.{IsTold}
-use Rattle.djvm_cli.proofs.Lines.{adds_read}
+use Rattle.dj_rules.proofs.Adding.{adds_read}
 use Rattle.djvm_cli.proofs.RunRules.{IsOwnShapeLine, adds_methods}
 use Rattle.djvm_cli.proofs.run_rules.add_shape_lines.Goals as goal
 

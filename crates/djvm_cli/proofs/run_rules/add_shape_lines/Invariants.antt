@@ -1,5 +1,5 @@
 use Rattle.std.proofs.Common.{take, All}
-use Rattle.djvm_cli.specs.Lines.{Adds, IsLineAmong}
+use Rattle.dj_rules.specs.Lines.{Adds, IsLineAmong}
 use Rattle.djvm_cli.specs.Shaped.{IsTold}
 use Rattle.djvm_cli.proofs.RunRules.{IsOwnShapeLine}
 use Rattle.djvm_cli.proofs.run_rules.add_shape_lines.Given as goal

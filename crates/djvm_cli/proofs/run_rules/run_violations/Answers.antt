@@ -2,9 +2,9 @@ use Rattle.std.proofs.Common.{List, map, subst, ◌∙◌}
 use Rattle.std.proofs.lemmas.List.{length-map}
 use Rattle.dj_report.specs.declared.report.Violation.{Violation}
 use Rattle.djvm_cli.specs.Entry.{IsShapeLineOf}
-use Rattle.djvm_cli.specs.Lines.{Adds}
+use Rattle.dj_rules.specs.Lines.{Adds}
 use Rattle.djvm_cli.specs.Methods.{program_view}
-use Rattle.djvm_cli.specs.Views.{path_file_view}
+use Rattle.dj_rules.specs.Views.{path_file_view}
 use Rattle.djvm_cli.proofs.RunRules.{all_shaped, run_lines}
 use Rattle.djvm_cli.proofs.run_rules.run_violations.Goals as goal
 

@@ -2,7 +2,7 @@ use Rattle.std.proofs.Common.{sym, ◌∙◌}
 use Rattle.dj_class.specs.Views.{class_of}
 use Rattle.djvm_cli.specs.Methods.{class_view}
 use Rattle.djvm_cli.specs.Straight.{IsStraightClass, IsStraightFile}
-use Rattle.djvm_cli.proofs.Faulty.{no_class_file}
+use Rattle.dj_rules.proofs.Faulty.{no_class_file}
 use Rattle.djvm_cli.proofs.StraightCode.{ok_finds}
 use Rattle.djvm_cli.proofs.Straights.{file_class}
 use Rattle.djvm_cli.proofs.straight.class_of_file.Goals as goal

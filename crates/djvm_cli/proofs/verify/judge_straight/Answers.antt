@@ -2,7 +2,7 @@ use Rattle.std.proofs.Common.{◌≡◌, [], map, ◌∙◌, sym, subst}
 use Rattle.std.proofs.lemmas.List.{length-map}
 use Rattle.djvm_cli.specs.Entry.{AreRunViolations}
 use Rattle.djvm_cli.specs.Methods.{program_view}
-use Rattle.djvm_cli.specs.Views.{path_file_view}
+use Rattle.dj_rules.specs.Views.{path_file_view}
 use Rattle.djvm_cli.proofs.Known.{nil_of_empty}
 use Rattle.djvm_cli.proofs.RunRules.{entry_is_there, straight_is_short, straight_is_as_many}
 use Rattle.djvm_cli.proofs.Straights.{no_initialisers}

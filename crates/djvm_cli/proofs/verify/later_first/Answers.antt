@@ -2,7 +2,7 @@ use Rattle.std.proofs.Common.{◌≡◌, ℕ, List, map, ap, ◌∙◌, sym}
 use Rattle.std.specs.Option.{option_copied}
 use Rattle.dj_report.specs.declared.report.Report.TheVariants.{Later}
 use Rattle.djvm_cli.specs.Report.{IsLater}
-use Rattle.djvm_cli.specs.Views.{path_file_view}
+use Rattle.dj_rules.specs.Views.{path_file_view}
 use Rattle.djvm_cli.proofs.Known.{ok_so}
 use Rattle.djvm_cli.proofs.Judging.{not_straight_some, later_of_first}
 use Rattle.djvm_cli.proofs.verify.later_first.Goals as goal

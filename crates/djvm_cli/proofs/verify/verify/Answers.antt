@@ -1,5 +1,6 @@
 use Rattle.std.proofs.Common.{map, ap, ◌∙◌}
-use Rattle.djvm_cli.specs.Views.{source_view, path_file_view}
+use Rattle.djvm_cli.specs.Views.{source_view}
+use Rattle.dj_rules.specs.Views.{path_file_view}
 use Rattle.djvm_cli.proofs.Judging.{short_files, judged_cut}
 use Rattle.djvm_cli.proofs.verify.verify.Goals as goal
 

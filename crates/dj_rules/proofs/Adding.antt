@@ -1,0 +1,113 @@
+-- What adding lines does to those that were found.
+use Rattle.std.proofs.Common.{◌≡◌, ℕ, zero, suc, ◌+◌, ◌<◌, ◌⊎◌, ◌↔◌, List, [], ◌∷◌, ◌++◌, map, take, length, get_or, refl, sym, ap, ◌∙◌, subst, inl, inr, arith, Contains, Result, Ok, Err, OnOk, IsPermutation, Bool, true, false}
+use Rattle.std.proofs.lemmas.List.{get_or-map, take_more, length-map}
+use Rattle.std.proofs.lemmas.List.Elements.{Contains-append_left, Contains-append_right, Contains-append_cases, Contains-push, Contains-push_cases}
+use Rattle.std.proofs.lemmas.List.Sorted.{Contains-permutation, IsPermutation-sym}
+use Rattle.dj_report.specs.declared.report.Violation.{Violation}
+use Rattle.dj_rules.specs.Lines.{Adds, IsLineAmong}
+
+-- ---- members of a list
+
+pub contains_none : {X : Type 0} (x : X) → Contains [] x → ⊥
+contains_none x (k, lt, e) = omega arith
+
+pub contains_map : {X Y : Type 0} (f : X → Y) (xs : List X) (x : X) → Contains xs x → Contains (map f xs) (f x)
+contains_map f xs x (k, lt, e) = (k, simp length-map lt, get_or-map f xs k x (f x) lt ∙ ap f e)
+
+pub from_contains_map : {X Y : Type 0} (f : X → Y) (xs : List X) (y : Y) → Contains (map f xs) y → (x : X) × Contains xs x × (f x ≡ y)
+from_contains_map f [] y (k, lt, e) = absurd (omega arith)
+from_contains_map f (x ∷ xs) y (zero, lt, e) = (x, (0, omega arith, refl), e)
+from_contains_map f (x ∷ xs) y (suc k, lt, e) =
+    let more = from_contains_map f xs y (k, omega arith, e) in
+    (more.0, Contains-append_right (x ∷ []) xs more.0 more.1, more.2)
+
+-- ---- lines that are added
+
+pub adds_same : (P Q : Violation → Type 0) (a b : List Violation) → ((v : Violation) → P v ↔ Q v) → Adds P a b → Adds Q a b
+adds_same P Q a b same adds v = (
+  λ m. elim ((adds v).0 m) [ inl old ↦ inl old | inr is ↦ inr ((same v).0 is) ],
+  λ c. (adds v).1 (elim c [ inl old ↦ inl old | inr is ↦ inr ((same v).1 is) ]),
+)
+
+pub adds_nothing : (P : Violation → Type 0) (a : List Violation) → ((v : Violation) → P v → ⊥) → Adds P a a
+adds_nothing P a none v = (λ m. inl m, λ c. elim c [ inl old ↦ old | inr is ↦ absurd (none v is) ])
+
+pub adds_both : (P Q : Violation → Type 0) (a b c : List Violation) → Adds P a b → Adds Q b c → Adds (λ v. P v ⊎ Q v) a c
+adds_both P Q a b c first second v = (
+  λ m. elim ((second v).0 m) [
+    | inl mid ↦ elim ((first v).0 mid) [ inl old ↦ inl old | inr is ↦ inr (inl is) ]
+    | inr is ↦ inr (inr is)
+  ],
+  λ any. elim any [
+    | inl old ↦ (second v).1 (inl ((first v).1 (inl old)))
+    | inr is ↦ elim is [ inl p ↦ (second v).1 (inl ((first v).1 (inr p))) | inr q ↦ (second v).1 (inr q) ]
+  ],
+)
+
+-- a line where a fact holds
+pub adds_when : (H : Type 0) (P : Violation → Type 0) (a b : List Violation) → H → Adds P a b → Adds (λ v. H × P v) a b
+adds_when H P a b h = adds_same P (λ v. H × P v) a b (λ v. (λ p. (h, p), λ hp. hp.1))
+
+pub adds_unless : (H : Type 0) (P : Violation → Type 0) (a : List Violation) → (H → ⊥) → Adds (λ v. H × P v) a a
+adds_unless H P a not_h = adds_nothing (λ v. H × P v) a (λ v hp. not_h hp.0)
+
+-- lines that were gathered apart, and put in another order
+pub adds_gathered : (P : Violation → Type 0) (a b c : List Violation) → Adds P [] b → IsPermutation b c → Adds P a (a ++ c)
+adds_gathered P a b c gathered moved v = (
+  λ m. elim (Contains-append_cases a c v m) [
+    | inl old ↦ inl old
+    | inr new ↦ elim ((gathered v).0 (Contains-permutation c b v (IsPermutation-sym b c moved) new)) [ inl none ↦ absurd (contains_none v none) | inr is ↦ inr is ]
+  ],
+  λ any. elim any [
+    | inl old ↦ Contains-append_left a c v old
+    | inr is ↦ Contains-append_right a c v (Contains-permutation b c v moved ((gathered v).1 (inr is)))
+  ],
+)
+
+-- ---- lines of parts
+
+module _ {X : Type 0} (IsOwn : X → Violation → Type 0) where
+  pub among_none : (v : Violation) → IsLineAmong IsOwn [] v → ⊥
+  among_none v (part, m, is) = contains_none part m
+
+  among_one_more : (parts : List X) (x : X) (v : Violation) → (IsLineAmong IsOwn parts v ⊎ IsOwn x v) ↔ IsLineAmong IsOwn (parts ++ x ∷ []) v
+  among_one_more parts x v = (
+    λ any. elim any [
+      | inl old ↦ (old.0, Contains-append_left parts (x ∷ []) old.0 old.1, old.2)
+      | inr is ↦ (x, Contains-push parts x, is)
+    ],
+    λ all. elim (Contains-push_cases parts x all.0 all.1) [
+      | inl old ↦ inl (all.0, old, all.2)
+      | inr e ↦ inr (subst (λ (y : X). IsOwn y v) (sym e) all.2)
+    ],
+  )
+
+  pub adds_none_yet : (parts : List X) (a : List Violation) → Adds (IsLineAmong IsOwn (take 0 parts)) a a
+  adds_none_yet parts a = adds_nothing (IsLineAmong IsOwn (take 0 parts)) a among_none
+
+  pub adds_one_more : (parts : List X) (i : ℕ) (d : X) (a b c : List Violation) → i < length parts → Adds (IsLineAmong IsOwn (take i parts)) a b → Adds (IsOwn (get_or parts i d)) b c → Adds (IsLineAmong IsOwn (take (i + 1) parts)) a c
+  adds_one_more parts i d a b c lt before this =
+      let more : Adds (IsLineAmong IsOwn (take i parts ++ get_or parts i d ∷ [])) a c =
+      adds_same (λ v. IsLineAmong IsOwn (take i parts) v ⊎ IsOwn (get_or parts i d) v) (IsLineAmong IsOwn (take i parts ++ get_or parts i d ∷ [])) a c
+      (among_one_more (take i parts) (get_or parts i d)) (adds_both (IsLineAmong IsOwn (take i parts)) (IsOwn (get_or parts i d)) a b c before this) in
+      subst (λ (xs : List X). Adds (IsLineAmong IsOwn xs) a c) (sym (take_more parts i d lt)) more
+
+  pub adds_read : (parts : List X) (i : ℕ) (x : X) (a b c : List Violation) → i < length parts → x ≡ get_or parts i x → Adds (IsLineAmong IsOwn (take i parts)) a b → Adds (IsOwn x) b c → Adds (IsLineAmong IsOwn (take (i + 1) parts)) a c
+  adds_read parts i x a b c lt is before this = adds_one_more parts i x a b c lt before (subst (λ (y : X). Adds (IsOwn y) b c) is this)
+
+-- the parts, seen
+pub among_map : {X Y : Type 0} (f : X → Y) (IsOwn : Y → Violation → Type 0) (xs : List X) (v : Violation) → IsLineAmong (λ x. IsOwn (f x)) xs v ↔ IsLineAmong IsOwn (map f xs) v
+among_map f IsOwn xs v = (
+  λ all. (f all.0, contains_map f xs all.0 all.1, all.2),
+  λ all. let seen = from_contains_map f xs all.0 all.1 in (seen.0, seen.1, subst (λ y. IsOwn y v) (sym seen.2) all.2),
+)
+
+-- ---- under the answer of a call
+
+pub not_both : (b : Bool) → b ≡ true → b ≡ false → ⊥
+not_both true t f = absurd cc
+not_both false t f = absurd cc
+
+pub on_ok : {T E A B : Type 0} (r : Result T E) → (A → B) → OnOk r A → OnOk r B
+on_ok (Ok x) f a = f a
+on_ok (Err e) f a = tt

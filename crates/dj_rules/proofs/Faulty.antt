@@ -1,0 +1,114 @@
+-- What the faults of a reader tell of a file.
+use Rattle.std.proofs.Common.{◌≡◌, ℕ, zero, suc, ◌<◌, ◌^◌, Bool, true, false, not, List, [], ◌∷◌, ◌++◌, map, take, drop, length, get_or, refl, sym, ap, ◌∙◌, subst, arith, Option, Some, None, Err, MatchBool, IfSome, unwrap_or, slice_get, option_and_then}
+use Rattle.std.specs.List.{AllByRecursion}
+use Rattle.dj_class.specs.declared.pool.PoolError.TheVariants as pool_errors
+use Rattle.dj_class.specs.declared.class.ClassError.{ClassError}
+use Rattle.dj_class.specs.declared.class.ClassError.TheVariants as class_errors
+use Rattle.dj_class.specs.ClassFile.{Constant, Utf8, Class, ClassFile, IsClassFile, IsConstant, text_of, text_at, text_index_of, constant_at}
+use Rattle.dj_class.specs.Unbuilt.{IsUnbuiltAt}
+use Rattle.dj_class.specs.Views.{ReadsClass}
+use Rattle.dj_class.proofs.TestsAre.{tests_decide}
+use Rattle.dj_class.proofs.AnswerLaws.{no_class_where_unbuilt}
+use Rattle.std.proofs.Common.{◌≤◌, All, take-append-drop, drop-cons}
+use Rattle.std.proofs.lemmas.List.{take_all, map-append}
+use Rattle.std.proofs.lemmas.List.Elements.{recursion_from_All, All-map}
+use Rattle.dj_report.specs.declared.report.PathFile.{PathFile}
+use Rattle.dj_rules.specs.Built.{IsBuilt, IsFirstUnbuilt}
+use Rattle.dj_rules.specs.Views.{path_file_view}
+use Rattle.dj_rules.specs.Faults.{is_memory, is_unbuilt}
+use Rattle.dj_rules.specs.Violations.{IsNoClassFile, this_name}
+
+-- ---- the text of a class is short
+
+constant_holds : (P : Constant → Type 0) (cs : List Constant) (i : ℕ) → AllByRecursion P cs → IfSome (slice_get cs i) P
+constant_holds P [] i h = tt
+constant_holds P (c ∷ cs) zero h = h.0
+constant_holds P (c ∷ cs) (suc i) h = constant_holds P cs i h.1
+
+short_of : (pool : List Constant) (o : Option Constant) → IfSome o (IsConstant pool) → length (unwrap_or (option_and_then text_of o) []) < 2 ^ 32
+short_of pool None h = omega arith
+short_of pool (Some (Utf8 text)) h = let short = h.0 in omega (arith, short)
+short_of pool (Some (Class index)) h = omega arith
+
+short_at : (pool : List Constant) (index : ℕ) → AllByRecursion (IsConstant pool) pool → length (unwrap_or (text_at pool index) []) < 2 ^ 32
+short_at pool zero h = omega arith
+short_at pool (suc i) h = short_of pool (slice_get pool i) (constant_holds (IsConstant pool) pool i h)
+
+short_named : (pool : List Constant) (index : Option ℕ) → AllByRecursion (IsConstant pool) pool → length (unwrap_or (option_and_then (text_at pool) index) []) < 2 ^ 32
+short_named pool None h = omega arith
+short_named pool (Some index) h = short_at pool index h
+
+pub short_name : (bytes : List ℕ) (c : ClassFile) → IsClassFile bytes c → length (this_name c) < 2 ^ 32
+short_name bytes c is = short_named c.pool (option_and_then text_index_of (constant_at c.pool c.this_class)) is.valid.pool.each
+
+-- ---- faults
+
+pub no_class_file : (bytes : List ℕ) (e : ClassError) → ReadsClass bytes (Err e) → is_memory e ≡ false → IsNoClassFile bytes
+no_class_file bytes class_errors.Magic r m = r.no_class
+no_class_file bytes (class_errors.Cut place) r m = r.no_class
+no_class_file bytes (class_errors.Pool (pool_errors.Cut place)) r m = r.no_class
+no_class_file bytes (class_errors.Pool (pool_errors.Tag place)) r m = r.no_class
+no_class_file bytes (class_errors.Pool (pool_errors.Link index)) r m = r.no_class
+no_class_file bytes (class_errors.Pool (pool_errors.Text index)) r m = r.no_class
+no_class_file bytes (class_errors.Pool pool_errors.Memory) r m = absurd cc
+no_class_file bytes (class_errors.Pool (pool_errors.Unbuilt place)) r m = λ c is. no_class_where_unbuilt tests_decide bytes c place is r
+no_class_file bytes (class_errors.Index place) r m = r.no_class
+no_class_file bytes (class_errors.Trailing place) r m = r.no_class
+no_class_file bytes class_errors.Memory r m = absurd cc
+
+-- all constants are read, or one is not
+abbrev pub BuiltIf : Bool → List ℕ → Type 0
+BuiltIf built bytes = MatchBool built ((place : ℕ) → IsUnbuiltAt bytes place → ⊥) ((place : ℕ) × IsUnbuiltAt bytes place)
+
+by_cases : (bytes : List ℕ) (e : ClassError) → ReadsClass bytes (Err e) → is_memory e ≡ false → BuiltIf (not (is_unbuilt e)) bytes
+by_cases bytes class_errors.Magic r m = r.built
+by_cases bytes (class_errors.Cut place) r m = r.built
+by_cases bytes (class_errors.Pool (pool_errors.Cut place)) r m = r.built
+by_cases bytes (class_errors.Pool (pool_errors.Tag place)) r m = r.built
+by_cases bytes (class_errors.Pool (pool_errors.Link index)) r m = r.built
+by_cases bytes (class_errors.Pool (pool_errors.Text index)) r m = r.built
+by_cases bytes (class_errors.Pool pool_errors.Memory) r m = absurd cc
+by_cases bytes (class_errors.Pool (pool_errors.Unbuilt place)) r m = (place, r)
+by_cases bytes (class_errors.Index place) r m = r.built
+by_cases bytes (class_errors.Trailing place) r m = r.built
+by_cases bytes class_errors.Memory r m = absurd cc
+
+pub built_by_fault : (bytes : List ℕ) (e : ClassError) → ReadsClass bytes (Err e) → is_memory e ≡ false → (unbuilt built : Bool) → unbuilt ≡ is_unbuilt e → built ≡ not unbuilt → BuiltIf built bytes
+built_by_fault bytes e r m unbuilt built u b = subst (λ (x : Bool). BuiltIf x bytes) (sym (b ∙ ap not u)) (by_cases bytes e r m)
+
+pub built_by_class : (bytes : List ℕ) (c : ClassFile) → IsClassFile bytes c → (place : ℕ) → IsUnbuiltAt bytes place → ⊥
+built_by_class bytes c is place u = no_class_where_unbuilt tests_decide bytes c place is u
+
+-- ---- files in a row
+
+pub all_built : (files : List PathFile) (n : ℕ) → length files ≤ n → All (λ file. IsBuilt (path_file_view file)) (take n files) → AllByRecursion IsBuilt (map path_file_view files)
+all_built files n le h =
+    recursion_from_All IsBuilt (map path_file_view files) (All-map IsBuilt path_file_view files
+    (subst (λ (xs : List PathFile). All (λ file. IsBuilt (path_file_view file)) xs) (take_all n files le) h))
+
+parts_at : (files : List PathFile) (i : ℕ) (d : PathFile) → i < length files → map path_file_view files ≡ map path_file_view (take i files) ++ path_file_view (get_or files i d) ∷ map path_file_view (drop (suc i) files)
+parts_at files i d lt =
+    ap (map path_file_view) (sym (take-append-drop i files) ∙ ap (λ (xs : List PathFile). take i files ++ xs) (drop-cons files i d lt))
+    ∙ map-append path_file_view (take i files) (get_or files i d ∷ drop (suc i) files)
+
+pub first_at : (files : List PathFile) (i : ℕ) (d : PathFile) → i < length files → All (λ file. IsBuilt (path_file_view file)) (take i files) → (place : ℕ) × IsUnbuiltAt (path_file_view (get_or files i d)).1 place → IsFirstUnbuilt (map path_file_view files) (get_or files i d).path.now
+first_at files i d lt before (place, unbuilt) = record {
+  front = map path_file_view (take i files);
+  file = path_file_view (get_or files i d);
+  rest = map path_file_view (drop (suc i) files);
+  place = place;
+  parts = parts_at files i d lt;
+  before = recursion_from_All IsBuilt (map path_file_view (take i files)) (All-map IsBuilt path_file_view (take i files) before);
+  unbuilt = unbuilt;
+  path_is = refl;
+}
+
+-- ---- what a test tells
+
+pub told_true : (b : Bool) (P Q : Type 0) → b ≡ true → MatchBool b P Q → P
+told_true true P Q e h = h
+told_true false P Q e h = absurd cc
+
+pub told_false : (b : Bool) (P Q : Type 0) → b ≡ false → MatchBool b P Q → Q
+told_false true P Q e h = absurd cc
+told_false false P Q e h = h

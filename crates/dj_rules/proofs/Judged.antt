@@ -1,0 +1,86 @@
+-- The lines of a class file and of a file, as the functions gather them.
+use Rattle.std.proofs.Common.{◌≡◌, ℕ, ◌≤◌, ◌⊎◌, ◌↔◌, List, [], map, take, length, sym, subst, inl, inr, Contains}
+use Rattle.dj_report.specs.declared.report.Violation.{Violation}
+use Rattle.dj_class.specs.declared.class.MemberView.{MemberView}
+use Rattle.dj_class.specs.ClassFile.{Constant, MemberInfo, ClassFile, IsClassFile}
+use Rattle.dj_class.specs.Members.{member_of}
+use Rattle.dj_class.proofs.TestsAre.{tests_decide}
+use Rattle.dj_class.proofs.ClassLaws.{one_class_file}
+use Rattle.dj_rules.specs.Lines.{Adds, IsLineAmong}
+use Rattle.dj_report.specs.declared.report.PathFile.{PathFile}
+use Rattle.std.proofs.lemmas.List.{take_all}
+use Rattle.dj_rules.specs.Violations.{file_line, member_line, member_text, this_name, IsNative, IsFinalizer, HasOtherVersion, IsNamedAs, IsMethodLine, IsClassLine, IsNoClassFile, IsLineOf, IsViolation}
+use Rattle.dj_rules.specs.Views.{path_file_view}
+use Rattle.dj_rules.proofs.Adding.{adds_same, adds_both, among_map, contains_none, contains_map, from_contains_map}
+
+-- a method's own line
+abbrev pub IsOwnLine : (List Constant → MemberInfo → Type 0) → List ℕ → ℕ → List Constant → MemberView → Violation → Type 0
+IsOwnLine IsSuch path rule pool m v = IsSuch pool (member_of m) × (v ≡ member_line path (member_text pool (member_of m)) rule)
+
+method_lines : (IsSuch : List Constant → MemberInfo → Type 0) (path : List ℕ) (rule : ℕ) (c : ClassFile) (views : List MemberView) → map member_of views ≡ c.methods → (v : Violation) → IsLineAmong (IsOwnLine IsSuch path rule c.pool) views v ↔ IsMethodLine IsSuch path rule c v
+method_lines IsSuch path rule c views are v = (
+  λ all. record {
+    method = member_of all.0;
+    own = subst (λ ms. Contains ms (member_of all.0)) are (contains_map member_of views all.0 all.1);
+    such = all.2.0;
+    line = all.2.1;
+  },
+  λ is.
+      let seen = from_contains_map member_of views is.method (subst (λ ms. Contains ms is.method) (sym are) is.own) in
+      (seen.0, seen.1, subst (λ m. IsSuch c.pool m × (v ≡ member_line path (member_text c.pool m) rule)) (sym seen.2) (is.such, is.line)),
+)
+
+-- lines of all methods
+pub adds_method_lines : (IsSuch : List Constant → MemberInfo → Type 0) (path : List ℕ) (rule : ℕ) (c : ClassFile) (views : List MemberView) (a b : List Violation) → map member_of views ≡ c.methods → Adds (IsLineAmong (IsOwnLine IsSuch path rule c.pool) views) a b → Adds (IsMethodLine IsSuch path rule c) a b
+adds_method_lines IsSuch path rule c views a b are =
+    adds_same (IsLineAmong (IsOwnLine IsSuch path rule c.pool) views) (IsMethodLine IsSuch path rule c) a b (method_lines IsSuch path rule c views are)
+
+abbrev pub IsVersionLine : List ℕ → ClassFile → Violation → Type 0
+IsVersionLine path c v = HasOtherVersion c × (v ≡ file_line path 2)
+
+abbrev pub IsNameLine : List ℕ → ClassFile → Violation → Type 0
+IsNameLine path c v = (IsNamedAs path (this_name c) → ⊥) × (v ≡ file_line path 3)
+
+abbrev pub IsNativeLine : List ℕ → ClassFile → Violation → Type 0
+IsNativeLine path c v = IsMethodLine (λ _ m. IsNative m) path 7 c v
+
+abbrev pub IsFinalizerLine : List ℕ → ClassFile → Violation → Type 0
+IsFinalizerLine path c v = IsMethodLine IsFinalizer path 8 c v
+
+-- the lines of the four rules, one after the other
+pub adds_class_lines : (path : List ℕ) (c : ClassFile) (x0 x1 x2 x3 x4 : List Violation) → Adds (IsVersionLine path c) x0 x1 → Adds (IsNameLine path c) x1 x2 → Adds (IsNativeLine path c) x2 x3 → Adds (IsFinalizerLine path c) x3 x4 → Adds (IsClassLine path c) x0 x4
+adds_class_lines path c x0 x1 x2 x3 x4 version name native finalizer =
+    adds_both (IsVersionLine path c) (λ v. IsNameLine path c v ⊎ (IsNativeLine path c v ⊎ IsFinalizerLine path c v)) x0 x1 x4 version
+    (adds_both (IsNameLine path c) (λ v. IsNativeLine path c v ⊎ IsFinalizerLine path c v) x1 x2 x4 name
+    (adds_both (IsNativeLine path c) (IsFinalizerLine path c) x2 x3 x4 native finalizer))
+
+-- lines of a file that is a class file
+pub adds_class_file : (path bytes : List ℕ) (c : ClassFile) (a b : List Violation) → IsClassFile bytes c → Adds (IsClassLine path c) a b → Adds (IsLineOf (path, bytes)) a b
+adds_class_file path bytes c a b is =
+    adds_same (IsClassLine path c) (IsLineOf (path, bytes)) a b (λ v. (
+      λ line. inr (c, is, line),
+      λ any. elim any [
+        | inl none ↦ absurd (none.0 c is)
+        | inr other ↦ subst (λ (d : ClassFile). IsClassLine path d v) (one_class_file tests_decide bytes other.0 c other.1 is) other.2
+      ],
+    ))
+
+-- the line of a file that is none
+pub adds_no_class_file : (path bytes : List ℕ) (a b : List Violation) → IsNoClassFile bytes → Adds (λ v. v ≡ file_line path 1) a b → Adds (IsLineOf (path, bytes)) a b
+adds_no_class_file path bytes a b none =
+    adds_same (λ v. v ≡ file_line path 1) (IsLineOf (path, bytes)) a b (λ v. (
+      λ e. inl (none, e),
+      λ any. elim any [ inl is ↦ is.1 | inr other ↦ absurd (none other.0 other.1) ],
+    ))
+
+abbrev pub IsOwnFileLine : PathFile → Violation → Type 0
+IsOwnFileLine file v = IsLineOf (path_file_view file) v
+
+-- the lines of all files, put in order
+pub all_lines : (files : List PathFile) (n : ℕ) (found lines : List Violation) → length files ≤ n → Adds (IsLineAmong IsOwnFileLine (take n files)) [] found → ((v : Violation) → Contains lines v ↔ Contains found v) → (v : Violation) → Contains lines v ↔ IsViolation (map path_file_view files) v
+all_lines files n found lines le adds members v =
+    let seen = among_map path_file_view IsLineOf files v in
+    let own : Adds (IsLineAmong IsOwnFileLine files) [] found = subst (λ (xs : List PathFile). Adds (IsLineAmong IsOwnFileLine xs) [] found) (take_all n files le) adds in (
+      λ m. elim ((own v).0 ((members v).0 m)) [ inl none ↦ absurd (contains_none v none) | inr is ↦ seen.0 is ],
+      λ is. (members v).1 ((own v).1 (inr (seen.1 is))),
+    )

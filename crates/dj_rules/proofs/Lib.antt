@@ -1,0 +1,4 @@
+pub mod Adding
+pub mod Judged
+pub mod Naming
+pub mod Faulty

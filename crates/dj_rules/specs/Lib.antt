@@ -1,0 +1,5 @@
+pub mod Violations
+pub mod Built
+pub mod Views
+pub mod Lines
+pub mod Faults
