@@ -113,8 +113,36 @@ impl<R: System + AllocGlobal + Clone + Drop> Files for FolderFiles<R> {
 #[cfg(test)]
 mod tests {
     use super::*;
+    use std::process::Abort;
     use std::test::Fail;
     use std::{env, process};
+
+    fn lists_and_reads<A: Abort, R: System + AllocGlobal + Clone + Drop>(
+        rt: &A,
+        alloc: Global,
+        files: &mut FolderFiles<R>,
+        folder: &str,
+        path: &str,
+    ) -> Result<(), Fail> {
+        let paths = files.list(alloc, folder, 1).ok().ok_or("a list")?;
+        assert_eq!(rt; paths.len(), 1);
+        let bytes = files.read(alloc, path, 4).ok().ok_or("the bytes")?;
+        assert_eq!(rt; bytes.as_slice(), b"four".as_slice());
+        assert!(rt; matches!(files.read(alloc, path, 3), Err(ReadError::TooLong)));
+        Ok(())
+    }
+
+    fn fails<A: Abort, R: System + AllocGlobal + Clone + Drop>(
+        rt: &A,
+        alloc: Global,
+        files: &mut FolderFiles<R>,
+        path: &str,
+    ) {
+        assert!(rt; matches!(files.read(alloc, path, 4), Err(ReadError::Failed)));
+        assert!(rt; matches!(files.list(alloc, path, 1), Err(ListError::Failed)));
+        assert_eq!(rt; files.faults, 2);
+        assert_eq!(rt; files.asked.len(), 5);
+    }
 
     #[test]
     fn real_folder(rt: HostRuntime) -> Result<(), Fail> {
@@ -126,16 +154,9 @@ mod tests {
         fs::create_dir_all(&rt, folder.as_str())?;
         fs::write(&rt, path.as_str(), "four")?;
         let mut files = FolderFiles::new(&rt);
-        let paths = files.list(alloc, folder.as_str(), 1).ok().ok_or("a list")?;
-        assert_eq!(rt; paths.len(), 1);
-        let bytes = files.read(alloc, path.as_str(), 4).ok().ok_or("the bytes")?;
-        assert_eq!(rt; bytes.as_slice(), b"four".as_slice());
-        assert!(rt; matches!(files.read(alloc, path.as_str(), 3), Err(ReadError::TooLong)));
+        lists_and_reads(&rt, alloc, &mut files, folder.as_str(), path.as_str())?;
         fs::remove_file(&rt, path.as_str())?;
-        assert!(rt; matches!(files.read(alloc, path.as_str(), 4), Err(ReadError::Failed)));
-        assert!(rt; matches!(files.list(alloc, path.as_str(), 1), Err(ListError::Failed)));
-        assert_eq!(rt; files.faults, 2);
-        assert_eq!(rt; files.asked.len(), 5);
+        fails(&rt, alloc, &mut files, path.as_str());
         fs::remove_dir(&rt, folder.as_str())?;
         Ok(())
     }

@@ -59,55 +59,51 @@ fn told(run: &Option<Ending>) -> (&[u8], u64) {
     }
 }
 
-// The byte at the front of the input has a sign: -5 less -3 is -2.
-#[test]
-fn returned_bytes(rt: HostRuntime) -> Result<(), Fail> {
-    let actions = [
-        ALOAD_0,
-        Action::Push(Value::Int(0)),
-        Action::LoadByte,
-        Action::Store(Kind::Int, 1),
-        Action::Push(Value::Int(1)),
-        Action::NewByteArray,
-        Action::Dup,
-        Action::Push(Value::Int(0)),
-        Action::Load(Kind::Int, 1),
-        Action::Push(Value::Int(-3)),
-        Action::Compute(IntOperation::Subtract),
-        Action::StoreByte,
-        ARETURN,
-    ];
-    let run = run_of(rt.alloc(), &actions, &[251], 24)?;
-    let (bytes, alloc) = told(&run);
-    assert_eq!(rt; bytes, [254u8].as_slice());
-    assert_eq!(rt; alloc, 24u64);
-    let run = run_of(rt.alloc(), &actions, &[251], 23)?;
-    let (bytes, alloc) = told(&run);
-    assert_eq!(rt; bytes, b"stopped".as_slice());
-    assert_eq!(rt; alloc, 24u64);
-    let run = run_of(rt.alloc(), &actions, &[], 24)?;
-    let (bytes, alloc) = told(&run);
-    assert_eq!(rt;
-        bytes,
-        b"java/lang/ArrayIndexOutOfBoundsException".as_slice()
-    );
-    assert_eq!(rt; alloc, 0u64);
-    Ok(())
-}
+// The byte at the front of the input, less -3, in an array of its own.
+const LESS: [Action; 13] = [
+    ALOAD_0,
+    Action::Push(Value::Int(0)),
+    Action::LoadByte,
+    Action::Store(Kind::Int, 1),
+    Action::Push(Value::Int(1)),
+    Action::NewByteArray,
+    Action::Dup,
+    Action::Push(Value::Int(0)),
+    Action::Load(Kind::Int, 1),
+    Action::Push(Value::Int(-3)),
+    Action::Compute(IntOperation::Subtract),
+    Action::StoreByte,
+    ARETURN,
+];
 
 fn ends<R: Abort>(
     rt: &R,
     alloc: Global,
     actions: &[Action],
-    wanted: &[u8],
+    input: &[u8],
+    most: u64,
+    wanted: (&[u8], u64),
 ) -> Result<(), RulesError>
     requires some { 0 < length actions.now }
     requires actions { length actions.now < 2 ^ 32 }
+    requires input { length input.now ≤ 1048576 }
+    requires most { most ≤ 1073741824 }
 {
-    let run = run_of(alloc, actions, &[1, 2], 0)?;
-    let (bytes, alloc) = told(&run);
-    assert_eq!(rt; bytes, wanted);
-    assert_eq!(rt; alloc, 0u64);
+    let run = run_of(alloc, actions, input, most)?;
+    let (bytes, charged) = told(&run);
+    assert_eq!(rt; bytes, wanted.0);
+    assert_eq!(rt; charged, wanted.1);
+    Ok(())
+}
+
+// A byte has a sign: -5 less -3 is -2.
+#[test]
+fn returned_bytes(rt: HostRuntime) -> Result<(), Fail> {
+    let alloc = rt.alloc();
+    ends(&rt, alloc, &LESS, &[251], 24, (&[254], 24))?;
+    ends(&rt, alloc, &LESS, &[251], 23, (b"stopped", 24))?;
+    let class = b"java/lang/ArrayIndexOutOfBoundsException";
+    ends(&rt, alloc, &LESS, &[], 24, (class, 0))?;
     Ok(())
 }
 
@@ -115,11 +111,12 @@ fn ends<R: Abort>(
 fn short_runs(rt: HostRuntime) -> Result<(), Fail> {
     let alloc = rt.alloc();
     let null = Action::Push(Value::Ref(0));
-    ends(&rt, alloc, &[null, ARETURN], b"null")?;
+    ends(&rt, alloc, &[null, ARETURN], &[1, 2], 0, (b"null", 0))?;
     let length = [null, Action::ArrayLength, Action::Pop, ALOAD_0, ARETURN];
-    ends(&rt, alloc, &length, b"java/lang/NullPointerException")?;
+    let class = b"java/lang/NullPointerException";
+    ends(&rt, alloc, &length, &[1, 2], 0, (class, 0))?;
     let negative = [Action::Push(Value::Int(-1)), Action::NewByteArray, ARETURN];
     let class = b"java/lang/NegativeArraySizeException";
-    ends(&rt, alloc, &negative, class)?;
+    ends(&rt, alloc, &negative, &[1, 2], 0, (class, 0))?;
     Ok(())
 }
