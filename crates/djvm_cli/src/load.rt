@@ -11,7 +11,7 @@ use dj_report::Limit;
 use std::alloc::Global;
 
 /// Why a job has no report.
-#[derive(Clone, Copy, Debug, PartialEq, Eq)]
+#[derive(Clone, Copy)]
 pub enum Stop {
     /// The store of files failed.
     Fault,
@@ -20,14 +20,14 @@ pub enum Stop {
 }
 
 /// A file that was read, under its path.
-#[derive(Debug, Drop)]
+#[derive(Drop)]
 pub struct SourceFile {
     pub path: String,
     pub bytes: Vec<u8>,
 }
 
 /// What listing a folder found.
-#[derive(Debug, Drop)]
+#[derive(Drop)]
 pub enum Listing {
     /// The paths of the class files, in the order of their bytes.
     Paths(Vec<String>),
@@ -36,7 +36,7 @@ pub enum Listing {
 }
 
 /// What reading the class files found.
-#[derive(Debug, Drop)]
+#[derive(Drop)]
 pub enum Loaded {
     /// All files, in the order of their paths.
     Files(Vec<SourceFile>),
@@ -45,7 +45,7 @@ pub enum Loaded {
 }
 
 /// What reading the input found.
-#[derive(Debug, Drop)]
+#[derive(Drop)]
 pub enum Input {
     /// Its bytes.
     Bytes(Vec<u8>),
@@ -56,7 +56,7 @@ pub enum Input {
 }
 
 /// What reading one more file found.
-#[derive(Debug, Drop)]
+#[derive(Drop)]
 enum NextFile {
     /// The file.
     Read(SourceFile),

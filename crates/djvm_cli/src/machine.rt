@@ -26,7 +26,7 @@ use std::alloc::Global;
 use turns::Turns;
 
 /// How a run went.
-#[derive(Debug, Drop)]
+#[derive(Drop)]
 pub struct Ending {
     pub outcome: Outcome,
     pub costs: Costs,

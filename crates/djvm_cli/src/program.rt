@@ -54,7 +54,7 @@ pub enum Action {
 }
 
 /// A static method of straight code, from an array of bytes to one.
-#[derive(Debug, Drop)]
+#[derive(Drop)]
 pub struct StraightMethod {
     pub flags: u16,
     pub name: Name,
@@ -64,7 +64,7 @@ pub struct StraightMethod {
 }
 
 /// A class of such methods.
-#[derive(Debug, Drop)]
+#[derive(Drop)]
 pub struct StraightClass {
     pub name: Name,
     pub flags: u16,

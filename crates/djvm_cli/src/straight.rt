@@ -22,7 +22,7 @@ use method::distinct_methods;
 use std::alloc::Global;
 
 /// The class of a straight set, or none where there are no files.
-#[derive(Debug, Drop)]
+#[derive(Drop)]
 pub struct StraightSet {
     pub class: Option<StraightClass>,
 }

@@ -4,7 +4,7 @@ ghost use Rattle.djvm_cli.specs.Job.{job_of, without_slash, is_plain};
 ghost use Rattle.djvm_cli.specs.Views.{job_view};
 
 /// What the words of a command line ask for.
-#[derive(Clone, Copy, Debug)]
+#[derive(Clone, Copy)]
 pub enum Command<'a> {
     /// Check the class files of the folder.
     Check {

@@ -11,7 +11,7 @@ use std::alloc::Global;
 use std::marker::Model;
 
 /// The objects of a run, which are arrays of bytes.
-#[derive(Debug, Drop)]
+#[derive(Drop)]
 pub struct Heap {
     arrays: Vec<Vec<i8>>,
 }
@@ -28,7 +28,7 @@ impl Model for Heap {
 }
 
 /// What a reference is.
-#[derive(Clone, Copy, Debug)]
+#[derive(Clone, Copy)]
 pub enum Found<'a> {
     Null,
     /// An object that was not made.

@@ -7,7 +7,7 @@ use std::alloc::Global;
 use std::marker::Model;
 
 /// The operands of a frame (JVMS 2.6.2).
-#[derive(Debug, Drop)]
+#[derive(Drop)]
 pub struct Operands {
     // The top last.
     values: Vec<Value>,

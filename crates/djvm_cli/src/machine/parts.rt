@@ -3,7 +3,7 @@ use crate::machine::operands::Operands;
 use dj_names::{Raised, Value};
 
 /// What the instructions of a run change: the local variables, the operands and the heap.
-#[derive(Debug, Drop)]
+#[derive(Drop)]
 pub struct Machine {
     /// One without a value has none.
     pub locals: Vec<Option<Value>>,
@@ -12,7 +12,7 @@ pub struct Machine {
 }
 
 /// How a run goes on after an instruction.
-#[derive(Clone, Copy, Debug, PartialEq, Eq)]
+#[derive(Clone, Copy)]
 pub enum Progress {
     /// At the next one.
     Next,

@@ -9,7 +9,7 @@ use crate::program::Action;
 use dj_names::{Costs, Thresholds, Value};
 
 /// What the next instruction's charges come to.
-#[derive(Clone, Copy, Debug, PartialEq, Eq)]
+#[derive(Clone, Copy)]
 pub enum Payment {
     Paid(Costs),
     /// The allocated bytes pass their threshold.

@@ -23,7 +23,7 @@ use dj_rules::RulesError;
 use std::alloc::Global;
 
 /// How a run stands after an instruction.
-#[derive(Debug, Drop)]
+#[derive(Drop)]
 pub enum Turns {
     /// It goes on, and was charged so much.
     Go(Costs),

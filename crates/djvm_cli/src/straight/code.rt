@@ -15,7 +15,7 @@ use dj_rules::{RulesError, is_memory};
 use std::alloc::Global;
 
 /// Straight code.
-#[derive(Debug, Drop)]
+#[derive(Drop)]
 pub struct StraightCode {
     pub max_stack: u16,
     pub max_locals: u16,
