@@ -1,5 +1,6 @@
 pub mod Turns
 pub mod Sound
 pub mod Shapes
+pub mod Programs
 pub mod Runs
 mod Rows

@@ -19,6 +19,7 @@ returns = record {
   other_slot = (8, refl);
   int_slot = (18, refl);
   told_slot = (18, refl);
+  told_reference = (8, refl);
 }
 
 ints : WorkedInts

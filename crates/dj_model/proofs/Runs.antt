@@ -1,5 +1,5 @@
 -- Code with shape runs to an end.
-use Rattle.std.proofs.Common.{◌≡◌, ℕ, zero, suc, ◌+◌, ◌-◌, ◌*◌, ◌<◌, ◌≤◌, Bool, true, false, List, [], ◌∷◌, length, Some, None, refl, sym, subst, ◌∙◌, IsTrue, IsFalse, arith}
+use Rattle.std.proofs.Common.{◌≡◌, ℕ, zero, suc, ◌+◌, ◌-◌, ◌*◌, ◌<◌, ◌≤◌, Bool, true, false, List, [], ◌∷◌, length, Some, refl, sym, subst, ◌∙◌, IsTrue, IsFalse, arith}
 use Rattle.dj_names.specs.declared.run.Value.TheVariants as values
 use Rattle.dj_names.specs.declared.run.Costs.{Costs}
 use Rattle.dj_names.specs.declared.run.Thresholds.{Thresholds}
@@ -10,7 +10,7 @@ use Rattle.dj_model.specs.Instructions.{Instruction}
 use Rattle.dj_model.specs.Effects.{Part, Flow, Next, To, Raise, Throw, Back, Broken, Full, effect}
 use Rattle.dj_model.specs.Step.{part_of, at_number}
 use Rattle.dj_model.specs.Charges.{own_amounts, paid, Payment, Paid, Exceeds}
-use Rattle.dj_model.specs.Metered.{Ends, turns, run, first_state, new_frame}
+use Rattle.dj_model.specs.Metered.{Ends, turns, run, metered_terms, first_state, new_frame}
 use Rattle.dj_model.specs.Shape.{Signature, Kinds, StateBefore, Holds, HasShape, ends, first_kinds}
 use Rattle.dj_model.specs.Sound.{HasKinds, HasSoundEffect, IsSoundFlow}
 use Rattle.dj_model.specs.Laws.{IsStraightEntry}
@@ -53,8 +53,8 @@ module _ (program : Program) (most : Thresholds) (signature : Signature) (code :
   done : (n : ℕ) (s : State) (f : Frame) (i : Instruction) (left : Kinds) (costs : Costs) → IsAt s f → Stands program s f code i
       → ((t : State) (g : Frame) → IsAt t g → f.number + 1 ≡ g.number → IsFalse (ends i) → EndsFrom n t)
       → (IsFalse (ends i) → StateBefore signature code (suc f.number) left)
-      → paid most s.costs (own_amounts (Some i) f.operands) ≡ Paid costs
-      → (p : Part) (flow : Flow) → effect None i (part_of f s) ≡ Some (record { part = p; flow = flow })
+      → paid most s.costs (own_amounts program (Some i) f.operands) ≡ Paid costs
+      → (p : Part) (flow : Flow) → effect program metered_terms i (part_of f s) ≡ Some (record { part = p; flow = flow })
       → IsSoundFlow code i left p flow
       → EndsFrom (2 + n) s
   done n s f i left costs at stands rest state payment p Next e sound =
@@ -86,8 +86,8 @@ module _ (program : Program) (most : Thresholds) (signature : Signature) (code :
 
   paying : (n : ℕ) (s : State) (f : Frame) (i : Instruction) (left : Kinds) → IsAt s f → Stands program s f code i
       → ((t : State) (g : Frame) → IsAt t g → f.number + 1 ≡ g.number → IsFalse (ends i) → EndsFrom n t)
-      → (IsFalse (ends i) → StateBefore signature code (suc f.number) left) → HasSoundEffect None code i left (part_of f s)
-      → (payment : Payment) → paid most s.costs (own_amounts (Some i) f.operands) ≡ payment → EndsFrom (2 + n) s
+      → (IsFalse (ends i) → StateBefore signature code (suc f.number) left) → HasSoundEffect program metered_terms code i left (part_of f s)
+      → (payment : Payment) → paid most s.costs (own_amounts program (Some i) f.operands) ≡ payment → EndsFrom (2 + n) s
   paying n s f i left at stands rest state sound (Paid costs) payment =
       done n s f i left costs at stands rest state payment sound.0.part sound.0.flow sound.1 sound.2
   paying n s f i left at stands rest state sound (Exceeds charge costs) payment =
@@ -109,7 +109,7 @@ module _ (program : Program) (most : Thresholds) (signature : Signature) (code :
         no_initialiser = at.no_initialiser;
       } in
       let values : HasKinds f.locals f.operands h.before = rw kinds_are at at.values in
-      let sound = sound_effect signature code h.instruction h.before h.left None (part_of f s) values at.long h.found in
+      let sound = sound_effect program metered_terms signature code h.instruction h.before h.left (part_of f s) values at.long h.found in
       let turns_are : 2 + 2 * count ≡ 2 * suc count = omega arith in
       let rest : (t : State) (g : Frame) → IsAt t g → f.number + 1 ≡ g.number → IsFalse (ends h.instruction) → EndsFrom (2 * count) t
       = λ t g there next goes_on. ends_from count t g there (omega arith)

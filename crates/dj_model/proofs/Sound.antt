@@ -10,8 +10,8 @@ use Rattle.dj_names.specs.declared.run.Element.TheVariants as elements
 use Rattle.dj_names.specs.Objects.{value_kind, Object, Array}
 use Rattle.dj_model.specs.Program.{Name, Code, Program, MethodName, code_of}
 use Rattle.dj_model.specs.State.{Heap, Static, Literal}
-use Rattle.dj_model.specs.Instructions.{Instruction, Nop, Push, Load, Store, LoadElement, StoreElement, Move, Compute, Return, ArrayLength, NewArray, Other, StackOperation, Pop, Dup, IntOperation, Access, Bytes, Chars, Shorts, Ints, Longs, Refs}
-use Rattle.dj_model.specs.Effects.{Part, Next, Effect, effect, same_kind, is_of_kind, local_at, is_long, without_long_before, stored, slots_of, access_kind, reaches, Found, Null, NoArray, IsArray, only, array_at, reached, element_value, passes_limit, array_size, array_class, new_contents, make, load_found, element_at, store_found, with_object, with_element, kept, value_number, compute, pushes, goes, Back, next_number, with_new}
+use Rattle.dj_model.specs.Instructions.{Instruction, Nop, Push, Load, Store, LoadElement, StoreElement, Move, Compute, Return, ArrayLength, NewArray, Other, StackOperation, Pop, Dup, IntOperation, Access, Bytes, Chars, Shorts, Ints, Longs}
+use Rattle.dj_model.specs.Effects.{Terms, Part, Next, Effect, effect, same_kind, is_of_kind, local_at, is_long, without_long_before, stored, slots_of, access_kind, reaches, Found, Null, NoArray, IsArray, only, array_at, reached, element_value, passes_limit, array_size, new_contents, make, load_found, element_at, store_found, with_object, with_element, kept, value_number, compute, pushes, goes, Back, next_number, with_new}
 use Rattle.dj_model.specs.Shape as shape
 use Rattle.dj_model.specs.Shape.{Signature, Kinds, ParametersFit, first_kinds, is_kind, kind_at, set_kind, pushed, taken, takes, store_kind, after, ends}
 use Rattle.dj_model.specs.Metered.{new_frame}
@@ -159,7 +159,6 @@ reached_kind Chars elements.Char z e = refl
 reached_kind Shorts elements.Short z e = refl
 reached_kind Ints elements.Int z e = refl
 reached_kind Longs elements.Long z e = refl
-reached_kind Refs elements.Ref z e = refl
 reached_kind _ _ z e = absurd cc
 
 -- what an access finds
@@ -209,7 +208,7 @@ store_parts code ks slot kind (Some k) left e =
 
 -- ---- families
 
-module _ (signature : Signature) (code : Code) (left : Kinds) (limit : Option ℕ)
+module _ (program : Program) (terms : Terms) (signature : Signature) (code : Code) (left : Kinds)
     (locals : List (Option Value)) (ks : List (Option Kind)) (heap : Heap) (statics : List Static) (literals : List Literal)
     (has : LocalsHave locals ks) (long : length locals ≡ code.max_locals) where
   abbrev at_kinds : List Value → Kinds
@@ -222,7 +221,7 @@ module _ (signature : Signature) (code : Code) (left : Kinds) (limit : Option �
   Sound i e = IsSoundFlow code i left e.part e.flow
 
   abbrev Good : Instruction → List Value → Type 0
-  Good i operands = after signature code i (at_kinds operands) ≡ Some left → HasSoundEffect limit code i left (part operands)
+  Good i operands = after signature code i (at_kinds operands) ≡ Some left → HasSoundEffect program terms code i left (part operands)
 
   -- the next instruction finds these operands
   next : (i : Instruction) → IsFalse (ends i) → (operands : List Value) (other : Heap) → at_kinds operands ≡ left
@@ -243,7 +242,7 @@ module _ (signature : Signature) (code : Code) (left : Kinds) (limit : Option �
 
   loaded : (kind : Kind) (slot : ℕ) (operands : List Value) → HasLocal locals slot kind
       → pushed code ks (map value_kind operands) kind ≡ Some left
-      → HasSoundEffect limit code (Load kind slot) left (part operands)
+      → HasSoundEffect program terms code (Load kind slot) left (part operands)
   unfolding effect
   loaded kind slot operands l a =
       let kinds_are : at_kinds (l.value ∷ operands) ≡ left = pushed_is ks (map value_kind operands) (value_kind l.value) (rw l.kind_is a) in
@@ -298,7 +297,7 @@ module _ (signature : Signature) (code : Code) (left : Kinds) (limit : Option �
 
   element_stored : (access : Access) (v : Value) (rest : List Value) → same_kind (access_kind access) (value_kind v) ≡ true
       → taken (kinds.Int ∷ (kinds.Ref ∷ [])) (map value_kind rest) ≡ Some left.stack → record { locals = ks; stack = left.stack } ≡ left
-      → HasSoundEffect limit code (StoreElement access) left (part (v ∷ rest))
+      → HasSoundEffect program terms code (StoreElement access) left (part (v ∷ rest))
   unfolding effect
   element_stored access v (values.Int index ∷ (values.Ref r ∷ rest)) is t e =
       let operands : List Value = v ∷ (values.Int index ∷ (values.Ref r ∷ rest)) in
@@ -347,7 +346,7 @@ module _ (signature : Signature) (code : Code) (left : Kinds) (limit : Option �
       let r = some_if_some (is_kind kind signature.result) (takes (at_kinds operands) (kind ∷ [])) left a in
       returned kind operands (takes_parts (at_kinds operands) (kind ∷ []) left r.1).0 where
         returned : (kind : Kind) (operands : List Value) → taken (kind ∷ []) (map value_kind operands) ≡ Some left.stack
-            → HasSoundEffect limit code (Return kind) left (part operands)
+            → HasSoundEffect program terms code (Return kind) left (part operands)
         returned kind [] t = absurd cc
         returned kind (v ∷ rest) t =
             let r = some_if (same_kind kind (value_kind v)) (map value_kind rest) left.stack t in
@@ -365,21 +364,21 @@ module _ (signature : Signature) (code : Code) (left : Kinds) (limit : Option �
       )
   length_good _ a = absurd cc
 
-  made : (element : Element) (operands rest : List Value) (size : ℕ) (object : Object)
+  made : (class : Name) (element : Element) (operands rest : List Value) (size : ℕ) (object : Object)
       → pushed code ks (map value_kind rest) kinds.Ref ≡ Some left
-      → (full : Bool) → passes_limit limit (heap.used + size) ≡ full
-      → Sound (NewArray element) (make limit (part operands) rest size object)
-  made element operands rest size object a true e = rw e tt
-  made element operands rest size object a false e =
-      rw e (next (NewArray element) refl (values.Ref (next_number heap) ∷ rest) (with_new heap size object) (pushed_is _ _ _ a))
+      → (full : Bool) → passes_limit terms.limit (heap.used + size) ≡ full
+      → Sound (NewArray class element) (make terms (part operands) rest size object)
+  made class element operands rest size object a true e = rw e tt
+  made class element operands rest size object a false e =
+      rw e (next (NewArray class element) refl (values.Ref (next_number heap) ∷ rest) (with_new heap size object) (pushed_is _ _ _ a))
 
-  new_array_good : (element : Element) (operands : List Value) → Good (NewArray element) operands
+  new_array_good : (class : Name) (element : Element) (operands : List Value) → Good (NewArray class element) operands
   unfolding after effect
-  new_array_good element (values.Int (pos n) ∷ rest) a =
-      let object : Object = Array (array_class element) element (new_contents n) in
-      (_, refl, made element (values.Int (pos n) ∷ rest) rest (array_size element n) object a _ refl)
-  new_array_good element (values.Int (negsuc n) ∷ rest) a = (_, refl, tt)
-  new_array_good element _ a = absurd cc
+  new_array_good class element (values.Int (pos n) ∷ rest) a =
+      let object : Object = Array class element (new_contents n) in
+      (_, refl, made class element (values.Int (pos n) ∷ rest) rest (array_size element n) object a _ refl)
+  new_array_good class element (values.Int (negsuc n) ∷ rest) a = (_, refl, tt)
+  new_array_good class element _ a = absurd cc
 
   other_good : (op : ℕ) (operands : List Value) → Good (Other op) operands
   unfolding after
@@ -396,14 +395,14 @@ module _ (signature : Signature) (code : Code) (left : Kinds) (limit : Option �
   good (Compute operation) operands = compute_good operation operands
   good (Return kind) operands = return_good kind operands
   good ArrayLength operands = length_good operands
-  good (NewArray element) operands = new_array_good element operands
+  good (NewArray class element) operands = new_array_good class element operands
   good (Other op) operands = other_good op operands
 
-pub sound_effect : (signature : Signature) (code : Code) (i : Instruction) (k left : Kinds) (limit : Option ℕ) (p : Part)
+pub sound_effect : (program : Program) (terms : Terms) (signature : Signature) (code : Code) (i : Instruction) (k left : Kinds) (p : Part)
     → HasKinds p.locals p.operands k → length p.locals ≡ code.max_locals → after signature code i k ≡ Some left
-    → HasSoundEffect limit code i left p
-sound_effect signature code i k left limit p has long a =
-    good signature code left limit p.locals k.locals p.heap p.statics p.literals has.locals long i p.operands
+    → HasSoundEffect program terms code i left p
+sound_effect program terms signature code i k left p has long a =
+    good program terms signature code left p.locals k.locals p.heap p.statics p.literals has.locals long i p.operands
     (subst (λ stack. after signature code i (record { locals = k.locals; stack = stack }) ≡ Some left) (sym has.operands) a)
 
 -- ---- the beginning

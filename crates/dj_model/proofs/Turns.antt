@@ -1,5 +1,5 @@
 -- Turn by turn: runs end in one way, and what the two turns of an instruction do where its frame stands alone.
-use Rattle.std.proofs.Common.{◌≡◌, ℕ, zero, suc, ◌+◌, true, false, List, [], ◌∷◌, ◌++◌, length, reverse, Option, Some, None, slice_get, Contains, refl, sym, ap, ◌∙◌, add-one, suc-add, zero-add, arith}
+use Rattle.std.proofs.Common.{◌≡◌, ℕ, zero, suc, ◌+◌, true, false, List, [], ◌∷◌, ◌++◌, length, reverse, Option, Some, slice_get, Contains, refl, sym, ap, ◌∙◌, add-one, suc-add, zero-add, arith}
 use Rattle.std.specs.List.{flat_map}
 use Rattle.std.proofs.lemmas.List.{reverse-append}
 use Rattle.std.proofs.lemmas.Grind.{flat_map-append}
@@ -92,7 +92,7 @@ pub record Stands (program : Program) (s : State) (f : Frame) (code : Code) (i :
   pub no_initialiser : is_initialiser f.method ≡ false
 
 its_amounts : (program : Program) (s : State) (f : Frame) (code : Code) (i : Instruction) → Stands program s f code i
-    → amounts program s ≡ own_amounts (Some i) f.operands
+    → amounts program s ≡ own_amounts program (Some i) f.operands
 unfolding amounts
 its_amounts program s f code i stands = rw (stands.frames, stands.code_is, stands.no_handlers, stands.at) refl
 
@@ -105,24 +105,24 @@ abbrev paid_state : State → Frame → Costs → State
 paid_state s f costs = record s { costs = costs; frames = paid_frame f ∷ [] }
 
 first_turn : (program : Program) (most : Thresholds) (s : State) (f : Frame) (code : Code) (i : Instruction) → Stands program s f code i
-    → (payment : Payment) → paid most s.costs (own_amounts (Some i) f.operands) ≡ payment → turn program most s ≡ payment_run s payment
+    → (payment : Payment) → paid most s.costs (own_amounts program (Some i) f.operands) ≡ payment → turn program most s ≡ payment_run s payment
 unfolding turn
 first_turn program most s f code i stands payment e =
     rw (its_amounts program s f code i stands, e) (rw (stands.frames, stands.unpaid) refl)
 
 first_paid : (program : Program) (most : Thresholds) (s : State) (f : Frame) (code : Code) (i : Instruction) → Stands program s f code i
-    → (costs : Costs) → paid most s.costs (own_amounts (Some i) f.operands) ≡ Paid costs → turn program most s ≡ Goes (paid_state s f costs)
+    → (costs : Costs) → paid most s.costs (own_amounts program (Some i) f.operands) ≡ Paid costs → turn program most s ≡ Goes (paid_state s f costs)
 first_paid program most s f code i stands costs e = rw (first_turn program most s f code i stands (Paid costs) e) (rw stands.frames refl)
 
 pub turns_stopped : (program : Program) (most : Thresholds) (s : State) (f : Frame) (code : Code) (i : Instruction)
     → Stands program s f code i
-    → (charge : Charge) (costs : Costs) → paid most s.costs (own_amounts (Some i) f.operands) ≡ Exceeds charge costs
+    → (charge : Charge) (costs : Costs) → paid most s.costs (own_amounts program (Some i) f.operands) ≡ Exceeds charge costs
     → turns program most 1 s ≡ Ends (outcomes.Stopped charge) costs
 unfolding turns
 turns_stopped program most s f code i stands charge costs e = rw (first_turn program most s f code i stands (Exceeds charge costs) e) refl
 
 second_turn : (program : Program) (most : Thresholds) (s : State) (f : Frame) (code : Code) (i : Instruction) → Stands program s f code i
-    → (costs : Costs) (e : Effect) → effect None i (part_of f s) ≡ Some e
+    → (costs : Costs) (e : Effect) → effect program metered_terms i (part_of f s) ≡ Some e
     → turn program most (paid_state s f costs) ≡ answer_run (settled program metered_terms (paid_state s f costs) (paid_frame f) [] (Some e))
 unfolding turn step
 second_turn program most s f code i stands costs e h = rw (stands.code_is, stands.at, h) refl
@@ -133,38 +133,38 @@ last_turn (Ends outcome costs) = refl
 last_turn Stuck = refl
 
 two_turns : (program : Program) (most : Thresholds) (s : State) (f : Frame) (code : Code) (i : Instruction) → Stands program s f code i
-    → (costs : Costs) → paid most s.costs (own_amounts (Some i) f.operands) ≡ Paid costs
-    → (e : Effect) → effect None i (part_of f s) ≡ Some e
+    → (costs : Costs) → paid most s.costs (own_amounts program (Some i) f.operands) ≡ Paid costs
+    → (e : Effect) → effect program metered_terms i (part_of f s) ≡ Some e
     → turns program most 2 s ≡ answer_run (settled program metered_terms (paid_state s f costs) (paid_frame f) [] (Some e))
 unfolding turns
 two_turns program most s f code i stands costs payment e h =
     rw (first_paid program most s f code i stands costs payment) (last_turn _ ∙ second_turn program most s f code i stands costs e h)
 
 pub turns_next : (program : Program) (most : Thresholds) (s : State) (f : Frame) (code : Code) (i : Instruction) → Stands program s f code i
-    → (costs : Costs) → paid most s.costs (own_amounts (Some i) f.operands) ≡ Paid costs
-    → (p : Part) → effect None i (part_of f s) ≡ Some (record { part = p; flow = Next })
+    → (costs : Costs) → paid most s.costs (own_amounts program (Some i) f.operands) ≡ Paid costs
+    → (p : Part) → effect program metered_terms i (part_of f s) ≡ Some (record { part = p; flow = Next })
     → turns program most 2 s ≡ Goes (record s { heap = p.heap; statics = p.statics; literals = p.literals; frames = at_number f p (f.number + 1) ∷ []; costs = costs })
 turns_next program most s f code i stands costs payment p h =
     two_turns program most s f code i stands costs payment (record { part = p; flow = Next }) h
 
 pub turns_back : (program : Program) (most : Thresholds) (s : State) (f : Frame) (code : Code) (i : Instruction) → Stands program s f code i
-    → (costs : Costs) → paid most s.costs (own_amounts (Some i) f.operands) ≡ Paid costs
-    → (p : Part) (result : Option Value) → effect None i (part_of f s) ≡ Some (record { part = p; flow = Back result })
+    → (costs : Costs) → paid most s.costs (own_amounts program (Some i) f.operands) ≡ Paid costs
+    → (p : Part) (result : Option Value) → effect program metered_terms i (part_of f s) ≡ Some (record { part = p; flow = Back result })
     → turns program most 2 s ≡ Ends (result_outcome p.heap result) costs
 turns_back program most s f code i stands costs payment p result h =
     two_turns program most s f code i stands costs payment (record { part = p; flow = Back result }) h
 
 pub turns_broken : (program : Program) (most : Thresholds) (s : State) (f : Frame) (code : Code) (i : Instruction)
     → Stands program s f code i
-    → (costs : Costs) → paid most s.costs (own_amounts (Some i) f.operands) ≡ Paid costs
-    → (p : Part) → effect None i (part_of f s) ≡ Some (record { part = p; flow = Broken })
+    → (costs : Costs) → paid most s.costs (own_amounts program (Some i) f.operands) ≡ Paid costs
+    → (p : Part) → effect program metered_terms i (part_of f s) ≡ Some (record { part = p; flow = Broken })
     → turns program most 2 s ≡ Ends outcomes.Link costs
 turns_broken program most s f code i stands costs payment p h =
     two_turns program most s f code i stands costs payment (record { part = p; flow = Broken }) h
 
 pub turns_full : (program : Program) (most : Thresholds) (s : State) (f : Frame) (code : Code) (i : Instruction)
-    → Stands program s f code i → (costs : Costs) → paid most s.costs (own_amounts (Some i) f.operands) ≡ Paid costs
-    → (p : Part) (used size : ℕ) → effect None i (part_of f s) ≡ Some (record { part = p; flow = Full used size })
+    → Stands program s f code i → (costs : Costs) → paid most s.costs (own_amounts program (Some i) f.operands) ≡ Paid costs
+    → (p : Part) (used size : ℕ) → effect program metered_terms i (part_of f s) ≡ Some (record { part = p; flow = Full used size })
     → turns program most 2 s ≡ Ends (outcomes.HeapFull used size) costs
 turns_full program most s f code i stands costs payment p used size h =
     two_turns program most s f code i stands costs payment (record { part = p; flow = Full used size }) h
@@ -187,8 +187,8 @@ raised_ends program s f code i stands p costs class =
 
 pub turns_raise : (program : Program) (most : Thresholds) (s : State) (f : Frame) (code : Code) (i : Instruction)
     → Stands program s f code i
-    → (costs : Costs) → paid most s.costs (own_amounts (Some i) f.operands) ≡ Paid costs
-    → (p : Part) (raised : Raised) → effect None i (part_of f s) ≡ Some (record { part = p; flow = Raise raised })
+    → (costs : Costs) → paid most s.costs (own_amounts program (Some i) f.operands) ≡ Paid costs
+    → (p : Part) (raised : Raised) → effect program metered_terms i (part_of f s) ≡ Some (record { part = p; flow = Raise raised })
     → turns program most 2 s ≡ Ends (outcomes.Threw (raised_class raised) messages.Null) costs
 turns_raise program most s f code i stands costs payment p raised h =
     two_turns program most s f code i stands costs payment (record { part = p; flow = Raise raised }) h

@@ -23,10 +23,10 @@ abbrev pub array_amount : Element → List Value → ℕ
 array_amount element (values.Int (pos n) ∷ rest) = array_size element n
 array_amount element _ = 0
 
--- an instruction's own charges
-abbrev pub own_amounts : Option Instruction → List Value → List Amount
-own_amounts (Some (NewArray element)) operands = (charges.Alloc, array_amount element operands) ∷ []
-own_amounts _ operands = []
+-- the own charges of an instruction of a program
+abbrev pub own_amounts : Program → Option Instruction → List Value → List Amount
+own_amounts program (Some (NewArray class element)) operands = (charges.Alloc, array_amount element operands) ∷ []
+own_amounts program _ operands = []
 
 abbrev pub starts_handler : Option Code → ℕ → Bool
 starts_handler None number = false
@@ -40,7 +40,7 @@ arrival_amounts false = []
 abbrev pub frame_amounts : Program → List Frame → List Amount
 frame_amounts program [] = []
 frame_amounts program (f ∷ below) =
-    arrival_amounts (starts_handler (code_of program f.method) f.number) ++ own_amounts (instruction_at program f) f.operands
+    arrival_amounts (starts_handler (code_of program f.method) f.number) ++ own_amounts program (instruction_at program f) f.operands
 
 -- the charges of the top frame's next instruction, in order
 unfoldable pub amounts : Program → State → List Amount

@@ -1,5 +1,5 @@
 -- The effect of an instruction on the locals and operands of the top frame, the heap, the static fields and the literals (JVMS 6.5).
-use Rattle.std.specs.Prelude.{ℕ, zero, suc, ◌+◌, ◌-◌, ◌*◌, ◌/◌, ◌^◌, ◌&&◌, Bool, true, false, ℤ, pos, negsuc, ◌+ℤ◌, ◌-ℤ◌, ◌*ℤ◌, List, [], ◌∷◌, ◌++◌, length, set, Option, Some, None, slice_get, unsigned_abs, codes, nat_lt, replicate, if◌then◌else◌}
+use Rattle.std.specs.Prelude.{ℕ, zero, suc, ◌+◌, ◌-◌, ◌*◌, ◌/◌, ◌^◌, ◌&&◌, Bool, true, false, ℤ, pos, negsuc, ◌+ℤ◌, ◌-ℤ◌, ◌*ℤ◌, List, [], ◌∷◌, ◌++◌, length, set, Option, Some, None, slice_get, unsigned_abs, nat_lt, replicate, if◌then◌else◌}
 use Rattle.std.specs.Int.{w8, w16, w32, w64, int_wrap, int_rem_euclid, int_bit_and, int_bit_or, int_bit_xor}
 use Rattle.dj_names.specs.declared.descriptor.Kind.{Kind}
 use Rattle.dj_names.specs.declared.descriptor.Kind.TheVariants as kinds
@@ -10,9 +10,14 @@ use Rattle.dj_names.specs.declared.run.Element.TheVariants as elements
 use Rattle.dj_names.specs.declared.run.Raised.{Raised}
 use Rattle.dj_names.specs.declared.run.Raised.TheVariants as raises
 use Rattle.dj_names.specs.Objects.{Object, Array, value_kind, element_size}
-use Rattle.dj_model.specs.Program.{Name}
+use Rattle.dj_model.specs.Program.{Name, Program}
 use Rattle.dj_model.specs.State.{Heap, Static, Literal}
-use Rattle.dj_model.specs.Instructions.{Instruction, Nop, Push, Load, Store, LoadElement, StoreElement, Move, Compute, Return, ArrayLength, NewArray, Other, IntOperation, Add, Subtract, Multiply, And, Or, Xor, StackOperation, Pop, Dup, Access, Bytes, Chars, Shorts, Ints, Longs, Refs}
+use Rattle.dj_model.specs.Instructions.{Instruction, Nop, Push, Load, Store, LoadElement, StoreElement, Move, Compute, Return, ArrayLength, NewArray, Other, IntOperation, Add, Subtract, Multiply, And, Or, Xor, StackOperation, Pop, Dup, Access, Bytes, Chars, Shorts, Ints, Longs}
+
+-- the terms of a run
+pub record Terms : Type 0 where
+  -- the limit on the heap's bytes, where there is one
+  pub limit : Option ℕ
 
 -- what an instruction may change by itself
 pub record Part : Type 0 where
@@ -138,13 +143,11 @@ reaches Chars elements.Char = true
 reaches Shorts elements.Short = true
 reaches Ints elements.Int = true
 reaches Longs elements.Long = true
-reaches Refs elements.Ref = true
 reaches _ _ = false
 
 -- the kind of the values that are loaded and stored
 abbrev pub access_kind : Access → Kind
 access_kind Longs = kinds.Long
-access_kind Refs = kinds.Ref
 access_kind _ = kinds.Int
 
 abbrev pub object_at : List Object → ℕ → Option Object
@@ -249,16 +252,6 @@ array_size element n = 16 + rounded (n * element_size element)
 abbrev pub raised_size : ℕ
 raised_size = 32
 
--- JVMS 4.3.2: the descriptor of an array of a base type
-abbrev pub array_class : Element → Name
-array_class elements.Boolean = codes "[Z"
-array_class elements.Byte = codes "[B"
-array_class elements.Char = codes "[C"
-array_class elements.Short = codes "[S"
-array_class elements.Int = codes "[I"
-array_class elements.Long = codes "[J"
-array_class elements.Ref = codes "[Ljava/lang/Object;"
-
 abbrev pub new_contents : ℕ → List ℤ
 new_contents n = replicate n (pos 0)
 
@@ -275,29 +268,29 @@ with_new heap size object = record { objects = heap.objects ++ object ∷ []; us
 abbrev pub next_number : Heap → ℕ
 next_number heap = length heap.objects + 1
 
-abbrev pub make : Option ℕ → Part → List Value → ℕ → Object → Effect
-make limit p rest size object =
-    if passes_limit limit (p.heap.used + size) then goes p (Full p.heap.used size)
+abbrev pub make : Terms → Part → List Value → ℕ → Object → Effect
+make terms p rest size object =
+    if passes_limit terms.limit (p.heap.used + size) then goes p (Full p.heap.used size)
     else record { part = record p { operands = values.Ref (next_number p.heap) ∷ rest; heap = with_new p.heap size object }; flow = Next }
 
-abbrev pub make_array : Option ℕ → Part → Element → List Value → Option Effect
-make_array limit p element (values.Int (pos n) ∷ rest) =
-    Some (make limit p rest (array_size element n) (Array (array_class element) element (new_contents n)))
-make_array limit p element (values.Int (negsuc n) ∷ rest) = Some (goes p (Raise raises.NegativeArraySize))
-make_array limit p element _ = None
+abbrev pub make_array : Terms → Part → Name → Element → List Value → Option Effect
+make_array terms p class element (values.Int (pos n) ∷ rest) =
+    Some (make terms p rest (array_size element n) (Array class element (new_contents n)))
+make_array terms p class element (values.Int (negsuc n) ∷ rest) = Some (goes p (Raise raises.NegativeArraySize))
+make_array terms p class element _ = None
 
--- ---- an instruction, under a limit on the heap; none where it lacks the kinds that it takes or isn't run yet
+-- ---- an instruction of a program, on the terms of its run; none where it lacks the kinds that it takes or isn't run yet
 
-unfoldable pub effect : Option ℕ → Instruction → Part → Option Effect
-effect limit Nop p = Some (goes p Next)
-effect limit (Push v) p = Some (pushes p p.operands v)
-effect limit (Load kind slot) p = load p kind slot
-effect limit (Store kind slot) p = store_in p kind slot p.operands
-effect limit (LoadElement access) p = load_element p access p.operands
-effect limit (StoreElement access) p = store_element p access p.operands
-effect limit (Move operation) p = move p operation p.operands
-effect limit (Compute operation) p = compute_two p operation p.operands
-effect limit (Return kind) p = return_top p kind p.operands
-effect limit ArrayLength p = array_length p p.operands
-effect limit (NewArray element) p = make_array limit p element p.operands
-effect limit (Other op) p = None
+unfoldable pub effect : Program → Terms → Instruction → Part → Option Effect
+effect program terms Nop p = Some (goes p Next)
+effect program terms (Push v) p = Some (pushes p p.operands v)
+effect program terms (Load kind slot) p = load p kind slot
+effect program terms (Store kind slot) p = store_in p kind slot p.operands
+effect program terms (LoadElement access) p = load_element p access p.operands
+effect program terms (StoreElement access) p = store_element p access p.operands
+effect program terms (Move operation) p = move p operation p.operands
+effect program terms (Compute operation) p = compute_two p operation p.operands
+effect program terms (Return kind) p = return_top p kind p.operands
+effect program terms ArrayLength p = array_length p p.operands
+effect program terms (NewArray class element) p = make_array terms p class element p.operands
+effect program terms (Other op) p = None

@@ -1,5 +1,5 @@
 -- What instructions do, by families (JVMS 6.5). Several opcodes of one family are one instruction here, with the data in which they differ.
-use Rattle.std.specs.Prelude.{ℕ, ◌-◌, ◌&&◌, ◌==◌, pos, ◌-ℤ◌, List, [], ◌∷◌, nat_le, if◌then◌else◌}
+use Rattle.std.specs.Prelude.{ℕ, ◌-◌, ◌&&◌, ◌==◌, pos, ◌-ℤ◌, List, [], ◌∷◌, codes, nat_le, if◌then◌else◌}
 use Rattle.dj_names.specs.declared.descriptor.Kind.{Kind}
 use Rattle.dj_names.specs.declared.descriptor.Kind.TheVariants as kinds
 use Rattle.dj_names.specs.declared.run.Value.{Value}
@@ -32,7 +32,6 @@ pub data Access : Type 0 where
   Shorts : Access
   Ints : Access
   Longs : Access
-  Refs : Access
 
 pub data Instruction : Type 0 where
   -- nop
@@ -55,8 +54,8 @@ pub data Instruction : Type 0 where
   Return : Kind → Instruction
   -- arraylength
   ArrayLength : Instruction
-  -- newarray
-  NewArray : Element → Instruction
+  -- newarray: an array is made, of the class of this name and with such elements
+  NewArray : List ℕ → Element → Instruction
   -- an instruction that the model doesn't run yet, by its first byte
   Other : ℕ → Instruction
 
@@ -108,9 +107,13 @@ abbrev pub local_does : List (ℕ × (ℕ → Instruction)) → ℕ → ℕ → 
 local_does [] op slot = Other op
 local_does (row ∷ rest) op slot = if op == row.0 then row.1 slot else local_does rest op slot
 
+-- JVMS 4.3.2: the name of the class of arrays of bytes
+abbrev pub byte_array_class : List ℕ
+byte_array_class = codes "[B"
+
 -- JVMS table 6.5.newarray-A
 abbrev pub new_array : ℕ → Instruction
-new_array base = if base == 8 then NewArray elements.Byte else Other 188
+new_array base = if base == 8 then NewArray byte_array_class elements.Byte else Other 188
 
 -- what an instruction does
 unfoldable pub instruction_of : Instr → Instruction

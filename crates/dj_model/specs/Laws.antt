@@ -1,12 +1,13 @@
 -- Laws of the model, for every program of the instructions that run so far, which neither jump nor throw.
-use Rattle.std.specs.Prelude.{◌≡◌, ℕ, List, ◌*◌, ◌<◌, [], ◌∷◌, length, Option, Some, Contains, IsFalse}
+use Rattle.std.specs.Prelude.{◌≡◌, ℕ, List, ◌*◌, ◌<◌, [], ◌∷◌, length, Some, Contains, IsFalse}
 use Rattle.dj_names.specs.declared.descriptor.Kind.TheVariants as kinds
 use Rattle.dj_names.specs.declared.run.Costs.{Costs}
 use Rattle.dj_names.specs.declared.run.Thresholds.{Thresholds}
 use Rattle.dj_names.specs.declared.run.Outcome.{Outcome}
 use Rattle.dj_model.specs.Program.{Name, Program, MethodName, Code, code_of, chain, is_initialiser, has_initialiser}
 use Rattle.dj_model.specs.Instructions.{Instruction}
-use Rattle.dj_model.specs.Effects.{Part}
+use Rattle.dj_model.specs.Effects.{Terms, Part, effect}
+use Rattle.dj_model.specs.Charges.{own_amounts}
 use Rattle.dj_model.specs.Metered.{RunsTo, run, Ends}
 use Rattle.dj_model.specs.Shape.{Signature, Kinds, after, HasShape, IsShapeFault}
 use Rattle.dj_model.specs.Sound.{HasKinds, HasSoundEffect}
@@ -18,9 +19,14 @@ HasOneEnd = (program : Program) (entry : MethodName) (input : List ℕ) (most : 
 
 -- an instruction that finds values of the kinds that it takes has an effect, and leaves values of the kinds that it leaves
 abbrev pub KeepsKinds : Type 0
-KeepsKinds = (signature : Signature) (code : Code) (i : Instruction) (k left : Kinds) (limit : Option ℕ) (p : Part)
+KeepsKinds = (program : Program) (terms : Terms) (signature : Signature) (code : Code) (i : Instruction) (k left : Kinds) (p : Part)
     → HasKinds p.locals p.operands k → length p.locals ≡ code.max_locals → after signature code i k ≡ Some left
-    → HasSoundEffect limit code i left p
+    → HasSoundEffect program terms code i left p
+
+-- the instructions that run so far ask for no class: what they do and are charged is the same in every program
+abbrev pub IsSameInEveryProgram : Type 0
+IsSameInEveryProgram = (a b : Program) (terms : Terms) (i : Instruction) (p : Part)
+    → (effect a terms i p ≡ effect b terms i p) × (own_amounts a (Some i) p.operands ≡ own_amounts b (Some i) p.operands)
 
 -- code without shape is reported with one number
 abbrev pub HasOneShapeFault : Type 0

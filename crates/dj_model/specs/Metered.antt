@@ -12,8 +12,9 @@ use Rattle.dj_names.specs.declared.run.Outcome.TheVariants as outcomes
 use Rattle.dj_names.specs.Objects.{Object, Array}
 use Rattle.dj_model.specs.Program.{Name, Program, MethodName, Code, code_of, chain, has_initialiser, initialiser_of}
 use Rattle.dj_model.specs.State.{Frame, State}
-use Rattle.dj_model.specs.Effects.{array_size, array_class, passes_limit}
-use Rattle.dj_model.specs.Step.{Terms, Answer, Went, Ended, IllFormed, step}
+use Rattle.dj_model.specs.Instructions.{byte_array_class}
+use Rattle.dj_model.specs.Effects.{Terms, array_size, passes_limit}
+use Rattle.dj_model.specs.Step.{Answer, Went, Ended, IllFormed, step}
 use Rattle.dj_model.specs.Charges.{amounts, paid, Payment, Paid, Exceeds, no_costs}
 
 -- ---- the beginning
@@ -49,7 +50,7 @@ initialiser_frames program classes =
 
 -- the bytes as an array, the first object of the heap
 abbrev pub input_array : List ℕ → Object
-input_array input = Array (array_class elements.Byte) elements.Byte (map (cast_signed w8) input)
+input_array input = Array byte_array_class elements.Byte (map (cast_signed w8) input)
 
 abbrev pub input_size : List ℕ → ℕ
 input_size input = array_size elements.Byte (length input)

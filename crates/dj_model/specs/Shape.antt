@@ -111,7 +111,7 @@ after signature code (Move operation) k = moved code k operation k.stack
 after signature code (Compute operation) k = gives code k (kinds.Int ∷ (kinds.Int ∷ [])) kinds.Int
 after signature code (Return kind) k = if is_kind kind signature.result then takes k (kind ∷ []) else None
 after signature code ArrayLength k = gives code k (kinds.Ref ∷ []) kinds.Int
-after signature code (NewArray element) k = gives code k (kinds.Int ∷ []) kinds.Ref
+after signature code (NewArray class element) k = gives code k (kinds.Int ∷ []) kinds.Ref
 after signature code (Other op) k = None
 
 -- the run doesn't go on at the instruction after it

@@ -1,11 +1,11 @@
 -- Values of the kinds that code's shape tells, and effects that keep them: of the instructions that run so far, which neither jump nor throw.
-use Rattle.std.specs.Prelude.{◌≡◌, ℕ, List, [], ◌∷◌, length, map, Option, Some, None, IsTrue, IsFalse, ⊤}
+use Rattle.std.specs.Prelude.{◌≡◌, List, [], ◌∷◌, length, map, Option, Some, None, IsTrue, IsFalse, ⊤}
 use Rattle.dj_names.specs.declared.descriptor.Kind.{Kind}
 use Rattle.dj_names.specs.declared.run.Value.{Value}
 use Rattle.dj_names.specs.Objects.{value_kind}
-use Rattle.dj_model.specs.Program.{Code}
+use Rattle.dj_model.specs.Program.{Program, Code}
 use Rattle.dj_model.specs.Instructions.{Instruction}
-use Rattle.dj_model.specs.Effects.{Part, Flow, Next, To, Raise, Throw, Back, Broken, Full, Effect, effect}
+use Rattle.dj_model.specs.Effects.{Terms, Part, Flow, Next, To, Raise, Throw, Back, Broken, Full, Effect, effect}
 use Rattle.dj_model.specs.Shape.{Kinds, ends}
 
 -- as many local variables, and each that has a kind has a value of it
@@ -31,5 +31,5 @@ IsSoundFlow code i left p Broken = ⊤
 IsSoundFlow code i left p (Full used size) = ⊤
 
 -- the instruction has an effect, and it keeps the kinds
-abbrev pub HasSoundEffect : Option ℕ → Code → Instruction → Kinds → Part → Type 0
-HasSoundEffect limit code i left p = (e : Effect) × (effect limit i p ≡ Some e) × IsSoundFlow code i left e.part e.flow
+abbrev pub HasSoundEffect : Program → Terms → Code → Instruction → Kinds → Part → Type 0
+HasSoundEffect program terms code i left p = (e : Effect) × (effect program terms i p ≡ Some e) × IsSoundFlow code i left e.part e.flow

@@ -13,12 +13,7 @@ use Rattle.dj_names.specs.Objects.{Object, Instance, Text, raised_class}
 use Rattle.dj_model.specs.Program.{Name, Program, Code, Range, code_of, is_subclass, is_initialiser, option_list}
 use Rattle.dj_model.specs.State.{Heap, Frame, State}
 use Rattle.dj_model.specs.Instructions.{Instruction}
-use Rattle.dj_model.specs.Effects.{Part, Flow, Next, To, Raise, Throw, Back, Broken, Full, Effect, effect, object_at, Found, IsArray, array_at, passes_limit, with_new, next_number, raised_size}
-
--- the terms of a run
-pub record Terms : Type 0 where
-  -- the limit on the heap's bytes, where there is one
-  pub limit : Option ℕ
+use Rattle.dj_model.specs.Effects.{Terms, Part, Flow, Next, To, Raise, Throw, Back, Broken, Full, Effect, effect, object_at, Found, IsArray, array_at, passes_limit, with_new, next_number, raised_size}
 
 pub data Answer : Type 0 where
   -- the run goes on in this state
@@ -142,7 +137,7 @@ part_of f s = record { locals = f.locals; operands = f.operands; heap = s.heap; 
 
 abbrev pub act : Program → Terms → State → Frame → List Frame → Option Instruction → Answer
 act program terms s f below None = IllFormed
-act program terms s f below (Some i) = settled program terms s f below (effect terms.limit i (part_of f s))
+act program terms s f below (Some i) = settled program terms s f below (effect program terms i (part_of f s))
 
 abbrev pub instruction_in : Option Code → ℕ → Option Instruction
 instruction_in None number = None

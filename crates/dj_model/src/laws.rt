@@ -1,5 +1,5 @@
 ghost use Rattle.dj_model.specs.Rows.{WorkedRuns};
-ghost use Rattle.dj_model.specs.Laws.{HasOneEnd, KeepsKinds, HasOneShapeFault, HasNoFaultWithShape, StraightCodeEnds};
+ghost use Rattle.dj_model.specs.Laws.{HasOneEnd, KeepsKinds, IsSameInEveryProgram, HasOneShapeFault, HasNoFaultWithShape, StraightCodeEnds};
 
 /// A run ends in one way, at one cost.
 pub fn one_end()
@@ -9,6 +9,11 @@ pub fn one_end()
 /// An instruction that finds the kinds that it takes has an effect, and leaves the kinds that it leaves.
 pub fn sound_effect()
     ensures { KeepsKinds }
+{}
+
+/// What an instruction does, and what it is charged, is the same in every program.
+pub fn same_in_every_program()
+    ensures { IsSameInEveryProgram }
 {}
 
 /// Code without shape is reported with one number.

@@ -4,5 +4,6 @@
 mod laws;
 
 pub use laws::{
-    no_fault_with_shape, one_end, one_shape_fault, sound_effect, straight_code_ends, worked_runs,
+    no_fault_with_shape, one_end, one_shape_fault, same_in_every_program, sound_effect,
+    straight_code_ends, worked_runs,
 };

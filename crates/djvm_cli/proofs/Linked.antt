@@ -26,6 +26,7 @@ use Rattle.djvm_cli.specs.declared.program.Action.TheVariants as actions
 use Rattle.djvm_cli.specs.declared.machine.Ending.{Ending}
 use Rattle.djvm_cli.specs.declared.machine.turns.Turns.TheVariants as ways
 use Rattle.djvm_cli.specs.Methods.{action_view}
+use Rattle.djvm_cli.specs.Machines.{straight_effect}
 use Rattle.djvm_cli.specs.Turns.{TurnsDo, FlowEnds}
 use Rattle.djvm_cli.specs.Running.{PushesNull}
 use Rattle.djvm_cli.proofs.StraightRuns.{first_part}
@@ -215,7 +216,7 @@ module _ (locals : List (Option Value)) (heap : Heap) (statics : List Static) (l
         arrays = arrays_set heap.objects (r - 1) class contents arrays;
       }
 
-  load_element_linked : (operands : List Value) → AreMade operands → OnEffect (effect None (model.LoadElement model.Bytes) (part operands))
+  load_element_linked : (operands : List Value) → AreMade operands → OnEffect (straight_effect (model.LoadElement model.Bytes) (part operands))
   unfolding effect
   load_element_linked (values.Int index ∷ (values.Ref r ∷ rest)) made =
       reached_linked (values.Int index ∷ (values.Ref r ∷ rest)) (only model.Bytes (array_at heap.objects r)) _
@@ -223,7 +224,7 @@ module _ (locals : List (Option Value)) (heap : Heap) (statics : List Static) (l
       (λ class contents. found_linked (values.Int index ∷ (values.Ref r ∷ rest)) rest (element_at contents index) made.1.1)
   load_element_linked _ made = tt
 
-  store_element_linked : (operands : List Value) → AreMade operands → OnEffect (effect None (model.StoreElement model.Bytes) (part operands))
+  store_element_linked : (operands : List Value) → AreMade operands → OnEffect (straight_effect (model.StoreElement model.Bytes) (part operands))
   unfolding effect
   store_element_linked (v ∷ (values.Int index ∷ (values.Ref r ∷ rest))) made =
       on_if (is_of_kind kinds.Int v) _ (reached_linked (v ∷ (values.Int index ∷ (values.Ref r ∷ rest))) (only model.Bytes (array_at heap.objects r)) _
@@ -231,14 +232,14 @@ module _ (locals : List (Option Value)) (heap : Heap) (statics : List Static) (l
       (λ class contents. put_linked (v ∷ (values.Int index ∷ (values.Ref r ∷ rest))) rest r class _ (element_at contents index) made.1.1.1))
   store_element_linked _ made = tt
 
-  length_linked : (operands : List Value) → AreMade operands → OnEffect (effect None model.ArrayLength (part operands))
+  length_linked : (operands : List Value) → AreMade operands → OnEffect (straight_effect model.ArrayLength (part operands))
   unfolding effect
   length_linked (values.Ref r ∷ rest) made =
       reached_linked (values.Ref r ∷ rest) (array_at heap.objects r) _ (bytes_at heap.objects r made.0 arrays)
       (λ class contents. there (values.Int (pos (length contents)) ∷ rest) (tt, made.1))
   length_linked _ made = tt
 
-  new_array_linked : (operands : List Value) → AreMade operands → OnEffect (effect None (model.NewArray elements.Byte) (part operands))
+  new_array_linked : (operands : List Value) → AreMade operands → OnEffect (straight_effect (model.NewArray model.byte_array_class elements.Byte) (part operands))
   unfolding effect
   new_array_linked (values.Int (pos n) ∷ rest) made =
       let object : Object = Array (codes "[B") elements.Byte (new_contents n) in
@@ -252,14 +253,14 @@ module _ (locals : List (Option Value)) (heap : Heap) (statics : List Static) (l
   new_array_linked (values.Int (negsuc n) ∷ rest) made = tt
   new_array_linked _ made = tt
 
-  return_linked : (operands : List Value) → AreMade operands → OnEffect (effect None (model.Return kinds.Ref) (part operands))
+  return_linked : (operands : List Value) → AreMade operands → OnEffect (straight_effect (model.Return kinds.Ref) (part operands))
   unfolding effect
   return_linked [] made = tt
   return_linked (values.Ref r ∷ rest) made = (made.0, arrays)
   return_linked (values.Int z ∷ rest) made = tt
   return_linked (values.Long z ∷ rest) made = tt
 
-  store_linked : (kind : Kind) (slot : ℕ) (operands : List Value) → AreMade operands → OnEffect (effect None (model.Store kind slot) (part operands))
+  store_linked : (kind : Kind) (slot : ℕ) (operands : List Value) → AreMade operands → OnEffect (straight_effect (model.Store kind slot) (part operands))
   unfolding effect
   store_linked kind slot [] made = tt
   store_linked kind slot (v ∷ rest) made =
@@ -267,26 +268,26 @@ module _ (locals : List (Option Value)) (heap : Heap) (statics : List Static) (l
       let linked : IsLinked next = record { locals = stored_made (length heap.objects) locals slot v made.0 all; operands = made.1; arrays = arrays } in
       on_if (is_of_kind kind v && nat_lt (slot + slots_of kind - 1) (length locals)) (Some (goes next Next)) linked
 
-  move_linked : (operation : model.StackOperation) (operands : List Value) → AreMade operands → OnEffect (effect None (model.Move operation) (part operands))
+  move_linked : (operation : model.StackOperation) (operands : List Value) → AreMade operands → OnEffect (straight_effect (model.Move operation) (part operands))
   unfolding effect
   move_linked model.Pop [] made = tt
   move_linked model.Dup [] made = tt
   move_linked model.Pop (v ∷ rest) made = on_if_not (same_kind kinds.Long (value_kind v)) _ (there rest made.1)
   move_linked model.Dup (v ∷ rest) made = on_if_not (same_kind kinds.Long (value_kind v)) _ (there (v ∷ (v ∷ rest)) (made.0, made))
 
-  compute_linked : (operation : model.IntOperation) (operands : List Value) → AreMade operands → OnEffect (effect None (model.Compute operation) (part operands))
+  compute_linked : (operation : model.IntOperation) (operands : List Value) → AreMade operands → OnEffect (straight_effect (model.Compute operation) (part operands))
   unfolding effect
   compute_linked operation (values.Int b ∷ (values.Int a ∷ rest)) made = there _ (tt, made.1.1)
   compute_linked operation _ made = tt
 
-  push_linked : (v : Value) (operands : List Value) → PushesNull (model.Push v) → AreMade operands → OnEffect (effect None (model.Push v) (part operands))
+  push_linked : (v : Value) (operands : List Value) → PushesNull (model.Push v) → AreMade operands → OnEffect (straight_effect (model.Push v) (part operands))
   unfolding effect
   push_linked (values.Int z) operands null made = there (values.Int z ∷ operands) (tt, made)
   push_linked (values.Long z) operands null made = there (values.Long z ∷ operands) (tt, made)
   push_linked (values.Ref zero) operands null made = there (values.Ref zero ∷ operands) (omega arith, made)
   push_linked (values.Ref (suc n)) operands null made = absurd null
 
-  action_linked : (a : Action) (operands : List Value) → PushesNull (action_view a) → AreMade operands → OnEffect (effect None (action_view a) (part operands))
+  action_linked : (a : Action) (operands : List Value) → PushesNull (action_view a) → AreMade operands → OnEffect (straight_effect (action_view a) (part operands))
   unfolding effect
   action_linked actions.Nop operands null made = there operands made
   action_linked (actions.Push v) operands null made = push_linked v operands null made
@@ -303,7 +304,7 @@ module _ (locals : List (Option Value)) (heap : Heap) (statics : List Static) (l
   action_linked actions.NewByteArray operands null made = new_array_linked operands made
   action_linked (actions.Other op) operands null made = tt
 
-effect_linked : (a : Action) (p q : Part) (flow : Flow) → PushesNull (action_view a) → IsLinked p → effect None (action_view a) p ≡ Some (goes q flow) → After q flow
+effect_linked : (a : Action) (p q : Part) (flow : Flow) → PushesNull (action_view a) → IsLinked p → straight_effect (action_view a) p ≡ Some (goes q flow) → After q flow
 effect_linked a p q flow null linked e = subst OnEffect e (action_linked p.locals p.heap p.statics p.literals linked.locals linked.arrays a p.operands null linked.operands)
 
 -- ---- a run

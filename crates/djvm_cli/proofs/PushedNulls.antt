@@ -4,7 +4,7 @@ use Rattle.std.specs.Prelude.{◌-◌, ◌&&◌, ◌==◌, nat_le, if◌then◌e
 use Rattle.std.specs.List.{AllByRecursion}
 use Rattle.dj_ops.specs.declared.instruction.Instr.{Instr}
 use Rattle.dj_ops.specs.declared.instruction.Instr.TheVariants as instrs
-use Rattle.dj_model.specs.Instructions.{Instruction, Row, rows, row_does, simple, local_rows, local_does, NewArray, Other, instruction_of}
+use Rattle.dj_model.specs.Instructions.{Instruction, Row, rows, row_does, simple, local_rows, local_does, NewArray, Other, byte_array_class, instruction_of}
 use Rattle.dj_names.specs.declared.run.Element.TheVariants as elements
 use Rattle.djvm_cli.specs.Running.{PushesNull}
 
@@ -37,7 +37,7 @@ unfolding instruction_of simple EachPushes
 pushes_null (instrs.Simple op) = row_pushes rows op rows_push
 pushes_null (instrs.Push op value) = tt
 pushes_null (instrs.Local op slot wide) = local_pushes local_rows op slot (λ n. tt, (λ n. tt, (λ n. tt, (λ n. tt, tt))))
-pushes_null (instrs.Array base) = chosen PushesNull (base == 8) (NewArray elements.Byte) (Other 188) tt tt
+pushes_null (instrs.Array base) = chosen PushesNull (base == 8) (NewArray byte_array_class elements.Byte) (Other 188) tt tt
 pushes_null (instrs.Literal op index) = tt
 pushes_null (instrs.Inc slot by wide) = tt
 pushes_null (instrs.Branch op target) = tt

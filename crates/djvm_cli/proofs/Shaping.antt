@@ -75,7 +75,7 @@ by_room code (Move operation) k = refl
 by_room code (Compute operation) k = refl
 by_room code (Return kind) k = refl
 by_room code ArrayLength k = refl
-by_room code (NewArray element) k = refl
+by_room code (NewArray class element) k = refl
 by_room code (Other op) k = refl
 
 pub after_room : (s : Standing) (method : StraightMethod) (i : Instruction) (k : Kinds) → HasRoomOf s method

@@ -17,18 +17,20 @@ use Rattle.dj_model.specs.Effects.{Part, Flow, Next, To, Raise, Throw, Back, Bro
 use Rattle.dj_model.specs.Step.{result_outcome, bytes_in}
 use Rattle.dj_model.specs.Charges as model
 use Rattle.dj_model.specs.Charges.{paid, own_amounts, no_costs}
-use Rattle.dj_model.specs.Metered.{Run, Goes, Ends, turns, RunsTo, first_state, input_array, input_size}
+use Rattle.dj_model.specs.Metered.{Run, Goes, Ends, turns, RunsTo, metered_terms, first_state, input_array, input_size}
 use Rattle.dj_model.specs.Shape.{Kinds, StateBefore, Holds, HasShape, after, ends, first_kinds}
 use Rattle.dj_model.specs.Sound.{LocalsHave, HasKinds, HasSoundEffect, IsSoundFlow}
 use Rattle.dj_model.proofs.Turns.{Stands, turns_more, turns_next, turns_raise, turns_back, turns_broken, turns_stopped, first_frames_plainly, begins_plainly}
 use Rattle.dj_model.proofs.Sound.{sound_effect}
+use Rattle.dj_model.proofs.Programs.{same_effect, same_amounts}
 use Rattle.dj_model.proofs.Shapes.{one_state}
 use Rattle.djvm_cli.specs.declared.machine.Ending.{Ending}
 use Rattle.djvm_cli.specs.declared.machine.turns.Turns.TheVariants as ways
 use Rattle.djvm_cli.specs.declared.program.Action.{Action}
 use Rattle.djvm_cli.specs.Methods.{straight_signature, action_view}
 use Rattle.djvm_cli.specs.Running.{IsPlainEntry, IsStraightEnd}
-use Rattle.djvm_cli.specs.Turns.{TurnsDo, FlowEnds}
+use Rattle.djvm_cli.specs.Machines.{straight_effect}
+use Rattle.djvm_cli.specs.Turns.{straight_amounts, TurnsDo, FlowEnds}
 
 abbrev pub frame_at : MethodName → ℕ → Part → Frame
 frame_at entry number p = record { method = entry; number = number; locals = p.locals; operands = p.operands; paid = false }
@@ -93,7 +95,7 @@ module _ (code : Code) (input : List ℕ) (most : Thresholds) (number : ℕ) (i 
   record Finds : Type 0 where
     left : Kinds
     found : after straight_signature code i reached.kinds ≡ Some left
-    sound : HasSoundEffect None code i left p
+    sound : HasSoundEffect [] metered_terms code i left p
     last : suc number ≡ length code.instructions → IsTrue (ends i)
 
   finds : Finds
@@ -108,12 +110,20 @@ module _ (code : Code) (input : List ℕ) (most : Thresholds) (number : ℕ) (i 
       record {
         left = h.left;
         found = found;
-        sound = sound_effect straight_signature code i reached.kinds h.left None p reached.values reached.long found;
+        sound = sound_effect [] metered_terms straight_signature code i reached.kinds h.left p reached.values reached.long found;
         last = λ e. subst (λ (j : Instruction). IsTrue (ends j)) same (h.last e);
       }
 
-  pub has_effect : IsSome (effect None i p)
+  pub has_effect : IsSome (straight_effect i p)
   has_effect = rw finds.sound.1 refl
+
+  -- in every program
+  its_effect : (program : Program) (e : Effect) → straight_effect i p ≡ Some e → effect program metered_terms i p ≡ Some e
+  its_effect program e h = same_effect program [] metered_terms i p ∙ h
+
+  its_payment : (program : Program) (payment : model.Payment) → paid most costs (straight_amounts i p.operands) ≡ payment
+      → paid most costs (own_amounts program (Some i) p.operands) ≡ payment
+  its_payment program payment e = ap (paid most costs) (same_amounts program [] i p.operands) ∙ e
 
   stands : (program : Program) (entry : MethodName) → IsPlainEntry program entry code
       → Stands program (state_at program entry input number p costs) (frame_at entry number p) code i
@@ -133,7 +143,7 @@ module _ (code : Code) (input : List ℕ) (most : Thresholds) (number : ℕ) (i 
       turns_more program most (2 * number) n (first_state program entry input) (state_at program entry input number p costs) (reached.reaches program entry plain) ∙ e
 
   -- the flow is sound where it goes on
-  goes_on : (next : Part) → effect None i p ≡ Some (goes next Next) → IsSoundFlow code i finds.left next Next
+  goes_on : (next : Part) → straight_effect i p ≡ Some (goes next Next) → IsSoundFlow code i finds.left next Next
   goes_on next e =
       let both : Some finds.sound.0 ≡ Some (goes next Next) = sym finds.sound.1 ∙ e in
       let same : finds.sound.0 ≡ goes next Next = cc in
@@ -143,7 +153,7 @@ module _ (code : Code) (input : List ℕ) (most : Thresholds) (number : ℕ) (i 
       → Reached code input most (number + 1) next now
   reached_next next now (inr stopped) within = absurd stopped
   reached_next next now (inl done) within =
-      let payment : paid most costs (own_amounts (Some i) p.operands) ≡ model.Paid now = done.1 ∙ ap model.Paid (sym done.2.0) in
+      let payment : paid most costs (straight_amounts i p.operands) ≡ model.Paid now = done.1 ∙ ap model.Paid (sym done.2.0) in
       let flow = goes_on next done.2.1 in
       let not_last : suc number ≡ length code.instructions → ⊥ = λ e. let both : true ≡ false = sym (finds.last e) ∙ flow.2 in absurd cc in
       let more : number < length code.instructions = reached.more in
@@ -153,7 +163,7 @@ module _ (code : Code) (input : List ℕ) (most : Thresholds) (number : ℕ) (i 
         reaches = λ program entry plain.
             subst (λ (n : ℕ). turns program most n (first_state program entry input) ≡ Goes (state_at program entry input (number + 1) next now)) count
             (later program entry plain 2 (Goes (state_at program entry input (number + 1) next now))
-            (turns_next program most (state_at program entry input number p costs) (frame_at entry number p) code i (stands program entry plain) now payment next done.2.1));
+            (turns_next program most (state_at program entry input number p costs) (frame_at entry number p) code i (stands program entry plain) now (its_payment program _ payment) next (its_effect program _ done.2.1)));
         more = omega arith;
         kinds = finds.left;
         state = subst (λ (n : ℕ). StateBefore straight_signature code n finds.left) one (reached.kinds, i, reached.state, at, flow.2, finds.found);
@@ -169,30 +179,30 @@ module _ (code : Code) (input : List ℕ) (most : Thresholds) (number : ℕ) (i 
       (2 * number + n, rw (begins_plainly program entry input plain.none_above) (later program entry plain n (Ends outcome now) e))
 
   done_end : (program : Program) (entry : MethodName) → IsPlainEntry program entry code → (q : Part) (flow : Flow) (outcome : Outcome) (now : Costs)
-      → paid most costs (own_amounts (Some i) p.operands) ≡ model.Paid now → effect None i p ≡ Some (goes q flow) → FlowEnds q.heap flow outcome
+      → paid most costs (straight_amounts i p.operands) ≡ model.Paid now → straight_effect i p ≡ Some (goes q flow) → FlowEnds q.heap flow outcome
       → turns program most 2 (state_at program entry input number p costs) ≡ Ends outcome now
   done_end program entry plain q Next outcome now payment e end = absurd end
   done_end program entry plain q (To n) outcome now payment e end = absurd end
   done_end program entry plain q (Throw n) outcome now payment e end = absurd end
   done_end program entry plain q (Full used size) outcome now payment e end = absurd end
   done_end program entry plain q (Raise raised) outcome now payment e end =
-      turns_raise program most (state_at program entry input number p costs) (frame_at entry number p) code i (stands program entry plain) now payment q raised e
+      turns_raise program most (state_at program entry input number p costs) (frame_at entry number p) code i (stands program entry plain) now (its_payment program _ payment) q raised (its_effect program _ e)
       ∙ ap (λ (o : Outcome). Ends o now) (sym end)
   done_end program entry plain q (Back result) outcome now payment e end =
-      turns_back program most (state_at program entry input number p costs) (frame_at entry number p) code i (stands program entry plain) now payment q result e
+      turns_back program most (state_at program entry input number p costs) (frame_at entry number p) code i (stands program entry plain) now (its_payment program _ payment) q result (its_effect program _ e)
       ∙ ap (λ (o : Outcome). Ends o now) (sym end)
   done_end program entry plain q Broken outcome now payment e end =
-      turns_broken program most (state_at program entry input number p costs) (frame_at entry number p) code i (stands program entry plain) now payment q e
+      turns_broken program most (state_at program entry input number p costs) (frame_at entry number p) code i (stands program entry plain) now (its_payment program _ payment) q (its_effect program _ e)
       ∙ ap (λ (o : Outcome). Ends o now) (sym end)
 
   pub runs_to : (next : Part) (e : Ending) → TurnsDo most costs i p next (ways.End e)
       → (program : Program) (entry : MethodName) → IsPlainEntry program entry code → RunsTo program entry input most e.outcome e.costs
   runs_to next e (inl done) program entry plain =
-      let payment : paid most costs (own_amounts (Some i) p.operands) ≡ model.Paid e.costs = done.1 ∙ ap model.Paid (sym done.2.0) in
+      let payment : paid most costs (straight_amounts i p.operands) ≡ model.Paid e.costs = done.1 ∙ ap model.Paid (sym done.2.0) in
       ended program entry plain 2 e.outcome e.costs (done_end program entry plain done.2.1 done.2.2 e.outcome e.costs payment done.2.3 done.2.4)
   runs_to next e (inr stopped) program entry plain =
       ended program entry plain 1 e.outcome e.costs
-      (turns_stopped program most (state_at program entry input number p costs) (frame_at entry number p) code i (stands program entry plain) charges.Alloc e.costs stopped.0
+      (turns_stopped program most (state_at program entry input number p costs) (frame_at entry number p) code i (stands program entry plain) charges.Alloc e.costs (its_payment program _ stopped.0)
       ∙ ap (λ (o : Outcome). Ends o e.costs) (sym stopped.1))
 
 -- ---- a method's instructions

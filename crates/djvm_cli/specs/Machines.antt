@@ -5,6 +5,7 @@ use Rattle.dj_names.specs.declared.run.Value.TheVariants as values
 use Rattle.dj_model.specs.Instructions.{Instruction}
 use Rattle.dj_model.specs.Effects as model
 use Rattle.dj_model.specs.Effects.{Part, Effect, effect, goes}
+use Rattle.dj_model.specs.Metered.{metered_terms}
 use Rattle.djvm_cli.specs.declared.machine.heap.Found.{Found}
 use Rattle.djvm_cli.specs.declared.machine.heap.Found.TheVariants as founds
 use Rattle.djvm_cli.specs.declared.machine.parts.Machine.{Machine}
@@ -23,6 +24,10 @@ IsShort _ = ⊤
 abbrev pub machine_view : Machine → Part
 machine_view m = record { locals = m.locals.items; operands = m.operands; heap = m.heap; statics = []; literals = [] }
 
+-- the effect of a straight instruction in a metered run; it asks for no class, so it is the same in every program
+abbrev pub straight_effect : Instruction → Part → Option Effect
+straight_effect i p = effect [] metered_terms i p
+
 -- the effect that is told so, of an instruction from the one state to the other
 abbrev pub told : Part → Part → Progress → Option Effect
 told before after ways.Next = Some (goes after model.Next)
@@ -33,4 +38,4 @@ told before after ways.IllFormed = None
 
 -- the instruction has the effect that is told so
 abbrev pub Does : Instruction → Part → Part → Progress → Type 0
-Does i before after way = effect None i before ≡ told before after way
+Does i before after way = straight_effect i before ≡ told before after way

@@ -32,7 +32,7 @@ action_view actions.Dup = model.Move model.Dup
 action_view (actions.Compute operation) = model.Compute (operation_view operation)
 action_view actions.ReturnReference = model.Return kinds.Ref
 action_view actions.ArrayLength = model.ArrayLength
-action_view actions.NewByteArray = model.NewArray elements.Byte
+action_view actions.NewByteArray = model.NewArray model.byte_array_class elements.Byte
 action_view (actions.Other op) = model.Other op
 
 abbrev pub straight_descriptor : List ℕ

@@ -1,5 +1,6 @@
 -- The turns of an instruction, as the machine tells them.
-use Rattle.std.specs.Prelude.{◌≡◌, ◌≤◌, ◌⊎◌, ⊤, Some, None}
+use Rattle.std.specs.Prelude.{◌≡◌, ◌≤◌, ◌⊎◌, ⊤, List, [], Some}
+use Rattle.dj_names.specs.declared.run.Value.{Value}
 use Rattle.dj_names.specs.declared.run.Charge.TheVariants as charges
 use Rattle.dj_names.specs.declared.run.Costs.{Costs}
 use Rattle.dj_names.specs.declared.run.Thresholds.{Thresholds}
@@ -9,14 +10,19 @@ use Rattle.dj_names.specs.declared.run.Outcome.TheVariants as outcomes
 use Rattle.dj_names.specs.Objects.{raised_class}
 use Rattle.dj_model.specs.State.{Heap}
 use Rattle.dj_model.specs.Instructions.{Instruction}
-use Rattle.dj_model.specs.Effects.{Part, Flow, Next, Raise, Back, Broken, effect, goes}
+use Rattle.dj_model.specs.Effects.{Part, Flow, Next, Raise, Back, Broken, goes}
 use Rattle.dj_model.specs.Step.{result_outcome}
 use Rattle.dj_model.specs.Charges as model
-use Rattle.dj_model.specs.Charges.{paid, own_amounts}
+use Rattle.dj_model.specs.Charges.{Amount, paid, own_amounts}
+use Rattle.djvm_cli.specs.Machines.{straight_effect}
 use Rattle.djvm_cli.specs.declared.machine.pay.Payment.{Payment}
 use Rattle.djvm_cli.specs.declared.machine.pay.Payment.TheVariants as payments
 use Rattle.djvm_cli.specs.declared.machine.turns.Turns.{Turns}
 use Rattle.djvm_cli.specs.declared.machine.turns.Turns.TheVariants as turns
+
+-- the charges of a straight instruction, the same in every program
+abbrev pub straight_amounts : Instruction → List Value → List Amount
+straight_amounts i operands = own_amounts [] (Some i) operands
 
 abbrev pub payment_view : Payment → model.Payment
 payment_view (payments.Paid costs) = model.Paid costs
@@ -35,18 +41,18 @@ FlowEnds heap _ outcome = ⊥
 
 -- the instruction is done, at these costs
 abbrev pub IsDone : Costs → Instruction → Part → Part → Turns → Type 0
-IsDone costs i before after (turns.Go now) = (now ≡ costs) × (effect None i before ≡ Some (goes after Next))
+IsDone costs i before after (turns.Go now) = (now ≡ costs) × (straight_effect i before ≡ Some (goes after Next))
 IsDone costs i before after (turns.End e) =
-    (e.costs ≡ costs) × (p : Part) × (flow : Flow) × (effect None i before ≡ Some (goes p flow)) × FlowEnds p.heap flow e.outcome
+    (e.costs ≡ costs) × (p : Part) × (flow : Flow) × (straight_effect i before ≡ Some (goes p flow)) × FlowEnds p.heap flow e.outcome
 
 -- the instruction's charges are added, and then it is done
 abbrev pub TurnsDo : Thresholds → Costs → Instruction → Part → Part → Turns → Type 0
 TurnsDo most costs i before after r =
-    ((now : Costs) × (paid most costs (own_amounts (Some i) before.operands) ≡ model.Paid now) × IsDone now i before after r) ⊎ IsStopped most costs i before r where
+    ((now : Costs) × (paid most costs (straight_amounts i before.operands) ≡ model.Paid now) × IsDone now i before after r) ⊎ IsStopped most costs i before r where
       IsStopped : Thresholds → Costs → Instruction → Part → Turns → Type 0
       IsStopped most costs i before (turns.Go now) = ⊥
       IsStopped most costs i before (turns.End e) =
-          (paid most costs (own_amounts (Some i) before.operands) ≡ model.Exceeds charges.Alloc e.costs) × (e.outcome ≡ outcomes.Stopped charges.Alloc)
+          (paid most costs (straight_amounts i before.operands) ≡ model.Exceeds charges.Alloc e.costs) × (e.outcome ≡ outcomes.Stopped charges.Alloc)
 
 abbrev pub GoesWithin : Thresholds → Turns → Type 0
 GoesWithin most (turns.Go costs) = costs.alloc ≤ most.alloc

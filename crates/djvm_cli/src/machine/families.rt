@@ -163,7 +163,7 @@ impl Machine {
 
     /// A length is taken, and an array of as many zeros is made.
     pub fn new_byte_array(&mut self, alloc: Global) -> Result<Progress, RulesError>
-        ensures { IfOk result (Does (model.NewArray Byte) (machine_view self.old) (machine_view self.new)) }
+        ensures { IfOk result (Does (model.NewArray model.byte_array_class Byte) (machine_view self.old) (machine_view self.new)) }
     {
         let Some(Value::Int(count)) = self.operands.pop() else {
             return Ok(Progress::IllFormed);

@@ -1,8 +1,8 @@
 ghost use Rattle.std.specs.Prelude.{◌≡◌, ◌≤◌, Some};
 ghost use Rattle.dj_names.specs.declared.run.Element.TheVariants.{Byte};
-ghost use Rattle.dj_model.specs.Charges.{array_amount, own_amounts, paid};
+ghost use Rattle.dj_model.specs.Charges.{array_amount, paid};
 ghost use Rattle.djvm_cli.specs.Methods.{action_view};
-ghost use Rattle.djvm_cli.specs.Turns.{payment_view, PaysWithin};
+ghost use Rattle.djvm_cli.specs.Turns.{straight_amounts, payment_view, PaysWithin};
 
 use crate::machine::operands::Operands;
 use crate::program::Action;
@@ -30,7 +30,7 @@ fn byte_array_amount(operands: &Operands) -> u64
 /// The charges are added.
 pub fn pay(action: Action, operands: &Operands, costs: Costs, most: &Thresholds) -> Payment
     requires costs { costs.alloc ≤ 1073741824 }
-    ensures value { paid most.now costs (own_amounts (Some (action_view action)) operands.now) ≡ payment_view result }
+    ensures value { paid most.now costs (straight_amounts (action_view action) operands.now) ≡ payment_view result }
     ensures within { costs.alloc ≤ most.now.alloc → PaysWithin most.now result }
 {
     if action != Action::NewByteArray {

@@ -4,13 +4,12 @@ ghost use Rattle.dj_names.specs.Objects.{raised_class};
 ghost use Rattle.dj_names.specs.declared.run.Costs.{Costs};
 ghost use Rattle.dj_names.specs.declared.run.Charge.TheVariants.{Alloc};
 ghost use Rattle.dj_names.specs.declared.run.Outcome.TheVariants.{Stopped};
-ghost use Rattle.dj_model.specs.Charges.{own_amounts, paid, Exceeds};
-ghost use Rattle.dj_model.specs.Effects.{effect};
+ghost use Rattle.dj_model.specs.Charges.{paid, Exceeds};
 ghost use Rattle.dj_model.specs.Step.{result_outcome};
 ghost use Rattle.djvm_cli.specs.Methods.{action_view};
 ghost use Rattle.djvm_cli.specs.declared.machine.turns.Turns.TheVariants as turns;
-ghost use Rattle.djvm_cli.specs.Machines.{machine_view};
-ghost use Rattle.djvm_cli.specs.Turns.{TurnsDo, IsDone, GoesWithin};
+ghost use Rattle.djvm_cli.specs.Machines.{machine_view, straight_effect};
+ghost use Rattle.djvm_cli.specs.Turns.{straight_amounts, TurnsDo, IsDone, GoesWithin};
 
 use crate::machine::Ending;
 use crate::machine::first::unsigned_bytes;
@@ -63,7 +62,7 @@ fn end(outcome: Outcome, costs: Costs) -> Result<Turns, RulesError>
 impl Machine {
     // The instruction is done, after its charges were added.
     fn done(&mut self, alloc: Global, action: Action, costs: Costs) -> Result<Turns, RulesError>
-        requires { IsSome (effect None (action_view action) (machine_view self.old)) }
+        requires { IsSome (straight_effect (action_view action) (machine_view self.old)) }
         ensures { IfOk result (IsDone costs (action_view action) (machine_view self.old) (machine_view self.new)) }
     {
         match self.act(alloc, action)? {
@@ -86,12 +85,12 @@ impl Machine {
         costs: Costs,
         most: &Thresholds,
     ) -> Result<Turns, RulesError>
-        requires sound { IsSome (effect None (action_view action) (machine_view self.old)) }
+        requires sound { IsSome (straight_effect (action_view action) (machine_view self.old)) }
         requires costs { costs.alloc ≤ 1073741824 }
         ensures turns { IfOk result (TurnsDo most.now costs (action_view action) (machine_view self.old) (machine_view self.new)) }
         ensures within { costs.alloc ≤ most.now.alloc → IfOk result (GoesWithin most.now) }
         // A charge that passes its threshold stops the run before the instruction takes any memory.
-        ensures stopped { (now : Costs) → paid most.now costs (own_amounts (Some (action_view action)) self.old.operands) ≡ Exceeds Alloc now
+        ensures stopped { (now : Costs) → paid most.now costs (straight_amounts (action_view action) self.old.operands) ≡ Exceeds Alloc now
             → (machine_view self.new ≡ machine_view self.old) × (result ≡ Ok (turns.End (record { outcome = Stopped Alloc; costs = now }))) }
     {
         match pay(action, &self.operands, costs, most) {

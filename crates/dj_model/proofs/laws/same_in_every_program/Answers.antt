@@ -1,0 +1,5 @@
+use Rattle.dj_model.proofs.Programs.{same_effect, same_amounts}
+use Rattle.dj_model.proofs.laws.same_in_every_program.Goals as goal
+
+pub returns : goal.returns
+returns c = λ a b terms i p. (same_effect a b terms i p, same_amounts a b i p.operands)
