@@ -5,7 +5,7 @@ use Rattle.std.specs.Int.{w8, to_be_bytes}
 use Rattle.std.proofs.lemmas.Bool.{eqb-true}
 use Rattle.std.proofs.lemmas.Bool.Decides.{nat_tests}
 use Rattle.dj_class.specs.declared.pool.PoolError.TheVariants as pool_errors
-use Rattle.dj_class.specs.ClassFile.{Constant, Utf8, Class, u2, constant_bytes, pool_bytes, text_at, IsConstant, IsClassText, IsPool}
+use Rattle.dj_class.specs.ClassFile.{Constant, Utf8, Class, u2, constant_bytes, pool_bytes, text_at, AreConstants, IsClassText, IsPool}
 use Rattle.dj_class.specs.Unbuilt.{IsWhole, unbuilt_tags}
 use Rattle.dj_class.specs.Reading.{Cursor, utf8_at, class_at, constant_at_cursor, constants_at, is_linked, first_unlinked, linked, linked_constants_at, pool_at, class_text_test}
 use Rattle.dj_class.proofs.Spans.{IsBytes, Spans, Spans-none, Spans-then, Reads, step_takes, Spans-stay, step_again, bind_ok, bind_again, never_ok, fails_both, guard_ok, guard_again, cond_either, cond_true, cond_false, byte_reads, u2_reads, text_reads}
@@ -119,7 +119,7 @@ constants_read d n index = record { takes = constants_take d n index; again = co
 
 -- ---- links
 
-links_take : (d : TestsDecide) (pool : List Constant) (index : ℕ) (ks : List Constant) → first_unlinked pool index ks ≡ None → AllByRecursion IsWhole ks → AllByRecursion (IsConstant pool) ks
+links_take : (d : TestsDecide) (pool : List Constant) (index : ℕ) (ks : List Constant) → first_unlinked pool index ks ≡ None → AllByRecursion IsWhole ks → AreConstants pool ks
 unfolding first_unlinked
 links_take d pool index [] h whole = tt
 links_take d pool index (Utf8 text ∷ ks) h whole = (whole.0, links_take d pool (index + 1) ks h whole.1)
@@ -128,14 +128,14 @@ links_take d pool index (Class i ∷ ks) h whole =
     (λ l r. ((whole.0, passes_takes class_text_test IsClassText (class_text d) (text_at pool i) l), links_take d pool (index + 1) ks r whole.1))
     (λ l r. absurd cc)
 
-links_again : (d : TestsDecide) (pool : List Constant) (index : ℕ) (ks : List Constant) → AllByRecursion (IsConstant pool) ks → first_unlinked pool index ks ≡ None
+links_again : (d : TestsDecide) (pool : List Constant) (index : ℕ) (ks : List Constant) → AreConstants pool ks → first_unlinked pool index ks ≡ None
 unfolding first_unlinked
 links_again d pool index [] h = refl
 links_again d pool index (Utf8 text ∷ ks) h = links_again d pool (index + 1) ks h.1
 links_again d pool index (Class i ∷ ks) h =
     cond_true _ (passes_again class_text_test IsClassText (class_text d) (text_at pool i) h.0.1) (links_again d pool (index + 1) ks h.1)
 
-are_whole : (pool ks : List Constant) → AllByRecursion (IsConstant pool) ks → AllByRecursion IsWhole ks
+are_whole : (pool ks : List Constant) → AreConstants pool ks → AllByRecursion IsWhole ks
 are_whole pool [] h = tt
 are_whole pool (Utf8 text ∷ ks) h = (h.0, are_whole pool ks h.1)
 are_whole pool (Class i ∷ ks) h = (h.0.0, are_whole pool ks h.1)
@@ -145,22 +145,22 @@ linked_ok x y None h = (refl, cc)
 linked_ok x y (Some i) h = absurd cc
 
 -- so many constants, each of them valid in the pool of them
-abbrev pub AreConstants : ℕ → List Constant → Type 0
-AreConstants n ks = (length ks ≡ n) × AllByRecursion (IsConstant ks) ks
+abbrev pub AreLinked : ℕ → List Constant → Type 0
+AreLinked n ks = (length ks ≡ n) × AreConstants ks ks
 
-linked_takes : (d : TestsDecide) (n : ℕ) (c : Cursor) (x : List Constant × Cursor) → IsBytes c.rest → linked_constants_at n c ≡ Ok x → Spans c (flat_map constant_bytes x.0) x.1 × AreConstants n x.0
+linked_takes : (d : TestsDecide) (n : ℕ) (c : Cursor) (x : List Constant × Cursor) → IsBytes c.rest → linked_constants_at n c ≡ Ok x → Spans c (flat_map constant_bytes x.0) x.1 × AreLinked n x.0
 unfolding linked_constants_at
 linked_takes d n c x fits e =
     let a = step_takes (constants_read d n 1) c fits e in
     let l = linked_ok _ _ _ a.rest in
-    subst (λ (y : List Constant × Cursor). Spans c (flat_map constant_bytes y.0) y.1 × AreConstants n y.0) l.1 (a.spans, (a.good.0, links_take d a.value 1 a.value l.0 a.good.1))
+    subst (λ (y : List Constant × Cursor). Spans c (flat_map constant_bytes y.0) y.1 × AreLinked n y.0) l.1 (a.spans, (a.good.0, links_take d a.value 1 a.value l.0 a.good.1))
 
-linked_again : (d : TestsDecide) (n : ℕ) (c : Cursor) (x : List Constant) (next : Cursor) → AreConstants n x → Spans c (flat_map constant_bytes x) next → linked_constants_at n c ≡ Ok (x, next)
+linked_again : (d : TestsDecide) (n : ℕ) (c : Cursor) (x : List Constant) (next : Cursor) → AreLinked n x → Spans c (flat_map constant_bytes x) next → linked_constants_at n c ≡ Ok (x, next)
 unfolding linked_constants_at
 linked_again d n c x next good s =
     bind_again _ ((constants_read d n 1).again c x next (good.0, are_whole x x good.1) s) (ap (linked (x, next)) (links_again d x 1 x good.1))
 
-linked_reads : (d : TestsDecide) (n : ℕ) → Reads (linked_constants_at n) (flat_map constant_bytes) (AreConstants n)
+linked_reads : (d : TestsDecide) (n : ℕ) → Reads (linked_constants_at n) (flat_map constant_bytes) (AreLinked n)
 linked_reads d n = record { takes = linked_takes d n; again = linked_again d n }
 
 -- ---- the pool

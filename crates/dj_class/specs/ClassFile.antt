@@ -136,9 +136,14 @@ IsField = IsMember IsUnqualifiedName IsFieldDescriptor
 abbrev pub IsMethod : List Constant → MemberInfo → Type 0
 IsMethod = IsMember IsMethodName IsMethodDescriptor
 
+-- constants of this pool, from one index on: each by itself, or with what has to follow it
+abbrev pub AreConstants : List Constant → List Constant → Type 0
+AreConstants pool [] = ⊤
+AreConstants pool (c ∷ rest) = IsConstant pool c × AreConstants pool rest
+
 pub record IsPool (pool : List Constant) : Type 0 where
   pub count : length pool + 1 < 2 ^ 16
-  pub each : AllByRecursion (IsConstant pool) pool
+  pub each : AreConstants pool pool
 
 pub record IsValid (c : ClassFile) : Type 0 where
   pub minor : c.minor < 2 ^ 16

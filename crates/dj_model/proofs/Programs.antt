@@ -6,20 +6,20 @@ use Rattle.dj_model.specs.Instructions.{Instruction, Nop, Push, Load, Store, Loa
 use Rattle.dj_model.specs.Effects.{Terms, Part, effect}
 use Rattle.dj_model.specs.Charges.{own_amounts}
 
-pub same_effect : (a b : Program) (terms : Terms) (i : Instruction) (p : Part) → effect a terms i p ≡ effect b terms i p
+pub same_effect : (a b : Program) (m n : Terms) (i : Instruction) (p : Part) → m.limit ≡ n.limit → effect a m i p ≡ effect b n i p
 unfolding effect
-same_effect a b terms Nop p = refl
-same_effect a b terms (Push v) p = refl
-same_effect a b terms (Load kind slot) p = refl
-same_effect a b terms (Store kind slot) p = refl
-same_effect a b terms (LoadElement access) p = refl
-same_effect a b terms (StoreElement access) p = refl
-same_effect a b terms (Move operation) p = refl
-same_effect a b terms (Compute operation) p = refl
-same_effect a b terms (Return kind) p = refl
-same_effect a b terms ArrayLength p = refl
-same_effect a b terms (NewArray class element) p = refl
-same_effect a b terms (Other op) p = refl
+same_effect a b m n Nop p e = refl
+same_effect a b m n (Push v) p e = refl
+same_effect a b m n (Load kind slot) p e = refl
+same_effect a b m n (Store kind slot) p e = refl
+same_effect a b m n (LoadElement access) p e = refl
+same_effect a b m n (StoreElement access) p e = refl
+same_effect a b m n (Move operation) p e = refl
+same_effect a b m n (Compute operation) p e = refl
+same_effect a b m n (Return kind) p e = refl
+same_effect a b m n ArrayLength p e = refl
+same_effect a b m n (NewArray class element) p e = rw e refl
+same_effect a b m n (Other op) p e = refl
 
 pub same_amounts : (a b : Program) (i : Instruction) (operands : List Value) → own_amounts a (Some i) operands ≡ own_amounts b (Some i) operands
 same_amounts a b Nop operands = refl

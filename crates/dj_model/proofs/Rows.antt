@@ -4,13 +4,14 @@ use Rattle.std.specs.Int.{int_wrap}
 use Rattle.dj_model.specs.Instructions.{instruction_of, simple}
 use Rattle.dj_model.specs.Program.{code_of, has_initialiser, chain_of, is_subclass, ancestors_of}
 use Rattle.dj_model.specs.Effects.{effect}
+use Rattle.dj_model.specs.Initialisation.{constants_of, with_constants}
 use Rattle.dj_model.specs.Step.{step, unwound}
 use Rattle.dj_model.specs.Charges.{amounts}
 use Rattle.dj_model.specs.Metered.{begin, turn, turns}
-use Rattle.dj_model.specs.Rows.{WorkedReturns, WorkedInts, WorkedArrays, WorkedCharges, WorkedHandlers, WorkedRuns}
+use Rattle.dj_model.specs.Rows.{WorkedReturns, WorkedInts, WorkedArrays, WorkedCharges, WorkedHandlers, WorkedBeginnings, WorkedRuns}
 
 returns : WorkedReturns
-unfolding begin turns turn step unwound effect instruction_of simple amounts code_of has_initialiser chain_of int_wrap
+unfolding begin constants_of with_constants turns turn step unwound effect instruction_of simple amounts code_of has_initialiser chain_of int_wrap
 returns = record {
   same_input = (4, refl);
   no_input = (4, refl);
@@ -23,7 +24,7 @@ returns = record {
 }
 
 ints : WorkedInts
-unfolding begin turns turn step unwound effect instruction_of simple amounts code_of has_initialiser chain_of int_wrap
+unfolding begin constants_of with_constants turns turn step unwound effect instruction_of simple amounts code_of has_initialiser chain_of int_wrap
 ints = record {
   low_byte = (14, refl);
   low_byte_negative = (14, refl);
@@ -42,7 +43,7 @@ ints = record {
 }
 
 arrays : WorkedArrays
-unfolding begin turns turn step unwound effect instruction_of simple amounts code_of has_initialiser chain_of int_wrap
+unfolding begin constants_of with_constants turns turn step unwound effect instruction_of simple amounts code_of has_initialiser chain_of int_wrap
 arrays = record {
   loaded = (18, refl);
   sign = (22, refl);
@@ -58,7 +59,7 @@ arrays = record {
 }
 
 charges : WorkedCharges
-unfolding begin turns turn step unwound effect instruction_of simple amounts code_of has_initialiser chain_of int_wrap
+unfolding begin constants_of with_constants turns turn step unwound effect instruction_of simple amounts code_of has_initialiser chain_of int_wrap
 charges = record {
   no_bytes = (6, refl);
   not_rounded = (10, refl);
@@ -70,12 +71,16 @@ charges = record {
 }
 
 handlers : WorkedHandlers
-unfolding begin turns turn step unwound effect instruction_of simple amounts code_of has_initialiser chain_of is_subclass ancestors_of
+unfolding begin constants_of with_constants turns turn step unwound effect instruction_of simple amounts code_of has_initialiser chain_of is_subclass ancestors_of
 handlers = record {
   again = (33, refl);
   by_class = (10, refl);
   by_initialiser = (4, refl);
 }
 
+beginnings : WorkedBeginnings
+unfolding begin constants_of with_constants code_of has_initialiser chain_of
+beginnings = record { constants = refl; no_room_for_text = refl; no_room_for_input = refl; superclass_first = refl }
+
 pub worked_runs : WorkedRuns
-worked_runs = record { returns = returns; ints = ints; arrays = arrays; charges = charges; handlers = handlers }
+worked_runs = record { returns = returns; ints = ints; arrays = arrays; charges = charges; handlers = handlers; beginnings = beginnings }

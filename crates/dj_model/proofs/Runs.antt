@@ -10,11 +10,12 @@ use Rattle.dj_model.specs.Instructions.{Instruction}
 use Rattle.dj_model.specs.Effects.{Part, Flow, Next, To, Raise, Throw, Back, Broken, Full, effect}
 use Rattle.dj_model.specs.Step.{part_of, at_number}
 use Rattle.dj_model.specs.Charges.{own_amounts, paid, Payment, Paid, Exceeds}
-use Rattle.dj_model.specs.Metered.{Ends, turns, run, metered_terms, first_state, new_frame}
+use Rattle.dj_model.specs.Metered.{Ends, turns, run, metered_terms}
+use Rattle.dj_model.specs.Initialisation.{new_frame}
 use Rattle.dj_model.specs.Shape.{Signature, Kinds, StateBefore, Holds, HasShape, ends, first_kinds}
 use Rattle.dj_model.specs.Sound.{HasKinds, HasSoundEffect, IsSoundFlow}
 use Rattle.dj_model.specs.Laws.{IsStraightEntry}
-use Rattle.dj_model.proofs.Turns.{Stands, turns_more, turns_ended, turns_next, turns_raise, turns_back, turns_broken, turns_full, turns_stopped, first_frames_plainly, begins_plainly}
+use Rattle.dj_model.proofs.Turns.{Stands, turns_more, turns_ended, turns_next, turns_raise, turns_back, turns_broken, turns_full, turns_stopped, first_state, begins_plainly}
 use Rattle.dj_model.proofs.Sound.{sound_effect, first_kinds_hold}
 use Rattle.dj_model.proofs.Shapes.{one_state}
 
@@ -54,7 +55,7 @@ module _ (program : Program) (most : Thresholds) (signature : Signature) (code :
       → ((t : State) (g : Frame) → IsAt t g → f.number + 1 ≡ g.number → IsFalse (ends i) → EndsFrom n t)
       → (IsFalse (ends i) → StateBefore signature code (suc f.number) left)
       → paid most s.costs (own_amounts program (Some i) f.operands) ≡ Paid costs
-      → (p : Part) (flow : Flow) → effect program metered_terms i (part_of f s) ≡ Some (record { part = p; flow = flow })
+      → (p : Part) (flow : Flow) → effect program (metered_terms most) i (part_of f s) ≡ Some (record { part = p; flow = flow })
       → IsSoundFlow code i left p flow
       → EndsFrom (2 + n) s
   done n s f i left costs at stands rest state payment p Next e sound =
@@ -86,7 +87,7 @@ module _ (program : Program) (most : Thresholds) (signature : Signature) (code :
 
   paying : (n : ℕ) (s : State) (f : Frame) (i : Instruction) (left : Kinds) → IsAt s f → Stands program s f code i
       → ((t : State) (g : Frame) → IsAt t g → f.number + 1 ≡ g.number → IsFalse (ends i) → EndsFrom n t)
-      → (IsFalse (ends i) → StateBefore signature code (suc f.number) left) → HasSoundEffect program metered_terms code i left (part_of f s)
+      → (IsFalse (ends i) → StateBefore signature code (suc f.number) left) → HasSoundEffect program (metered_terms most) code i left (part_of f s)
       → (payment : Payment) → paid most s.costs (own_amounts program (Some i) f.operands) ≡ payment → EndsFrom (2 + n) s
   paying n s f i left at stands rest state sound (Paid costs) payment =
       done n s f i left costs at stands rest state payment sound.0.part sound.0.flow sound.1 sound.2
@@ -109,7 +110,7 @@ module _ (program : Program) (most : Thresholds) (signature : Signature) (code :
         no_initialiser = at.no_initialiser;
       } in
       let values : HasKinds f.locals f.operands h.before = rw kinds_are at at.values in
-      let sound = sound_effect program metered_terms signature code h.instruction h.before h.left (part_of f s) values at.long h.found in
+      let sound = sound_effect program (metered_terms most) signature code h.instruction h.before h.left (part_of f s) values at.long h.found in
       let turns_are : 2 + 2 * count ≡ 2 * suc count = omega arith in
       let rest : (t : State) (g : Frame) → IsAt t g → f.number + 1 ≡ g.number → IsFalse (ends h.instruction) → EndsFrom (2 * count) t
       = λ t g there next goes_on. ends_from count t g there (omega arith)
@@ -126,7 +127,7 @@ straight_code_ends program entry signature code input most is =
     let first = first_kinds_hold signature code program entry 1 is.code_is is.parameters is.shape.parameters in
     let at : IsAt program most signature code is.no_handlers is.shape s f = record {
       kinds = first_kinds signature code;
-      frames = first_frames_plainly program entry is.no_initialisers;
+      frames = refl;
       code_is = is.code_is;
       unpaid = refl;
       no_initialiser = is.no_initialiser;
@@ -135,4 +136,4 @@ straight_code_ends program entry signature code input most is =
       long = first.1;
     } in
     let e = ends_from program most signature code is.no_handlers is.shape (length code.instructions) s f at (omega arith) is.some in
-    (e.0, e.1, rw (begins_plainly program entry input is.no_initialisers) e.2)
+    (e.0, e.1, rw (begins_plainly program entry input most is.no_fields is.no_initialisers) e.2)

@@ -14,7 +14,7 @@ use Rattle.dj_model.specs.Instructions.{Instruction, Nop, Push, Load, Store, Loa
 use Rattle.dj_model.specs.Effects.{Terms, Part, Next, Effect, effect, same_kind, is_of_kind, local_at, is_long, without_long_before, stored, slots_of, access_kind, reaches, Found, Null, NoArray, IsArray, only, array_at, reached, element_value, passes_limit, array_size, new_contents, make, load_found, element_at, store_found, with_object, with_element, kept, value_number, compute, pushes, goes, Back, next_number, with_new}
 use Rattle.dj_model.specs.Shape as shape
 use Rattle.dj_model.specs.Shape.{Signature, Kinds, ParametersFit, first_kinds, is_kind, kind_at, set_kind, pushed, taken, takes, store_kind, after, ends}
-use Rattle.dj_model.specs.Metered.{new_frame}
+use Rattle.dj_model.specs.Initialisation.{new_frame}
 use Rattle.dj_model.specs.Sound.{LocalsHave, HasKinds, IsSoundFlow, HasSoundEffect}
 
 -- ---- tests
@@ -367,7 +367,7 @@ module _ (program : Program) (terms : Terms) (signature : Signature) (code : Cod
   made : (class : Name) (element : Element) (operands rest : List Value) (size : ℕ) (object : Object)
       → pushed code ks (map value_kind rest) kinds.Ref ≡ Some left
       → (full : Bool) → passes_limit terms.limit (heap.used + size) ≡ full
-      → Sound (NewArray class element) (make terms (part operands) rest size object)
+      → Sound (NewArray class element) (make terms.limit (part operands) rest size object)
   made class element operands rest size object a true e = rw e tt
   made class element operands rest size object a false e =
       rw e (next (NewArray class element) refl (values.Ref (next_number heap) ∷ rest) (with_new heap size object) (pushed_is _ _ _ a))

@@ -1,11 +1,10 @@
 -- Turn by turn: runs end in one way, and what the two turns of an instruction do where its frame stands alone.
-use Rattle.std.proofs.Common.{◌≡◌, ℕ, zero, suc, ◌+◌, true, false, List, [], ◌∷◌, ◌++◌, length, reverse, Option, Some, slice_get, Contains, refl, sym, ap, ◌∙◌, add-one, suc-add, zero-add, arith}
+use Rattle.std.proofs.Common.{◌≡◌, ℕ, zero, suc, ◌+◌, Bool, true, false, if◌then◌else◌, List, [], ◌∷◌, ◌++◌, length, reverse, Option, Some, slice_get, Contains, refl, sym, ap, ◌∙◌, add-one, suc-add, zero-add, arith}
 use Rattle.std.specs.List.{flat_map}
 use Rattle.std.proofs.lemmas.List.{reverse-append}
 use Rattle.std.proofs.lemmas.Grind.{flat_map-append}
 use Rattle.std.proofs.lemmas.List.Elements.{Contains-append_left, Contains-append_right, Contains-push}
 use Rattle.dj_names.specs.declared.run.Value.{Value}
-use Rattle.dj_names.specs.declared.run.Value.TheVariants as values
 use Rattle.dj_names.specs.declared.run.Charge.{Charge}
 use Rattle.dj_names.specs.declared.run.Costs.{Costs}
 use Rattle.dj_names.specs.declared.run.Thresholds.{Thresholds}
@@ -14,13 +13,14 @@ use Rattle.dj_names.specs.declared.run.Message.TheVariants as messages
 use Rattle.dj_names.specs.declared.run.Outcome.{Outcome}
 use Rattle.dj_names.specs.declared.run.Outcome.TheVariants as outcomes
 use Rattle.dj_names.specs.Objects.{Object, raised_class}
-use Rattle.dj_model.specs.Program.{Name, Program, MethodName, Code, code_of, chain, has_initialiser, is_initialiser}
+use Rattle.dj_model.specs.Program.{Name, same_name, Program, HasNoFields, Class, MethodName, Code, class_at, fields_of, code_of, chain, has_initialiser, is_initialiser}
 use Rattle.dj_model.specs.State.{Frame, State}
 use Rattle.dj_model.specs.Instructions.{Instruction}
-use Rattle.dj_model.specs.Effects.{Part, Next, Raise, Back, Broken, Full, Effect, effect, object_at}
+use Rattle.dj_model.specs.Effects.{Terms, Part, Next, Raise, Back, Broken, Full, Effect, effect, object_at}
+use Rattle.dj_model.specs.Initialisation.{Ready, initialiser_frames, statics_of, with_constants, constants_of, without}
 use Rattle.dj_model.specs.Step.{Answer, Went, Ended, IllFormed, step, unwound, raise, settled, result_outcome, at_number, part_of, new_exception}
 use Rattle.dj_model.specs.Charges.{amounts, own_amounts, paid, Payment, Paid, Exceeds}
-use Rattle.dj_model.specs.Metered.{Run, Goes, Ends, Stuck, turn, turns, then_turn, turns_from, run, RunsTo, begin, metered_terms, first_state, first_frames, new_frame, initialiser_frames, payment_run, answer_run}
+use Rattle.dj_model.specs.Metered.{Run, Goes, Ends, Stuck, turn, turns, then_turn, turns_from, run, RunsTo, begin, metered_terms, start_state, input_heap, payment_run, answer_run}
 
 -- ---- more turns
 
@@ -64,12 +64,12 @@ turns_ended program most (suc m) n s outcome costs e =
 from_ended : (program : Program) (most : Thresholds) (m n : ℕ) (a : Answer) (outcome : Outcome) (costs : Costs)
     → turns_from program most m a ≡ Ends outcome costs → turns_from program most (m + n) a ≡ Ends outcome costs
 from_ended program most m n (Went s) outcome costs e = turns_ended program most m n s outcome costs e
-from_ended program most m n (Ended o c) outcome costs e = e
+from_ended program most m n (Ended o s) outcome costs e = e
 from_ended program most m n IllFormed outcome costs e = e
 
 pub run_ended : (program : Program) (entry : MethodName) (input : List ℕ) (most : Thresholds) (m n : ℕ) (outcome : Outcome) (costs : Costs)
     → run program entry input most m ≡ Ends outcome costs → run program entry input most (m + n) ≡ Ends outcome costs
-run_ended program entry input most m n outcome costs e = from_ended program most m n (begin program entry input metered_terms) outcome costs e
+run_ended program entry input most m n outcome costs e = from_ended program most m n (begin program entry input (metered_terms most)) outcome costs e
 
 pub same_end : (program : Program) (entry : MethodName) (input : List ℕ) (most : Thresholds) (o o' : Outcome) (c c' : Costs)
     → RunsTo program entry input most o c → RunsTo program entry input most o' c' → (o ≡ o') × (c ≡ c')
@@ -122,8 +122,8 @@ unfolding turns
 turns_stopped program most s f code i stands charge costs e = rw (first_turn program most s f code i stands (Exceeds charge costs) e) refl
 
 second_turn : (program : Program) (most : Thresholds) (s : State) (f : Frame) (code : Code) (i : Instruction) → Stands program s f code i
-    → (costs : Costs) (e : Effect) → effect program metered_terms i (part_of f s) ≡ Some e
-    → turn program most (paid_state s f costs) ≡ answer_run (settled program metered_terms (paid_state s f costs) (paid_frame f) [] (Some e))
+    → (costs : Costs) (e : Effect) → effect program (metered_terms most) i (part_of f s) ≡ Some e
+    → turn program most (paid_state s f costs) ≡ answer_run (settled program (metered_terms most) (paid_state s f costs) (paid_frame f) [] (Some e))
 unfolding turn step
 second_turn program most s f code i stands costs e h = rw (stands.code_is, stands.at, h) refl
 
@@ -134,22 +134,22 @@ last_turn Stuck = refl
 
 two_turns : (program : Program) (most : Thresholds) (s : State) (f : Frame) (code : Code) (i : Instruction) → Stands program s f code i
     → (costs : Costs) → paid most s.costs (own_amounts program (Some i) f.operands) ≡ Paid costs
-    → (e : Effect) → effect program metered_terms i (part_of f s) ≡ Some e
-    → turns program most 2 s ≡ answer_run (settled program metered_terms (paid_state s f costs) (paid_frame f) [] (Some e))
+    → (e : Effect) → effect program (metered_terms most) i (part_of f s) ≡ Some e
+    → turns program most 2 s ≡ answer_run (settled program (metered_terms most) (paid_state s f costs) (paid_frame f) [] (Some e))
 unfolding turns
 two_turns program most s f code i stands costs payment e h =
     rw (first_paid program most s f code i stands costs payment) (last_turn _ ∙ second_turn program most s f code i stands costs e h)
 
 pub turns_next : (program : Program) (most : Thresholds) (s : State) (f : Frame) (code : Code) (i : Instruction) → Stands program s f code i
     → (costs : Costs) → paid most s.costs (own_amounts program (Some i) f.operands) ≡ Paid costs
-    → (p : Part) → effect program metered_terms i (part_of f s) ≡ Some (record { part = p; flow = Next })
+    → (p : Part) → effect program (metered_terms most) i (part_of f s) ≡ Some (record { part = p; flow = Next })
     → turns program most 2 s ≡ Goes (record s { heap = p.heap; statics = p.statics; literals = p.literals; frames = at_number f p (f.number + 1) ∷ []; costs = costs })
 turns_next program most s f code i stands costs payment p h =
     two_turns program most s f code i stands costs payment (record { part = p; flow = Next }) h
 
 pub turns_back : (program : Program) (most : Thresholds) (s : State) (f : Frame) (code : Code) (i : Instruction) → Stands program s f code i
     → (costs : Costs) → paid most s.costs (own_amounts program (Some i) f.operands) ≡ Paid costs
-    → (p : Part) (result : Option Value) → effect program metered_terms i (part_of f s) ≡ Some (record { part = p; flow = Back result })
+    → (p : Part) (result : Option Value) → effect program (metered_terms most) i (part_of f s) ≡ Some (record { part = p; flow = Back result })
     → turns program most 2 s ≡ Ends (result_outcome p.heap result) costs
 turns_back program most s f code i stands costs payment p result h =
     two_turns program most s f code i stands costs payment (record { part = p; flow = Back result }) h
@@ -157,14 +157,14 @@ turns_back program most s f code i stands costs payment p result h =
 pub turns_broken : (program : Program) (most : Thresholds) (s : State) (f : Frame) (code : Code) (i : Instruction)
     → Stands program s f code i
     → (costs : Costs) → paid most s.costs (own_amounts program (Some i) f.operands) ≡ Paid costs
-    → (p : Part) → effect program metered_terms i (part_of f s) ≡ Some (record { part = p; flow = Broken })
+    → (p : Part) → effect program (metered_terms most) i (part_of f s) ≡ Some (record { part = p; flow = Broken })
     → turns program most 2 s ≡ Ends outcomes.Link costs
 turns_broken program most s f code i stands costs payment p h =
     two_turns program most s f code i stands costs payment (record { part = p; flow = Broken }) h
 
 pub turns_full : (program : Program) (most : Thresholds) (s : State) (f : Frame) (code : Code) (i : Instruction)
     → Stands program s f code i → (costs : Costs) → paid most s.costs (own_amounts program (Some i) f.operands) ≡ Paid costs
-    → (p : Part) (used size : ℕ) → effect program metered_terms i (part_of f s) ≡ Some (record { part = p; flow = Full used size })
+    → (p : Part) (used size : ℕ) → effect program (metered_terms most) i (part_of f s) ≡ Some (record { part = p; flow = Full used size })
     → turns program most 2 s ≡ Ends (outcomes.HeapFull used size) costs
 turns_full program most s f code i stands costs payment p used size h =
     two_turns program most s f code i stands costs payment (record { part = p; flow = Full used size }) h
@@ -178,23 +178,52 @@ new_object : (objects : List Object) (new : Object) → object_at (objects ++ ne
 new_object objects new = rw add-one (slice_last objects new)
 
 -- where its frame stands alone, a new exception ends the run, without message
-raised_ends : (program : Program) (s : State) (f : Frame) (code : Code) (i : Instruction) → Stands program s f code i
+raised_ends : (program : Program) (most : Thresholds) (s : State) (f : Frame) (code : Code) (i : Instruction) → Stands program s f code i
     → (p : Part) (costs : Costs) (class : Name)
-    → raise program metered_terms (record (paid_state s f costs) { heap = p.heap; statics = p.statics; literals = p.literals }) class ≡ Ended (outcomes.Threw class messages.Null) costs
+    → answer_run (raise program (metered_terms most) (record (paid_state s f costs) { heap = p.heap; statics = p.statics; literals = p.literals }) class)
+    ≡ Ends (outcomes.Threw class messages.Null) costs
 unfolding unwound
-raised_ends program s f code i stands p costs class =
+raised_ends program most s f code i stands p costs class =
     rw (stands.code_is, stands.no_handlers, stands.no_initialiser, new_object p.heap.objects (new_exception class)) refl
 
 pub turns_raise : (program : Program) (most : Thresholds) (s : State) (f : Frame) (code : Code) (i : Instruction)
     → Stands program s f code i
     → (costs : Costs) → paid most s.costs (own_amounts program (Some i) f.operands) ≡ Paid costs
-    → (p : Part) (raised : Raised) → effect program metered_terms i (part_of f s) ≡ Some (record { part = p; flow = Raise raised })
+    → (p : Part) (raised : Raised) → effect program (metered_terms most) i (part_of f s) ≡ Some (record { part = p; flow = Raise raised })
     → turns program most 2 s ≡ Ends (outcomes.Threw (raised_class raised) messages.Null) costs
 turns_raise program most s f code i stands costs payment p raised h =
     two_turns program most s f code i stands costs payment (record { part = p; flow = Raise raised }) h
-    ∙ ap answer_run (raised_ends program s f code i stands p costs (raised_class raised))
+    ∙ raised_ends program most s f code i stands p costs (raised_class raised)
 
 -- ---- the beginning
+
+-- the state at the beginning where no field has a constant and no initialiser has to run
+abbrev pub first_state : Program → MethodName → List ℕ → State
+first_state program entry input =
+    record (start_state program entry (input_heap input)) { initialised = reverse (chain program entry.class) }
+
+chosen_none : (b : Bool) (x y : Option Class) → fields_of x ≡ [] → fields_of y ≡ [] → fields_of (if b then x else y) ≡ []
+chosen_none true x y first second = first
+chosen_none false x y first second = second
+
+fields_none : (program : Program) → HasNoFields program → (name : Name) → fields_of (class_at program name) ≡ []
+fields_none [] none name = refl
+fields_none (c ∷ classes) none name =
+    chosen_none (same_name c.name name) (Some c) (class_at classes name) none.0 (fields_none classes none.1 name)
+
+pub statics_none : (program : Program) → HasNoFields program → statics_of program ≡ []
+statics_none [] none = refl
+statics_none (c ∷ classes) none = rw (none.0, statics_none classes none.1) refl
+
+constants_none : (program : Program) (terms : Terms) (classes : List Name) (s : State) → ((name : Name) → fields_of (class_at program name) ≡ [])
+    → constants_of program terms classes s ≡ Ready s
+unfolding constants_of with_constants
+constants_none program terms [] s none = refl
+constants_none program terms (class ∷ classes) s none = rw (none class) (constants_none program terms classes s none)
+
+without_none : (classes : List Name) → without [] classes ≡ classes
+without_none [] = refl
+without_none (class ∷ classes) = ap (λ more. class ∷ more) (without_none classes)
 
 contains_later : {X : Type 0} (y : X) (xs : List X) (x : X) → Contains xs x → Contains (y ∷ xs) x
 contains_later y xs x c = Contains-append_right (y ∷ []) xs x c
@@ -205,16 +234,17 @@ nothing_reversed f (x ∷ xs) none =
     let here : f x ≡ [] = none x (Contains-append_left (x ∷ []) xs x (Contains-push [] x)) in
     rw (reverse-append (x ∷ []) xs, flat_map-append, nothing_reversed f xs (λ y c. none y (contains_later x xs y c)), here) refl
 
-pub first_frames_plainly : (program : Program) (entry : MethodName)
-    → ((class : Name) → Contains (chain program entry.class) class → has_initialiser program class ≡ false)
-    → first_frames program entry ≡ new_frame program entry (values.Ref 1 ∷ []) ∷ []
-first_frames_plainly program entry none =
-    let nothing : initialiser_frames program (reverse (chain program entry.class)) ≡ [] =
-    nothing_reversed _ (chain program entry.class) (λ class c. rw (none class c) refl) in
-    rw nothing refl
+no_frames : (program : Program) (class : Name) → ((above : Name) → Contains (chain program class) above → has_initialiser program above ≡ false)
+    → initialiser_frames program (reverse (chain program class)) ≡ []
+no_frames program class none = nothing_reversed _ (chain program class) (λ above c. rw (none above c) refl)
 
-pub begins_plainly : (program : Program) (entry : MethodName) (input : List ℕ)
+pub begins_plainly : (program : Program) (entry : MethodName) (input : List ℕ) (most : Thresholds) → HasNoFields program
     → ((class : Name) → Contains (chain program entry.class) class → has_initialiser program class ≡ false)
-    → begin program entry input metered_terms ≡ Went (first_state program entry input)
+    → begin program entry input (metered_terms most) ≡ Went (first_state program entry input)
 unfolding begin
-begins_plainly program entry input none = rw (first_frames_plainly program entry none) refl
+begins_plainly program entry input most no_fields none =
+    rw (
+      without_none (chain program entry.class),
+      constants_none program (metered_terms most) (reverse (chain program entry.class)) (first_state program entry input) (fields_none program no_fields),
+      no_frames program entry.class none,
+    ) refl

@@ -9,6 +9,7 @@ use Rattle.dj_names.specs.declared.run.Element.{Element}
 use Rattle.dj_names.specs.declared.run.Element.TheVariants as elements
 use Rattle.dj_names.specs.declared.run.Raised.{Raised}
 use Rattle.dj_names.specs.declared.run.Raised.TheVariants as raises
+use Rattle.dj_names.specs.declared.run.Thresholds.{Thresholds}
 use Rattle.dj_names.specs.Objects.{Object, Array, value_kind, element_size}
 use Rattle.dj_model.specs.Program.{Name, Program}
 use Rattle.dj_model.specs.State.{Heap, Static, Literal}
@@ -18,6 +19,10 @@ use Rattle.dj_model.specs.Instructions.{Instruction, Nop, Push, Load, Store, Loa
 pub record Terms : Type 0 where
   -- the limit on the heap's bytes, where there is one
   pub limit : Option ℕ
+  -- the class of the exception that an instruction raises
+  pub raised : Raised → Name
+  -- of the charges that native methods add, where these are counted
+  pub thresholds : Option Thresholds
 
 -- what an instruction may change by itself
 pub record Part : Type 0 where
@@ -268,16 +273,16 @@ with_new heap size object = record { objects = heap.objects ++ object ∷ []; us
 abbrev pub next_number : Heap → ℕ
 next_number heap = length heap.objects + 1
 
-abbrev pub make : Terms → Part → List Value → ℕ → Object → Effect
-make terms p rest size object =
-    if passes_limit terms.limit (p.heap.used + size) then goes p (Full p.heap.used size)
+abbrev pub make : Option ℕ → Part → List Value → ℕ → Object → Effect
+make limit p rest size object =
+    if passes_limit limit (p.heap.used + size) then goes p (Full p.heap.used size)
     else record { part = record p { operands = values.Ref (next_number p.heap) ∷ rest; heap = with_new p.heap size object }; flow = Next }
 
-abbrev pub make_array : Terms → Part → Name → Element → List Value → Option Effect
-make_array terms p class element (values.Int (pos n) ∷ rest) =
-    Some (make terms p rest (array_size element n) (Array class element (new_contents n)))
-make_array terms p class element (values.Int (negsuc n) ∷ rest) = Some (goes p (Raise raises.NegativeArraySize))
-make_array terms p class element _ = None
+abbrev pub make_array : Option ℕ → Part → Name → Element → List Value → Option Effect
+make_array limit p class element (values.Int (pos n) ∷ rest) =
+    Some (make limit p rest (array_size element n) (Array class element (new_contents n)))
+make_array limit p class element (values.Int (negsuc n) ∷ rest) = Some (goes p (Raise raises.NegativeArraySize))
+make_array limit p class element _ = None
 
 -- ---- an instruction of a program, on the terms of its run; none where it lacks the kinds that it takes or isn't run yet
 
@@ -292,5 +297,5 @@ effect program terms (Move operation) p = move p operation p.operands
 effect program terms (Compute operation) p = compute_two p operation p.operands
 effect program terms (Return kind) p = return_top p kind p.operands
 effect program terms ArrayLength p = array_length p p.operands
-effect program terms (NewArray class element) p = make_array terms p class element p.operands
+effect program terms (NewArray class element) p = make_array terms.limit p class element p.operands
 effect program terms (Other op) p = None

@@ -4,7 +4,7 @@ use Rattle.dj_names.specs.declared.descriptor.Kind.TheVariants as kinds
 use Rattle.dj_names.specs.declared.run.Costs.{Costs}
 use Rattle.dj_names.specs.declared.run.Thresholds.{Thresholds}
 use Rattle.dj_names.specs.declared.run.Outcome.{Outcome}
-use Rattle.dj_model.specs.Program.{Name, Program, MethodName, Code, code_of, chain, is_initialiser, has_initialiser}
+use Rattle.dj_model.specs.Program.{Name, Program, HasNoFields, MethodName, Code, code_of, chain, is_initialiser, has_initialiser}
 use Rattle.dj_model.specs.Instructions.{Instruction}
 use Rattle.dj_model.specs.Effects.{Terms, Part, effect}
 use Rattle.dj_model.specs.Charges.{own_amounts}
@@ -23,10 +23,10 @@ KeepsKinds = (program : Program) (terms : Terms) (signature : Signature) (code :
     → HasKinds p.locals p.operands k → length p.locals ≡ code.max_locals → after signature code i k ≡ Some left
     → HasSoundEffect program terms code i left p
 
--- the instructions that run so far ask for no class: what they do and are charged is the same in every program
+-- the instructions that run so far ask for no class: what they do and are charged is the same in every program, on all terms of one limit
 abbrev pub IsSameInEveryProgram : Type 0
-IsSameInEveryProgram = (a b : Program) (terms : Terms) (i : Instruction) (p : Part)
-    → (effect a terms i p ≡ effect b terms i p) × (own_amounts a (Some i) p.operands ≡ own_amounts b (Some i) p.operands)
+IsSameInEveryProgram = (a b : Program) (m n : Terms) (i : Instruction) (p : Part) → m.limit ≡ n.limit
+    → (effect a m i p ≡ effect b n i p) × (own_amounts a (Some i) p.operands ≡ own_amounts b (Some i) p.operands)
 
 -- code without shape is reported with one number
 abbrev pub HasOneShapeFault : Type 0
@@ -36,7 +36,7 @@ HasOneShapeFault = (signature : Signature) (code : Code) (a b : ℕ) → IsShape
 abbrev pub HasNoFaultWithShape : Type 0
 HasNoFaultWithShape = (signature : Signature) (code : Code) (n : ℕ) → HasShape signature code → IsShapeFault signature code n → ⊥
 
--- a method that takes an array, whose code has shape, with nothing before it and no handlers
+-- a method that takes an array, whose code has shape, with nothing before it and no handlers, in a program without fields
 pub record IsStraightEntry (program : Program) (entry : MethodName) (signature : Signature) (code : Code) : Type 0 where
   pub code_is : code_of program entry ≡ Some code
   pub parameters : signature.parameters ≡ kinds.Ref ∷ []
@@ -44,6 +44,7 @@ pub record IsStraightEntry (program : Program) (entry : MethodName) (signature :
   pub some : 0 < length code.instructions
   pub no_handlers : code.ranges ≡ []
   pub no_initialiser : IsFalse (is_initialiser entry)
+  pub no_fields : HasNoFields program
   pub no_initialisers : (class : Name) → Contains (chain program entry.class) class → IsFalse (has_initialiser program class)
 
 -- its run ends, in two turns for each instruction at most

@@ -3,6 +3,7 @@ pub mod StackMaps
 pub mod Program
 pub mod State
 pub mod Effects
+pub mod Initialisation
 pub mod Step
 pub mod Charges
 pub mod Metered

@@ -1,8 +1,10 @@
 -- Programs: classes by their names, with what the machine asks of them (JVMS 2.5.5, 4.1, 4.5, 4.6, 4.7.3 and 4.7.4).
-use Rattle.std.specs.Prelude.{ℕ, zero, suc, ◌&&◌, Bool, true, false, ℤ, List, [], ◌∷◌, ◌++◌, length, Option, Some, None, codes, nat_eq, if◌then◌else◌}
+use Rattle.std.specs.Prelude.{◌≡◌, ℕ, zero, suc, ◌&&◌, Bool, true, false, ℤ, List, [], ◌∷◌, ◌++◌, length, Option, Some, None, codes, nat_eq, if◌then◌else◌}
 use Rattle.std.specs.Int.{bit_at}
 use Rattle.std.specs.Cmp.Lexicographic.{pointwise}
-use Rattle.std.specs.List.{list_any, flat_map}
+use Rattle.std.specs.List.{list_any, flat_map, AllByRecursion}
+use Rattle.dj_names.specs.declared.descriptor.Kind.{Kind}
+use Rattle.dj_names.specs.declared.descriptor.Kind.TheVariants as kinds
 use Rattle.dj_model.specs.Instructions.{Instruction}
 use Rattle.dj_model.specs.StackMaps.{StackMapFrame}
 
@@ -64,6 +66,10 @@ pub record Class : Type 0 where
 abbrev pub Program : Type 0
 Program = List Class
 
+-- no class of the program has fields
+abbrev pub HasNoFields : Program → Type 0
+HasNoFields program = AllByRecursion (λ c. c.fields ≡ []) program
+
 -- the class of a name
 abbrev pub class_at : Program → Name → Option Class
 class_at [] name = None
@@ -98,6 +104,23 @@ class_code (Some c) name desc = code_in (method_in c.methods name desc)
 -- the code of a method, where it has one
 unfoldable pub code_of : Program → MethodName → Option Code
 code_of program method = class_code (class_at program method.class) method.name method.desc
+
+abbrev pub fields_of : Option Class → List Field
+fields_of None = []
+fields_of (Some c) = c.fields
+
+-- JVMS table 4.3-A: the first characters of descriptors, and the kind of the values; floats and doubles have none
+abbrev pub kind_rows : List (List ℕ × Kind)
+kind_rows = (codes "BCISZ", kinds.Int) ∷ (codes "J", kinds.Long) ∷ (codes "L[", kinds.Ref) ∷ []
+
+abbrev pub kind_in : List (List ℕ × Kind) → ℕ → Option Kind
+kind_in [] first = None
+kind_in (row ∷ rest) first = if list_any (nat_eq first) row.0 then Some row.1 else kind_in rest first
+
+-- the kind of a field's values, by its descriptor
+abbrev pub field_kind : Name → Option Kind
+field_kind [] = None
+field_kind (first ∷ rest) = kind_in kind_rows first
 
 abbrev pub superclass_of : Option Class → Option Name
 superclass_of None = None

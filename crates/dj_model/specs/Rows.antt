@@ -1,5 +1,7 @@
 -- Whole runs of small programs, each with what it returns or raises and what it is charged (JVMS 6.5).
-use Rattle.std.specs.Prelude.{ℕ, List, [], ◌∷◌, ◌++◌, map, Some, None, codes, pos, negsuc, false}
+use Rattle.std.specs.Prelude.{◌≡◌, ℕ, Option, Result, Ok, Err, List, [], ◌∷◌, ◌++◌, map, Some, None, codes, pos, negsuc, false}
+use Rattle.dj_names.specs.declared.run.Value.{Value}
+use Rattle.dj_names.specs.declared.run.Value.TheVariants as values
 use Rattle.dj_names.specs.declared.run.Charge.TheVariants as charges
 use Rattle.dj_names.specs.declared.run.Message.TheVariants as messages
 use Rattle.dj_names.specs.declared.run.Outcome.{Outcome}
@@ -8,12 +10,14 @@ use Rattle.dj_names.specs.declared.run.Raised.{Raised}
 use Rattle.dj_names.specs.declared.run.Raised.TheVariants as raises
 use Rattle.dj_names.specs.declared.run.Thresholds.{Thresholds}
 use Rattle.dj_names.specs.declared.run.Costs.{Costs}
-use Rattle.dj_names.specs.Objects.{raised_class}
+use Rattle.dj_names.specs.Objects.{Object, Text as TextObject, raised_class}
 use Rattle.dj_ops.specs.declared.instruction.Instr.{Instr}
 use Rattle.dj_ops.specs.declared.instruction.Instr.TheVariants as instrs
 use Rattle.dj_model.specs.Instructions.{instruction_of}
-use Rattle.dj_model.specs.Program.{Name, Class, Method, Range, Runs, MethodName}
-use Rattle.dj_model.specs.Metered.{RunsTo}
+use Rattle.dj_model.specs.Program.{Name, Class, Field, Constant, Int, Long, Text, Program, Method, Range, Runs, MethodName}
+use Rattle.dj_model.specs.Effects.{Terms}
+use Rattle.dj_model.specs.Step.{Answer, Went, Ended, IllFormed}
+use Rattle.dj_model.specs.Metered.{RunsTo, begin, input_array, metered_terms}
 
 -- ---- programs of one class
 
@@ -203,9 +207,84 @@ pub record WorkedHandlers : Type 0 where
   pub by_initialiser : RunsMethods (verify_with (op 42 ∷ op 176 ∷ []) [] ∷ initialiser_with (op 1 ∷ op 190 ∷ []) ∷ [])
       (outcomes.Init (codes "A") null_pointer messages.Null) 0
 
+-- ---- beginnings
+
+abbrev pub field_with : ℕ → Name → Name → Option Constant → Field
+field_with flags name desc constant = record { flags = flags; name = name; desc = desc; constant = constant }
+
+abbrev pub text_desc : Name
+text_desc = codes "Ljava/lang/String;"
+
+-- A with an int, a long, twice the text ab, an array without constant, and a field of its instances, whose constant counts for nothing
+abbrev pub class_with_constants : Class
+class_with_constants = record (class_with []) {
+  fields =
+      field_with 8 (codes "i") (codes "I") (Some (Int (pos 7)))
+      ∷ field_with 8 (codes "j") (codes "J") (Some (Long (pos 5)))
+      ∷ field_with 24 (codes "s") text_desc (Some (Text (codes "ab")))
+      ∷ field_with 24 (codes "t") text_desc (Some (Text (codes "ab")))
+      ∷ field_with 8 (codes "a") (codes "[B") None
+      ∷ field_with 0 (codes "x") (codes "I") (Some (Int (pos 3)))
+      ∷ [];
+}
+
+-- A below B, each with an initialiser
+abbrev pub two_classes : Program
+two_classes =
+    record (class_with (initialiser_with [] ∷ [])) { superclass = Some (codes "B") }
+    ∷ record (class_with (initialiser_with [] ∷ [])) { name = codes "B" }
+    ∷ []
+
+abbrev pub limited_to : ℕ → Terms
+limited_to bytes = record (metered_terms (bytes_at_most 1000)) { limit = Some bytes }
+
+-- the state in which a run begins, or its outcome where it has ended
+pub record Beginning : Type 0 where
+  pub statics : List Value
+  pub objects : List Object
+  pub used : ℕ
+  pub initialised : List Name
+  -- the classes of the frames' methods, the top first
+  pub frames : List Name
+
+abbrev pub beginning : Program → List ℕ → ℕ → Result Beginning Outcome
+beginning program input bytes = seen (begin program entry input (limited_to bytes)) where
+  seen : Answer → Result Beginning Outcome
+  seen (Went s) = Ok (record {
+    statics = map (λ static. static.value) s.statics;
+    objects = s.heap.objects;
+    used = s.heap.used;
+    initialised = s.initialised;
+    frames = map (λ f. f.method.class) s.frames;
+  })
+  seen (Ended outcome s) = Err outcome
+  seen IllFormed = Err outcomes.Link
+
+pub record WorkedBeginnings : Type 0 where
+  -- a text is made once, and takes 24 bytes
+  pub constants : beginning (class_with_constants ∷ []) (1 ∷ []) 48 ≡ Ok (record {
+    statics = values.Int (pos 7) ∷ values.Long (pos 5) ∷ values.Ref 2 ∷ values.Ref 2 ∷ values.Ref 0 ∷ [];
+    objects = input_array (1 ∷ []) ∷ TextObject (codes "ab") ∷ [];
+    used = 48;
+    initialised = codes "java/lang/Object" ∷ codes "A" ∷ [];
+    frames = codes "A" ∷ [];
+  })
+  -- a byte less than the text needs, and a byte less than the input needs
+  pub no_room_for_text : beginning (class_with_constants ∷ []) (1 ∷ []) 47 ≡ Err (outcomes.HeapFull 24 24)
+  pub no_room_for_input : beginning (class_with_constants ∷ []) (1 ∷ []) 23 ≡ Err (outcomes.HeapFull 0 24)
+  -- the superclass's initialiser stands on top
+  pub superclass_first : beginning two_classes [] 16 ≡ Ok (record {
+    statics = [];
+    objects = input_array [] ∷ [];
+    used = 16;
+    initialised = codes "java/lang/Object" ∷ codes "B" ∷ codes "A" ∷ [];
+    frames = codes "B" ∷ codes "A" ∷ codes "A" ∷ [];
+  })
+
 pub record WorkedRuns : Type 0 where
   pub returns : WorkedReturns
   pub ints : WorkedInts
   pub arrays : WorkedArrays
   pub charges : WorkedCharges
   pub handlers : WorkedHandlers
+  pub beginnings : WorkedBeginnings

@@ -6,20 +6,20 @@ use Rattle.dj_names.specs.declared.run.Value.TheVariants as values
 use Rattle.dj_names.specs.declared.run.Element.TheVariants as elements
 use Rattle.dj_names.specs.declared.run.Message.{Message}
 use Rattle.dj_names.specs.declared.run.Message.TheVariants as messages
-use Rattle.dj_names.specs.declared.run.Costs.{Costs}
 use Rattle.dj_names.specs.declared.run.Outcome.{Outcome}
 use Rattle.dj_names.specs.declared.run.Outcome.TheVariants as outcomes
-use Rattle.dj_names.specs.Objects.{Object, Instance, Text, raised_class}
+use Rattle.dj_names.specs.Objects.{Object, Instance, Text}
 use Rattle.dj_model.specs.Program.{Name, Program, Code, Range, code_of, is_subclass, is_initialiser, option_list}
 use Rattle.dj_model.specs.State.{Heap, Frame, State}
 use Rattle.dj_model.specs.Instructions.{Instruction}
+use Rattle.dj_model.specs.Initialisation.{Initialised, Ready, Waits, Fails, initialise}
 use Rattle.dj_model.specs.Effects.{Terms, Part, Flow, Next, To, Raise, Throw, Back, Broken, Full, Effect, effect, object_at, Found, IsArray, array_at, passes_limit, with_new, next_number, raised_size}
 
 pub data Answer : Type 0 where
   -- the run goes on in this state
   Went : State → Answer
-  -- the run has ended, at these costs
-  Ended : Outcome → Costs → Answer
+  -- the run has ended in this way, in this state
+  Ended : Outcome → State → Answer
   -- there is no such step: the program isn't sound
   IllFormed : Answer
 
@@ -59,7 +59,7 @@ caught f exception handler = record f { number = handler; operands = values.Ref 
 -- what leaves a frame without a handler: an exception that leaves an initialiser ends the run, any other goes on as told
 abbrev pub leaves : State → Name → ℕ → Frame → Answer → Answer
 leaves s class exception f below =
-    if is_initialiser f.method then Ended (outcomes.Init f.method.class class (message_of s.heap.objects exception)) s.costs else below
+    if is_initialiser f.method then Ended (outcomes.Init f.method.class class (message_of s.heap.objects exception)) s else below
 
 abbrev pub at_handler : State → Name → ℕ → Frame → List Frame → Option ℕ → Answer → Answer
 at_handler s class exception f below (Some handler) otherwise = Went (record s { frames = caught f exception handler ∷ below })
@@ -67,7 +67,7 @@ at_handler s class exception f below None otherwise = leaves s class exception f
 
 -- JVMS 2.10: the exception goes up the frames to the first handler
 unfoldable pub unwound : Program → State → Name → ℕ → List Frame → Answer
-unwound program s class exception [] = Ended (outcomes.Threw class (message_of s.heap.objects exception)) s.costs
+unwound program s class exception [] = Ended (outcomes.Threw class (message_of s.heap.objects exception)) s
 unwound program s class exception (f ∷ below) =
     at_handler s class exception f below (handler_of program class f.number (code_of program f.method)) (unwound program s class exception below)
 
@@ -86,7 +86,7 @@ new_exception class = Instance class (values.Ref 0 ∷ (values.Ref 0 ∷ []))
 -- an instruction's own exception is made, and thrown
 abbrev pub raise : Program → Terms → State → Name → Answer
 raise program terms s class =
-    if passes_limit terms.limit (s.heap.used + raised_size) then Ended (outcomes.HeapFull s.heap.used raised_size) s.costs
+    if passes_limit terms.limit (s.heap.used + raised_size) then Ended (outcomes.HeapFull s.heap.used raised_size) s
     else throw program (record s { heap = with_new s.heap raised_size (new_exception class) }) (next_number s.heap)
 
 -- ---- returns
@@ -108,7 +108,7 @@ resumed f result caller =
     else record caller { number = caller.number + 1; operands = option_list result ++ caller.operands; paid = false }
 
 abbrev pub returned : State → Frame → Option Value → List Frame → Answer
-returned s f result [] = Ended (result_outcome s.heap result) s.costs
+returned s f result [] = Ended (result_outcome s.heap result) s
 returned s f result (caller ∷ below) = Went (record s { frames = resumed f result caller ∷ below })
 
 -- ---- the step
@@ -121,11 +121,11 @@ at_number f p number = record f { number = number; locals = p.locals; operands =
 abbrev pub settle : Program → Terms → State → Frame → List Frame → Part → Flow → Answer
 settle program terms s f below p Next = Went (record s { frames = at_number f p (f.number + 1) ∷ below })
 settle program terms s f below p (To number) = Went (record s { frames = at_number f p number ∷ below })
-settle program terms s f below p (Raise raised) = raise program terms s (raised_class raised)
+settle program terms s f below p (Raise raised) = raise program terms s (terms.raised raised)
 settle program terms s f below p (Throw exception) = throw program s exception
 settle program terms s f below p (Back result) = returned s f result below
-settle program terms s f below p Broken = Ended outcomes.Link s.costs
-settle program terms s f below p (Full used size) = Ended (outcomes.HeapFull used size) s.costs
+settle program terms s f below p Broken = Ended outcomes.Link s
+settle program terms s f below p (Full used size) = Ended (outcomes.HeapFull used size) s
 
 abbrev pub settled : Program → Terms → State → Frame → List Frame → Option Effect → Answer
 settled program terms s f below None = IllFormed
@@ -135,9 +135,23 @@ settled program terms s f below (Some e) = settle program terms (record s { heap
 abbrev pub part_of : Frame → State → Part
 part_of f s = record { locals = f.locals; operands = f.operands; heap = s.heap; statics = s.statics; literals = s.literals }
 
+-- the class that an instruction uses, which is initialised first (JVMS 5.5); of those that run so far none uses one
+abbrev pub used_class : Program → Instruction → Option Name
+used_class program i = None
+
+abbrev pub prepared : Program → Terms → Option Name → State → Initialised
+prepared program terms None s = Ready s
+prepared program terms (Some class) s = initialise program terms class s
+
+-- where initialisers stand above, the instruction is done once they have run
+abbrev pub done : Program → Terms → Frame → List Frame → Instruction → Initialised → Answer
+done program terms f below i (Ready s) = settled program terms s f below (effect program terms i (part_of f s))
+done program terms f below i (Waits s) = Went s
+done program terms f below i (Fails outcome s) = Ended outcome s
+
 abbrev pub act : Program → Terms → State → Frame → List Frame → Option Instruction → Answer
 act program terms s f below None = IllFormed
-act program terms s f below (Some i) = settled program terms s f below (effect program terms i (part_of f s))
+act program terms s f below (Some i) = done program terms f below i (prepared program terms (used_class program i) s)
 
 abbrev pub instruction_in : Option Code → ℕ → Option Instruction
 instruction_in None number = None

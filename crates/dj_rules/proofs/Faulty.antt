@@ -4,7 +4,7 @@ use Rattle.std.specs.List.{AllByRecursion}
 use Rattle.dj_class.specs.declared.pool.PoolError.TheVariants as pool_errors
 use Rattle.dj_class.specs.declared.class.ClassError.{ClassError}
 use Rattle.dj_class.specs.declared.class.ClassError.TheVariants as class_errors
-use Rattle.dj_class.specs.ClassFile.{Constant, Utf8, Class, ClassFile, IsClassFile, IsConstant, text_of, text_at, text_index_of, constant_at}
+use Rattle.dj_class.specs.ClassFile.{Constant, Utf8, Class, ClassFile, IsClassFile, IsConstant, AreConstants, text_of, text_at, text_index_of, constant_at}
 use Rattle.dj_class.specs.Unbuilt.{IsUnbuiltAt}
 use Rattle.dj_class.specs.Views.{ReadsClass}
 use Rattle.dj_class.proofs.TestsAre.{tests_decide}
@@ -20,21 +20,21 @@ use Rattle.dj_rules.specs.Violations.{IsNoClassFile, this_name}
 
 -- ---- the text of a class is short
 
-constant_holds : (P : Constant → Type 0) (cs : List Constant) (i : ℕ) → AllByRecursion P cs → IfSome (slice_get cs i) P
-constant_holds P [] i h = tt
-constant_holds P (c ∷ cs) zero h = h.0
-constant_holds P (c ∷ cs) (suc i) h = constant_holds P cs i h.1
+constant_holds : (pool cs : List Constant) (i : ℕ) → AreConstants pool cs → IfSome (slice_get cs i) (IsConstant pool)
+constant_holds pool [] i h = tt
+constant_holds pool (c ∷ cs) zero h = h.0
+constant_holds pool (c ∷ cs) (suc i) h = constant_holds pool cs i h.1
 
 short_of : (pool : List Constant) (o : Option Constant) → IfSome o (IsConstant pool) → length (unwrap_or (option_and_then text_of o) []) < 2 ^ 32
 short_of pool None h = omega arith
 short_of pool (Some (Utf8 text)) h = let short = h.0 in omega (arith, short)
 short_of pool (Some (Class index)) h = omega arith
 
-short_at : (pool : List Constant) (index : ℕ) → AllByRecursion (IsConstant pool) pool → length (unwrap_or (text_at pool index) []) < 2 ^ 32
+short_at : (pool : List Constant) (index : ℕ) → AreConstants pool pool → length (unwrap_or (text_at pool index) []) < 2 ^ 32
 short_at pool zero h = omega arith
-short_at pool (suc i) h = short_of pool (slice_get pool i) (constant_holds (IsConstant pool) pool i h)
+short_at pool (suc i) h = short_of pool (slice_get pool i) (constant_holds pool pool i h)
 
-short_named : (pool : List Constant) (index : Option ℕ) → AllByRecursion (IsConstant pool) pool → length (unwrap_or (option_and_then (text_at pool) index) []) < 2 ^ 32
+short_named : (pool : List Constant) (index : Option ℕ) → AreConstants pool pool → length (unwrap_or (option_and_then (text_at pool) index) []) < 2 ^ 32
 short_named pool None h = omega arith
 short_named pool (Some index) h = short_at pool index h
 

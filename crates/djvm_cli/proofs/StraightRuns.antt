@@ -17,10 +17,10 @@ use Rattle.dj_model.specs.Effects.{Part, Flow, Next, To, Raise, Throw, Back, Bro
 use Rattle.dj_model.specs.Step.{result_outcome, bytes_in}
 use Rattle.dj_model.specs.Charges as model
 use Rattle.dj_model.specs.Charges.{paid, own_amounts, no_costs}
-use Rattle.dj_model.specs.Metered.{Run, Goes, Ends, turns, RunsTo, metered_terms, first_state, input_array, input_size}
+use Rattle.dj_model.specs.Metered.{Run, Goes, Ends, turns, RunsTo, metered_terms, input_array, input_size}
 use Rattle.dj_model.specs.Shape.{Kinds, StateBefore, Holds, HasShape, after, ends, first_kinds}
 use Rattle.dj_model.specs.Sound.{LocalsHave, HasKinds, HasSoundEffect, IsSoundFlow}
-use Rattle.dj_model.proofs.Turns.{Stands, turns_more, turns_next, turns_raise, turns_back, turns_broken, turns_stopped, first_frames_plainly, begins_plainly}
+use Rattle.dj_model.proofs.Turns.{Stands, turns_more, turns_next, turns_raise, turns_back, turns_broken, turns_stopped, first_state, statics_none, begins_plainly}
 use Rattle.dj_model.proofs.Sound.{sound_effect}
 use Rattle.dj_model.proofs.Programs.{same_effect, same_amounts}
 use Rattle.dj_model.proofs.Shapes.{one_state}
@@ -29,7 +29,7 @@ use Rattle.djvm_cli.specs.declared.machine.turns.Turns.TheVariants as ways
 use Rattle.djvm_cli.specs.declared.program.Action.{Action}
 use Rattle.djvm_cli.specs.Methods.{straight_signature, action_view}
 use Rattle.djvm_cli.specs.Running.{IsPlainEntry, IsStraightEnd}
-use Rattle.djvm_cli.specs.Machines.{straight_effect}
+use Rattle.djvm_cli.specs.Machines.{straight_terms, straight_effect}
 use Rattle.djvm_cli.specs.Turns.{straight_amounts, TurnsDo, FlowEnds}
 
 abbrev pub frame_at : MethodName → ℕ → Part → Frame
@@ -69,7 +69,7 @@ first_part max_locals input = record {
 first_is : (program : Program) (entry : MethodName) (code : Code) (input : List ℕ) → IsPlainEntry program entry code
     → first_state program entry input ≡ state_at program entry input 0 (first_part code.max_locals input) no_costs
 first_is program entry code input plain =
-    rw (first_frames_plainly program entry plain.none_above, plain.code_is) refl
+    rw (statics_none program plain.no_fields, plain.code_is) refl
 
 pub reached_first : (code : Code) (input : List ℕ) (most : Thresholds) (p : Part) → HasShape straight_signature code → 0 < length code.instructions
     → p ≡ first_part code.max_locals input → Reached code input most 0 p no_costs
@@ -95,7 +95,7 @@ module _ (code : Code) (input : List ℕ) (most : Thresholds) (number : ℕ) (i 
   record Finds : Type 0 where
     left : Kinds
     found : after straight_signature code i reached.kinds ≡ Some left
-    sound : HasSoundEffect [] metered_terms code i left p
+    sound : HasSoundEffect [] straight_terms code i left p
     last : suc number ≡ length code.instructions → IsTrue (ends i)
 
   finds : Finds
@@ -110,7 +110,7 @@ module _ (code : Code) (input : List ℕ) (most : Thresholds) (number : ℕ) (i 
       record {
         left = h.left;
         found = found;
-        sound = sound_effect [] metered_terms straight_signature code i reached.kinds h.left p reached.values reached.long found;
+        sound = sound_effect [] straight_terms straight_signature code i reached.kinds h.left p reached.values reached.long found;
         last = λ e. subst (λ (j : Instruction). IsTrue (ends j)) same (h.last e);
       }
 
@@ -118,8 +118,8 @@ module _ (code : Code) (input : List ℕ) (most : Thresholds) (number : ℕ) (i 
   has_effect = rw finds.sound.1 refl
 
   -- in every program
-  its_effect : (program : Program) (e : Effect) → straight_effect i p ≡ Some e → effect program metered_terms i p ≡ Some e
-  its_effect program e h = same_effect program [] metered_terms i p ∙ h
+  its_effect : (program : Program) (e : Effect) → straight_effect i p ≡ Some e → effect program (metered_terms most) i p ≡ Some e
+  its_effect program e h = same_effect program [] (metered_terms most) straight_terms i p refl ∙ h
 
   its_payment : (program : Program) (payment : model.Payment) → paid most costs (straight_amounts i p.operands) ≡ payment
       → paid most costs (own_amounts program (Some i) p.operands) ≡ payment
@@ -176,7 +176,7 @@ module _ (code : Code) (input : List ℕ) (most : Thresholds) (number : ℕ) (i 
   ended : (program : Program) (entry : MethodName) → IsPlainEntry program entry code → (n : ℕ) (outcome : Outcome) (now : Costs)
       → turns program most n (state_at program entry input number p costs) ≡ Ends outcome now → RunsTo program entry input most outcome now
   ended program entry plain n outcome now e =
-      (2 * number + n, rw (begins_plainly program entry input plain.none_above) (later program entry plain n (Ends outcome now) e))
+      (2 * number + n, rw (begins_plainly program entry input most plain.no_fields plain.none_above) (later program entry plain n (Ends outcome now) e))
 
   done_end : (program : Program) (entry : MethodName) → IsPlainEntry program entry code → (q : Part) (flow : Flow) (outcome : Outcome) (now : Costs)
       → paid most costs (straight_amounts i p.operands) ≡ model.Paid now → straight_effect i p ≡ Some (goes q flow) → FlowEnds q.heap flow outcome

@@ -13,7 +13,7 @@ use Rattle.dj_class.proofs.CodeLaws.{one_code}
 use Rattle.dj_class.proofs.TestsAre.{tests_decide}
 use Rattle.dj_class.proofs.ClassLaws.{one_class_file}
 use Rattle.dj_model.specs.Instructions.{instruction_of}
-use Rattle.dj_model.specs.Program.{Name, Program, Class, Method, Code, Runs, same_name, method_in, runs_static, initialiser_name, class_has_initialiser, has_initialiser, is_initialiser}
+use Rattle.dj_model.specs.Program.{Name, Program, HasNoFields, Class, Method, Code, Runs, same_name, method_in, runs_static, initialiser_name, class_has_initialiser, has_initialiser, is_initialiser}
 use Rattle.djvm_cli.specs.declared.program.StraightMethod.{StraightMethod}
 use Rattle.djvm_cli.specs.declared.program.StraightClass.{StraightClass}
 use Rattle.djvm_cli.specs.Methods.{straight_descriptor, action_view, code_view, method_view, class_view, program_view, object_name}
@@ -115,6 +115,10 @@ no_initialiser_in class name all = no_initialiser_if (same_name class.name name)
 no_initialiser_none : (name : Name) → has_initialiser [] name ≡ false
 unfolding has_initialiser
 no_initialiser_none name = refl
+
+pub no_fields : (class : Option StraightClass) → HasNoFields (program_view class)
+no_fields None = tt
+no_fields (Some c) = (refl, tt)
 
 pub no_initialisers : (files : List File) (p : Program) → IsStraightSet files p → (class : Name) → has_initialiser p class ≡ false
 no_initialisers [] p is class = ap (λ (q : Program). has_initialiser q class) is ∙ no_initialiser_none class

@@ -2,10 +2,10 @@
 use Rattle.std.specs.Prelude.{◌≡◌, ◌^◌, ◌<◌, ⊤, [], length, Option, Some, None, codes}
 use Rattle.dj_names.specs.declared.run.Element.TheVariants as elements
 use Rattle.dj_names.specs.declared.run.Value.TheVariants as values
+use Rattle.dj_names.specs.Objects.{raised_class}
 use Rattle.dj_model.specs.Instructions.{Instruction}
 use Rattle.dj_model.specs.Effects as model
-use Rattle.dj_model.specs.Effects.{Part, Effect, effect, goes}
-use Rattle.dj_model.specs.Metered.{metered_terms}
+use Rattle.dj_model.specs.Effects.{Terms, Part, Effect, effect, goes}
 use Rattle.djvm_cli.specs.declared.machine.heap.Found.{Found}
 use Rattle.djvm_cli.specs.declared.machine.heap.Found.TheVariants as founds
 use Rattle.djvm_cli.specs.declared.machine.parts.Machine.{Machine}
@@ -24,9 +24,13 @@ IsShort _ = ⊤
 abbrev pub machine_view : Machine → Part
 machine_view m = record { locals = m.locals.items; operands = m.operands; heap = m.heap; statics = []; literals = [] }
 
--- the effect of a straight instruction in a metered run; it asks for no class, so it is the same in every program
+-- without a limit on the heap
+abbrev pub straight_terms : Terms
+straight_terms = record { limit = None; raised = raised_class; thresholds = None }
+
+-- the effect of a straight instruction: it asks for no class, so it is the same in every program and in every metered run
 abbrev pub straight_effect : Instruction → Part → Option Effect
-straight_effect i p = effect [] metered_terms i p
+straight_effect i p = effect [] straight_terms i p
 
 -- the effect that is told so, of an instruction from the one state to the other
 abbrev pub told : Part → Part → Progress → Option Effect

@@ -4,14 +4,15 @@ use Rattle.dj_names.specs.declared.run.Value.TheVariants as values
 use Rattle.dj_names.specs.declared.run.Outcome.{Outcome}
 use Rattle.dj_names.specs.declared.run.Outcome.TheVariants as outcomes
 use Rattle.dj_model.specs.Instructions.{Instruction, Push}
-use Rattle.dj_model.specs.Program.{Name, Program, MethodName, Code, code_of, chain, has_initialiser, is_initialiser}
+use Rattle.dj_model.specs.Program.{Name, Program, HasNoFields, MethodName, Code, code_of, chain, has_initialiser, is_initialiser}
 use Rattle.djvm_cli.specs.Methods.{action_view}
 use Rattle.djvm_cli.specs.declared.program.StraightMethod.{StraightMethod}
 use Rattle.djvm_cli.specs.declared.program.StraightClass.{StraightClass}
 
--- the method has this code, and no class that its call initialises has an initialiser
+-- the method has this code, no class that its call initialises has an initialiser, and none of the program has fields
 pub record IsPlainEntry (program : Program) (entry : MethodName) (code : Code) : Type 0 where
   pub code_is : code_of program entry ≡ Some code
+  pub no_fields : HasNoFields program
   pub no_initialiser : is_initialiser entry ≡ false
   pub none_above : (class : Name) → Contains (chain program entry.class) class → has_initialiser program class ≡ false
 

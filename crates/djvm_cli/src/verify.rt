@@ -4,7 +4,7 @@ ghost use Rattle.dj_edge.specs.Held.{is_class_path};
 ghost use Rattle.dj_names.specs.declared.run.Outcome.TheVariants.{Link};
 ghost use Rattle.dj_report.specs.declared.report.Report.TheVariants.{Later};
 ghost use Rattle.dj_report.specs.Text.{report_status};
-ghost use Rattle.dj_model.specs.Program.{has_initialiser};
+ghost use Rattle.dj_model.specs.Program.{HasNoFields, has_initialiser};
 ghost use Rattle.dj_model.specs.Metered.{RunsTo};
 ghost use Rattle.djvm_cli.specs.Limits.{most_input_bytes, default_thresholds};
 ghost use Rattle.djvm_cli.specs.Methods.{program_view};
@@ -60,6 +60,7 @@ fn run_entry(
     requires shaped { AreShaped set.now.class }
     requires runnable { AreRunnable set.now.class }
     requires input { length input.now ≤ most_input_bytes }
+    requires no_fields { HasNoFields (program_view set.now.class) }
     requires plain { (name : List ℕ) → has_initialiser (program_view set.now.class) name ≡ false }
     ensures runs { IfOk result (λ e. RunsTo (program_view set.now.class) (entry_method class.now) input.now default_thresholds e.outcome e.costs) }
     ensures kinds { IfOk result (λ e. IsStraightEnd e.outcome) }

@@ -5,7 +5,7 @@ use Rattle.djvm_cli.specs.Methods.{program_view}
 use Rattle.dj_rules.specs.Views.{path_file_view}
 use Rattle.djvm_cli.proofs.Known.{nil_of_empty}
 use Rattle.djvm_cli.proofs.RunRules.{entry_is_there, straight_is_short, straight_is_as_many}
-use Rattle.djvm_cli.proofs.Straights.{no_initialisers}
+use Rattle.djvm_cli.proofs.Straights.{no_initialisers, no_fields}
 use Rattle.djvm_cli.proofs.verify.judge_straight.Goals as goal
 
 pub run_violations-requires-clause-as_many : goal.run_violations-requires-clause-as_many
@@ -25,3 +25,6 @@ run_entry-requires-clause-entry c =
 
 pub run_entry-requires-clause-plain : goal.run_entry-requires-clause-plain
 run_entry-requires-clause-plain c = no_initialisers (map path_file_view c.args.files.now) (program_view c.args.set.now.class) c.requires.straight
+
+pub run_entry-requires-clause-no_fields : goal.run_entry-requires-clause-no_fields
+run_entry-requires-clause-no_fields c = no_fields c.args.set.now.class
