@@ -4,3 +4,5 @@ pub mod Shapes
 pub mod Programs
 pub mod Runs
 mod Rows
+mod Opcodes
+mod Facts

@@ -75,6 +75,12 @@ unfolding begin constants_of with_constants turns turn step unwound effect instr
 handlers = record {
   again = (33, refl);
   by_class = (10, refl);
+  first_range = (10, refl);
+  superclass_caught = (10, refl);
+  one_operand = refl;
+  throw_before_bytes = (3, refl);
+  bytes_after_throw = (3, refl);
+  highest_initialiser = (4, refl);
   by_initialiser = (4, refl);
 }
 

@@ -17,7 +17,7 @@ use Rattle.dj_model.specs.Instructions.{instruction_of}
 use Rattle.dj_model.specs.Program.{Name, Class, Field, Constant, Int, Long, Text, Program, Method, Range, Runs, MethodName}
 use Rattle.dj_model.specs.Effects.{Terms}
 use Rattle.dj_model.specs.Step.{Answer, Went, Ended, IllFormed}
-use Rattle.dj_model.specs.Metered.{RunsTo, begin, input_array, metered_terms}
+use Rattle.dj_model.specs.Metered.{RunsTo, run, Stuck, begin, input_array, metered_terms}
 
 -- ---- programs of one class
 
@@ -77,10 +77,22 @@ throws_at_most n = record { alloc = 1000; invoke = 1000; jump = 1000; throw = n 
 abbrev pub throws_cost : ℕ → Costs
 throws_cost n = record { alloc = 0; invoke = 0; jump = 0; throw = n }
 
--- verify, in the class with these methods, run on the byte 1 where no more than five throws may be charged, ends so, and so many are
--- charged (stack maps aside, which a run doesn't read)
+-- verify, in this program, run on the byte 1 where no more than five throws may be charged, ends so, and so many are charged (stack maps
+-- aside, which a run doesn't read)
+abbrev pub RunsProgram : Program → Outcome → ℕ → Type 0
+RunsProgram program outcome throws = RunsTo program entry (1 ∷ []) (throws_at_most 5) outcome (throws_cost throws)
+
+-- the same, in the class with these methods
 abbrev pub RunsMethods : List Method → Outcome → ℕ → Type 0
-RunsMethods methods outcome throws = RunsTo (class_with methods ∷ []) entry (1 ∷ []) (throws_at_most 5) outcome (throws_cost throws)
+RunsMethods methods outcome throws = RunsProgram (class_with methods ∷ []) outcome throws
+
+-- verify with this code doesn't end: an instruction doesn't find what it takes
+abbrev pub SticksAfter : List Instr → List Range → ℕ → Type 0
+SticksAfter code ranges turns = run (class_with (verify_with code ranges ∷ []) ∷ []) entry (1 ∷ []) (throws_at_most 5) turns ≡ Stuck
+
+-- a class without methods, below another
+abbrev pub class_below : Name → Name → Class
+class_below name above = record (class_with []) { name = name; superclass = Some above }
 
 -- an instruction without operands
 abbrev pub op : ℕ → Instr
@@ -203,6 +215,31 @@ pub record WorkedHandlers : Type 0 where
       (record { start = 0; end = 1; handler = 4; catches = None }
       ∷ record { start = 1; end = 2; handler = 4; catches = Some (codes "X") }
       ∷ record { start = 1; end = 2; handler = 2; catches = Some null_pointer } ∷ []) ∷ []) (outcomes.OkBytes (1 ∷ [])) 2
+  -- aconst_null, arraylength, and then pop, aload_0, areturn, or else pop, aconst_null, areturn: of two ranges that catch the first decides
+  pub first_range : RunsMethods (verify_with (op 1 ∷ op 190 ∷ op 87 ∷ op 42 ∷ op 176 ∷ op 87 ∷ op 1 ∷ op 176 ∷ [])
+      (record { start = 1; end = 2; handler = 2; catches = None } ∷ record { start = 1; end = 2; handler = 5; catches = None } ∷ []) ∷ [])
+      (outcomes.OkBytes (1 ∷ [])) 1
+  -- the same, where the first range catches a class below the exception's, and the second one above it
+  pub superclass_caught : RunsProgram
+      (class_with (verify_with (op 1 ∷ op 190 ∷ op 87 ∷ op 42 ∷ op 176 ∷ op 87 ∷ op 1 ∷ op 176 ∷ [])
+      (record { start = 1; end = 2; handler = 2; catches = Some (codes "L") }
+      ∷ record { start = 1; end = 2; handler = 5; catches = Some (codes "H") } ∷ []) ∷ [])
+      ∷ class_below (codes "L") null_pointer ∷ class_below null_pointer (codes "M") ∷ class_below (codes "M") (codes "H") ∷ []) outcomes.OkNull 1
+  -- iconst_0, aconst_null, arraylength, pop, pop: at the handler the exception is the one operand, so the second pop finds none
+  pub one_operand : SticksAfter (op 3 ∷ op 1 ∷ op 190 ∷ op 87 ∷ op 87 ∷ op 42 ∷ op 176 ∷ [])
+      (record { start = 2; end = 3; handler = 3; catches = None } ∷ []) 10
+  -- iconst_1, newarray byte, areturn, where the newarray is the first of a handler: the throw is charged before the bytes
+  pub throw_before_bytes : RunsTo
+      (class_with (verify_with (op 4 ∷ newarray_byte ∷ op 176 ∷ []) (record { start = 0; end = 1; handler = 1; catches = None } ∷ []) ∷ []) ∷ [])
+      entry [] (record (throws_at_most 0) { alloc = 24 }) (outcomes.Stopped charges.Throw) (throws_cost 1)
+  pub bytes_after_throw : RunsTo
+      (class_with (verify_with (op 4 ∷ newarray_byte ∷ op 176 ∷ []) (record { start = 0; end = 1; handler = 1; catches = None } ∷ []) ∷ []) ∷ [])
+      entry [] (record (throws_at_most 1) { alloc = 23 }) (outcomes.Stopped charges.Alloc) (record (throws_cost 1) { alloc = 24 })
+  -- aload_0, areturn, and in the initialisers of A and of B above it aconst_null, arraylength: B's runs first
+  pub highest_initialiser : RunsProgram
+      (record (class_with (verify_with (op 42 ∷ op 176 ∷ []) [] ∷ initialiser_with (op 1 ∷ op 190 ∷ []) ∷ [])) { superclass = Some (codes "B") }
+      ∷ record (class_with (initialiser_with (op 1 ∷ op 190 ∷ []) ∷ [])) { name = codes "B" } ∷ [])
+      (outcomes.Init (codes "B") null_pointer messages.Null) 0
   -- aload_0, areturn, and in the initialiser aconst_null, arraylength
   pub by_initialiser : RunsMethods (verify_with (op 42 ∷ op 176 ∷ []) [] ∷ initialiser_with (op 1 ∷ op 190 ∷ []) ∷ [])
       (outcomes.Init (codes "A") null_pointer messages.Null) 0
