@@ -1,10 +1,14 @@
 -- What adding lines does to those that were found.
-use Rattle.std.proofs.Common.{◌≡◌, ℕ, zero, suc, ◌+◌, ◌<◌, ◌⊎◌, ◌↔◌, List, [], ◌∷◌, ◌++◌, map, take, length, get_or, refl, sym, ap, ◌∙◌, subst, inl, inr, arith, Contains, Result, Ok, Err, OnOk, IsPermutation, Bool, true, false}
+use Rattle.std.proofs.Common.{◌≡◌, ℕ, zero, suc, ◌+◌, ◌<◌, ◌⊎◌, ◌↔◌, List, [], ◌∷◌, ◌++◌, map, take, length, get_or, refl, sym, ap, ◌∙◌, subst, inl, inr, arith, Contains, Result, Ok, Err, OnOk, IsPermutation, Bool, true, false, ◌&&◌, nat_eq}
+use Rattle.std.specs.List.{dedup}
+use Rattle.std.specs.Cmp.{IsEquivalence, and_equiv, on_equiv, nat_eq_equiv}
+use Rattle.std.proofs.lemmas.Bool.{eqb-true}
 use Rattle.std.proofs.lemmas.List.{get_or-map, take_more, length-map}
 use Rattle.std.proofs.lemmas.List.Elements.{Contains-append_left, Contains-append_right, Contains-append_cases, Contains-push, Contains-push_cases}
+use Rattle.std.proofs.lemmas.List.Kept.{Contains-dedup, Contains-from_dedup}
 use Rattle.std.proofs.lemmas.List.Sorted.{Contains-permutation, IsPermutation-sym}
 use Rattle.dj_report.specs.declared.report.Violation.{Violation}
-use Rattle.dj_rules.specs.Lines.{Adds, IsLineAmong}
+use Rattle.dj_rules.specs.Lines.{Gains, IsLineAmong}
 
 -- ---- members of a list
 
@@ -21,18 +25,18 @@ from_contains_map f (x ∷ xs) y (suc k, lt, e) =
     let more = from_contains_map f xs y (k, omega arith, e) in
     (more.0, Contains-append_right (x ∷ []) xs more.0 more.1, more.2)
 
--- ---- lines that are added
+-- ---- what is added
 
-pub adds_same : (P Q : Violation → Type 0) (a b : List Violation) → ((v : Violation) → P v ↔ Q v) → Adds P a b → Adds Q a b
+pub adds_same : {L : Type 0} (P Q : L → Type 0) (a b : List L) → ((v : L) → P v ↔ Q v) → Gains P a b → Gains Q a b
 adds_same P Q a b same adds v = (
   λ m. elim ((adds v).0 m) [ inl old ↦ inl old | inr is ↦ inr ((same v).0 is) ],
   λ c. (adds v).1 (elim c [ inl old ↦ inl old | inr is ↦ inr ((same v).1 is) ]),
 )
 
-pub adds_nothing : (P : Violation → Type 0) (a : List Violation) → ((v : Violation) → P v → ⊥) → Adds P a a
+pub adds_nothing : {L : Type 0} (P : L → Type 0) (a : List L) → ((v : L) → P v → ⊥) → Gains P a a
 adds_nothing P a none v = (λ m. inl m, λ c. elim c [ inl old ↦ old | inr is ↦ absurd (none v is) ])
 
-pub adds_both : (P Q : Violation → Type 0) (a b c : List Violation) → Adds P a b → Adds Q b c → Adds (λ v. P v ⊎ Q v) a c
+pub adds_both : {L : Type 0} (P Q : L → Type 0) (a b c : List L) → Gains P a b → Gains Q b c → Gains (λ v. P v ⊎ Q v) a c
 adds_both P Q a b c first second v = (
   λ m. elim ((second v).0 m) [
     | inl mid ↦ elim ((first v).0 mid) [ inl old ↦ inl old | inr is ↦ inr (inl is) ]
@@ -44,33 +48,56 @@ adds_both P Q a b c first second v = (
   ],
 )
 
--- a line where a fact holds
-pub adds_when : (H : Type 0) (P : Violation → Type 0) (a b : List Violation) → H → Adds P a b → Adds (λ v. H × P v) a b
+-- where a fact holds
+pub adds_when : {L : Type 0} (H : Type 0) (P : L → Type 0) (a b : List L) → H → Gains P a b → Gains (λ v. H × P v) a b
 adds_when H P a b h = adds_same P (λ v. H × P v) a b (λ v. (λ p. (h, p), λ hp. hp.1))
 
-pub adds_unless : (H : Type 0) (P : Violation → Type 0) (a : List Violation) → (H → ⊥) → Adds (λ v. H × P v) a a
+pub adds_unless : {L : Type 0} (H : Type 0) (P : L → Type 0) (a : List L) → (H → ⊥) → Gains (λ v. H × P v) a a
 adds_unless H P a not_h = adds_nothing (λ v. H × P v) a (λ v hp. not_h hp.0)
 
--- lines that were gathered apart, and put in another order
-pub adds_gathered : (P : Violation → Type 0) (a b c : List Violation) → Adds P [] b → IsPermutation b c → Adds P a (a ++ c)
-adds_gathered P a b c gathered moved v = (
+-- what was gathered apart, and then changed into a list of the same members
+pub adds_gathered : {L : Type 0} (P : L → Type 0) (a b c : List L) → Gains P [] b → ((v : L) → Contains c v ↔ Contains b v) → Gains P a (a ++ c)
+adds_gathered P a b c gathered members v = (
   λ m. elim (Contains-append_cases a c v m) [
     | inl old ↦ inl old
-    | inr new ↦ elim ((gathered v).0 (Contains-permutation c b v (IsPermutation-sym b c moved) new)) [ inl none ↦ absurd (contains_none v none) | inr is ↦ inr is ]
+    | inr new ↦ elim ((gathered v).0 ((members v).0 new)) [ inl none ↦ absurd (contains_none v none) | inr is ↦ inr is ]
   ],
   λ any. elim any [
     | inl old ↦ Contains-append_left a c v old
-    | inr is ↦ Contains-append_right a c v (Contains-permutation b c v moved ((gathered v).1 (inr is)))
+    | inr is ↦ Contains-append_right a c v ((members v).1 ((gathered v).1 (inr is)))
   ],
 )
 
--- ---- lines of parts
+-- a list that was put in order and then lost its repeats has the same members
+pub once_members : {L : Type 0} {E : L → L → Bool} → IsEquivalence E → ((x y : L) → E x y ≡ true → x ≡ y) → (a b c : List L) → IsPermutation a b → c ≡ dedup E b → (v : L) → Contains c v ↔ Contains a v
+once_members {L} {E} laws same a b c moved is v =
+    rw is (
+      λ m. Contains-permutation b a v (IsPermutation-sym a b moved) (Contains-from_dedup E b v m),
+      λ m. Contains-dedup laws same b v (Contains-permutation a b v moved m),
+    )
 
-module _ {X : Type 0} (IsOwn : X → Violation → Type 0) where
-  pub among_none : (v : Violation) → IsLineAmong IsOwn [] v → ⊥
+-- the same of pairs of numbers
+both_true : (a b : Bool) → (a && b) ≡ true → (a ≡ true) × (b ≡ true)
+both_true true b e = (refl, e)
+both_true false b e = absurd cc
+
+same_pairs : (x y : ℕ × ℕ) → (nat_eq x.0 y.0 && nat_eq x.1 y.1) ≡ true → x ≡ y
+same_pairs x y e = let both = both_true (nat_eq x.0 y.0) (nat_eq x.1 y.1) e in λ i. (eqb-true x.0 y.0 both.0 i, eqb-true x.1 y.1 both.1 i)
+
+pub once_pairs : (a b c : List (ℕ × ℕ)) → IsPermutation a b → c ≡ dedup (λ x y. nat_eq x.0 y.0 && nat_eq x.1 y.1) b → (pair : ℕ × ℕ) → Contains c pair ↔ Contains a pair
+once_pairs = once_members (and_equiv (on_equiv (λ t. t.0) nat_eq_equiv) (on_equiv (λ t. t.1) nat_eq_equiv)) same_pairs
+
+-- ---- what is added for parts
+
+-- `IsLineAmong` for values of any type
+abbrev pub IsAmong : {X L : Type 0} → (X → L → Type 0) → List X → L → Type 0
+IsAmong {X} IsOwn parts v = (part : X) × Contains parts part × IsOwn part v
+
+module _ {X L : Type 0} (IsOwn : X → L → Type 0) where
+  pub among_none : (v : L) → IsAmong IsOwn [] v → ⊥
   among_none v (part, m, is) = contains_none part m
 
-  among_one_more : (parts : List X) (x : X) (v : Violation) → (IsLineAmong IsOwn parts v ⊎ IsOwn x v) ↔ IsLineAmong IsOwn (parts ++ x ∷ []) v
+  among_one_more : (parts : List X) (x : X) (v : L) → (IsAmong IsOwn parts v ⊎ IsOwn x v) ↔ IsAmong IsOwn (parts ++ x ∷ []) v
   among_one_more parts x v = (
     λ any. elim any [
       | inl old ↦ (old.0, Contains-append_left parts (x ∷ []) old.0 old.1, old.2)
@@ -82,18 +109,18 @@ module _ {X : Type 0} (IsOwn : X → Violation → Type 0) where
     ],
   )
 
-  pub adds_none_yet : (parts : List X) (a : List Violation) → Adds (IsLineAmong IsOwn (take 0 parts)) a a
-  adds_none_yet parts a = adds_nothing (IsLineAmong IsOwn (take 0 parts)) a among_none
+  pub adds_none_yet : (parts : List X) (a : List L) → Gains (IsAmong IsOwn (take 0 parts)) a a
+  adds_none_yet parts a = adds_nothing (IsAmong IsOwn (take 0 parts)) a among_none
 
-  pub adds_one_more : (parts : List X) (i : ℕ) (d : X) (a b c : List Violation) → i < length parts → Adds (IsLineAmong IsOwn (take i parts)) a b → Adds (IsOwn (get_or parts i d)) b c → Adds (IsLineAmong IsOwn (take (i + 1) parts)) a c
+  pub adds_one_more : (parts : List X) (i : ℕ) (d : X) (a b c : List L) → i < length parts → Gains (IsAmong IsOwn (take i parts)) a b → Gains (IsOwn (get_or parts i d)) b c → Gains (IsAmong IsOwn (take (i + 1) parts)) a c
   adds_one_more parts i d a b c lt before this =
-      let more : Adds (IsLineAmong IsOwn (take i parts ++ get_or parts i d ∷ [])) a c =
-      adds_same (λ v. IsLineAmong IsOwn (take i parts) v ⊎ IsOwn (get_or parts i d) v) (IsLineAmong IsOwn (take i parts ++ get_or parts i d ∷ [])) a c
-      (among_one_more (take i parts) (get_or parts i d)) (adds_both (IsLineAmong IsOwn (take i parts)) (IsOwn (get_or parts i d)) a b c before this) in
-      subst (λ (xs : List X). Adds (IsLineAmong IsOwn xs) a c) (sym (take_more parts i d lt)) more
+      let more : Gains (IsAmong IsOwn (take i parts ++ get_or parts i d ∷ [])) a c =
+      adds_same (λ v. IsAmong IsOwn (take i parts) v ⊎ IsOwn (get_or parts i d) v) (IsAmong IsOwn (take i parts ++ get_or parts i d ∷ [])) a c
+      (among_one_more (take i parts) (get_or parts i d)) (adds_both (IsAmong IsOwn (take i parts)) (IsOwn (get_or parts i d)) a b c before this) in
+      subst (λ (xs : List X). Gains (IsAmong IsOwn xs) a c) (sym (take_more parts i d lt)) more
 
-  pub adds_read : (parts : List X) (i : ℕ) (x : X) (a b c : List Violation) → i < length parts → x ≡ get_or parts i x → Adds (IsLineAmong IsOwn (take i parts)) a b → Adds (IsOwn x) b c → Adds (IsLineAmong IsOwn (take (i + 1) parts)) a c
-  adds_read parts i x a b c lt is before this = adds_one_more parts i x a b c lt before (subst (λ (y : X). Adds (IsOwn y) b c) is this)
+  pub adds_read : (parts : List X) (i : ℕ) (x : X) (a b c : List L) → i < length parts → x ≡ get_or parts i x → Gains (IsAmong IsOwn (take i parts)) a b → Gains (IsOwn x) b c → Gains (IsAmong IsOwn (take (i + 1) parts)) a c
+  adds_read parts i x a b c lt is before this = adds_one_more parts i x a b c lt before (subst (λ (y : X). Gains (IsOwn y) b c) is this)
 
 -- the parts, seen
 pub among_map : {X Y : Type 0} (f : X → Y) (IsOwn : Y → Violation → Type 0) (xs : List X) (v : Violation) → IsLineAmong (λ x. IsOwn (f x)) xs v ↔ IsLineAmong IsOwn (map f xs) v

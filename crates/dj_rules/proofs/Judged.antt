@@ -1,39 +1,45 @@
 -- The lines of a class file and of a file, as the functions gather them.
-use Rattle.std.proofs.Common.{◌≡◌, ℕ, ◌≤◌, ◌⊎◌, ◌↔◌, List, [], map, take, length, sym, subst, inl, inr, Contains}
+use Rattle.std.proofs.Common.{◌≡◌, ℕ, ◌≤◌, ◌⊎◌, ◌↔◌, List, [], map, take, length, refl, sym, subst, inl, inr, Contains}
 use Rattle.dj_report.specs.declared.report.Violation.{Violation}
 use Rattle.dj_class.specs.declared.class.MemberView.{MemberView}
 use Rattle.dj_class.specs.ClassFile.{Constant, MemberInfo, ClassFile, IsClassFile}
 use Rattle.dj_class.specs.Members.{member_of}
 use Rattle.dj_class.proofs.TestsAre.{tests_decide}
 use Rattle.dj_class.proofs.ClassLaws.{one_class_file}
-use Rattle.dj_rules.specs.Lines.{Adds, IsLineAmong}
+use Rattle.dj_rules.specs.Lines.{Adds, Gains, IsLineAmong, IsPairLine, pair_of}
 use Rattle.dj_report.specs.declared.report.PathFile.{PathFile}
 use Rattle.std.proofs.lemmas.List.{take_all}
 use Rattle.dj_rules.specs.Violations.{file_line, member_line, member_text, this_name, IsNative, IsFinalizer, HasOtherVersion, IsNamedAs, IsMethodLine, IsClassLine, IsNoClassFile, IsLineOf, IsViolation}
 use Rattle.dj_rules.specs.Views.{path_file_view}
-use Rattle.dj_rules.proofs.Adding.{adds_same, adds_both, among_map, contains_none, contains_map, from_contains_map}
+use Rattle.dj_rules.proofs.Adding.{IsAmong, adds_same, adds_both, among_map, contains_none, contains_map, from_contains_map}
 
--- a method's own line
-abbrev pub IsOwnLine : (List Constant → MemberInfo → Type 0) → List ℕ → ℕ → List Constant → MemberView → Violation → Type 0
-IsOwnLine IsSuch path rule pool m v = IsSuch pool (member_of m) × (v ≡ member_line path (member_text pool (member_of m)) rule)
+-- the pair of a method of the condition
+abbrev pub IsOwnPair : (List Constant → MemberInfo → Type 0) → List Constant → MemberView → ℕ × ℕ → Type 0
+IsOwnPair IsSuch pool m pair = IsSuch pool (member_of m) × (pair ≡ pair_of (member_of m))
 
-method_lines : (IsSuch : List Constant → MemberInfo → Type 0) (path : List ℕ) (rule : ℕ) (c : ClassFile) (views : List MemberView) → map member_of views ≡ c.methods → (v : Violation) → IsLineAmong (IsOwnLine IsSuch path rule c.pool) views v ↔ IsMethodLine IsSuch path rule c v
-method_lines IsSuch path rule c views are v = (
-  λ all. record {
-    method = member_of all.0;
-    own = subst (λ ms. Contains ms (member_of all.0)) are (contains_map member_of views all.0 all.1);
-    such = all.2.0;
-    line = all.2.1;
-  },
+-- a line of a method is that of its pair
+method_lines : (IsSuch : List Constant → MemberInfo → Type 0) (path : List ℕ) (rule : ℕ) (c : ClassFile) (views : List MemberView) (pairs once : List (ℕ × ℕ)) → map member_of views ≡ c.methods → Gains (IsAmong (IsOwnPair IsSuch c.pool) views) [] pairs → ((pair : ℕ × ℕ) → Contains once pair ↔ Contains pairs pair) → (v : Violation) → IsLineAmong (IsPairLine path rule c.pool) once v ↔ IsMethodLine IsSuch path rule c v
+method_lines IsSuch path rule c views pairs once are gathered members v = (
+  λ (pair, m, line). elim ((gathered pair).0 ((members pair).0 m)) [
+    | inl none ↦ absurd (contains_none pair none)
+    | inr (method, own, (such, is)) ↦ record {
+      method = member_of method;
+      own = subst (λ ms. Contains ms (member_of method)) are (contains_map member_of views method own);
+      such = such;
+      line = subst (λ p. IsPairLine path rule c.pool p v) is line;
+    }
+  ],
   λ is.
       let seen = from_contains_map member_of views is.method (subst (λ ms. Contains ms is.method) (sym are) is.own) in
-      (seen.0, seen.1, subst (λ m. IsSuch c.pool m × (v ≡ member_line path (member_text c.pool m) rule)) (sym seen.2) (is.such, is.line)),
+      let such = subst (λ m. IsSuch c.pool m) (sym seen.2) is.such in
+      let pair = pair_of (member_of seen.0) in
+      (pair, (members pair).1 ((gathered pair).1 (inr (seen.0, seen.1, (such, refl)))), subst (λ m. v ≡ member_line path (member_text c.pool m) rule) (sym seen.2) is.line),
 )
 
 -- lines of all methods
-pub adds_method_lines : (IsSuch : List Constant → MemberInfo → Type 0) (path : List ℕ) (rule : ℕ) (c : ClassFile) (views : List MemberView) (a b : List Violation) → map member_of views ≡ c.methods → Adds (IsLineAmong (IsOwnLine IsSuch path rule c.pool) views) a b → Adds (IsMethodLine IsSuch path rule c) a b
-adds_method_lines IsSuch path rule c views a b are =
-    adds_same (IsLineAmong (IsOwnLine IsSuch path rule c.pool) views) (IsMethodLine IsSuch path rule c) a b (method_lines IsSuch path rule c views are)
+pub adds_method_lines : (IsSuch : List Constant → MemberInfo → Type 0) (path : List ℕ) (rule : ℕ) (c : ClassFile) (views : List MemberView) (pairs once : List (ℕ × ℕ)) (a b : List Violation) → map member_of views ≡ c.methods → Gains (IsAmong (IsOwnPair IsSuch c.pool) views) [] pairs → ((pair : ℕ × ℕ) → Contains once pair ↔ Contains pairs pair) → Adds (IsLineAmong (IsPairLine path rule c.pool) once) a b → Adds (IsMethodLine IsSuch path rule c) a b
+adds_method_lines IsSuch path rule c views pairs once a b are gathered members =
+    adds_same (IsLineAmong (IsPairLine path rule c.pool) once) (IsMethodLine IsSuch path rule c) a b (method_lines IsSuch path rule c views pairs once are gathered members)
 
 abbrev pub IsVersionLine : List ℕ → ClassFile → Violation → Type 0
 IsVersionLine path c v = HasOtherVersion c × (v ≡ file_line path 2)

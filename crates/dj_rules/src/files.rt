@@ -47,7 +47,7 @@ fn add_file_lines(
     }
 }
 
-// The lines of a file are put in order among themselves, so that all lines are in order already if the files are.
+// The lines of a file are put in order among themselves, each once, so that all lines are in order already if the files are.
 fn add_sorted_lines(
     alloc: Global,
     found: &mut Vec<Violation>,
@@ -59,6 +59,7 @@ fn add_sorted_lines(
     let mut lines = Vec::new(alloc);
     add_file_lines(alloc, &mut lines, file)?;
     lines.sort_unstable();
+    lines.dedup();
     found.append(&mut lines)?;
     Ok(())
 }

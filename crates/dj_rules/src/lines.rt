@@ -1,10 +1,9 @@
 ghost use Rattle.std.specs.Prelude.{◌≡◌, OnOk, IfOk};
-ghost use Rattle.dj_class.specs.Members.{member_of};
-ghost use Rattle.dj_rules.specs.Lines.{Adds};
-ghost use Rattle.dj_rules.specs.Violations.{file_line, member_line, member_text};
+ghost use Rattle.dj_rules.specs.Lines.{Adds, IsPairLine, pair_text};
+ghost use Rattle.dj_rules.specs.Violations.{file_line};
 
 use crate::error::RulesError;
-use dj_class::{MemberView, Pool};
+use dj_class::Pool;
 use dj_names::Name;
 use dj_report::Violation;
 use std::alloc::Global;
@@ -29,29 +28,28 @@ pub fn add_file_line(
     Ok(())
 }
 
-// The name and the descriptor of a member.
-fn text_of(alloc: Global, pool: &Pool<'_>, member: &MemberView<'_>) -> Result<Name, RulesError>
-    ensures { IfOk result (λ text. text ≡ member_text pool.now (member_of member.now)) }
+// The name and the descriptor of these indexes.
+fn text_of(alloc: Global, pool: &Pool<'_>, pair: (u16, u16)) -> Result<Name, RulesError>
+    ensures { IfOk result (λ text. text ≡ pair_text pool.now pair) }
 {
-    let mut text = Name::from_slice(alloc, pool.text(member.name).unwrap_or(b""))?;
-    text.extend(pool.text(member.desc).unwrap_or(b""))?;
+    let mut text = Name::from_slice(alloc, pool.text(pair.0).unwrap_or(b""))?;
+    text.extend(pool.text(pair.1).unwrap_or(b""))?;
     Ok(text)
 }
 
-/// Appends a line of a member.
+/// Appends a line of the members whose name and descriptor have these indexes.
 pub fn add_member_line(
     alloc: Global,
     out: &mut Vec<Violation>,
     path: &str,
     pool: &Pool<'_>,
-    member: &MemberView<'_>,
+    pair: (u16, u16),
     rule: u8,
 ) -> Result<(), RulesError>
-    ensures { OnOk result (Adds (λ v. v ≡ member_line path.now (member_text pool.now (member_of member.now)) rule)
-        out.old.items out.new.items) }
+    ensures { OnOk result (Adds (IsPairLine path.now rule pool.now pair) out.old.items out.new.items) }
 {
     let path = Name::from_slice(alloc, path.as_bytes())?;
-    let member = text_of(alloc, pool, member)?;
+    let member = text_of(alloc, pool, pair)?;
     out.push(Violation {
         path,
         member,

@@ -1,9 +1,9 @@
-ghost use Rattle.std.specs.Prelude.{◌≡◌, ◌↔◌, Some, OnOk, IsTrue};
+ghost use Rattle.std.specs.Prelude.{◌≡◌, ◌↔◌, ℕ, Some, Contains, OnOk, IsTrue};
 ghost use Rattle.dj_class.specs.ClassFile.{text_at};
 ghost use Rattle.dj_class.specs.Members.{member_of};
 ghost use Rattle.dj_class.specs.Views.{class_of};
-ghost use Rattle.dj_rules.specs.Lines.{Adds};
-ghost use Rattle.dj_rules.specs.Violations.{member_line, member_text, IsNative, IsFinalizer, IsMethodLine};
+ghost use Rattle.dj_rules.specs.Lines.{Adds, Gains, IsLineAmong, IsPairLine, pair_of};
+ghost use Rattle.dj_rules.specs.Violations.{IsNative, IsFinalizer, IsMethodLine};
 
 use crate::error::RulesError;
 use crate::lines::add_member_line;
@@ -40,40 +40,54 @@ fn is_finalizer(pool: &Pool<'_>, method: &MemberView<'_>) -> bool
     is_text(pool, method.name, b"finalize") && is_text(pool, method.desc, b"()V")
 }
 
-fn add_native_line(
-    alloc: Global,
-    out: &mut Vec<Violation>,
-    path: &str,
-    pool: &Pool<'_>,
-    method: &MemberView<'_>,
-) -> Result<(), RulesError>
-    ensures { OnOk result (Adds
-        (λ v. IsNative (member_of method.now) × (v ≡ member_line path.now (member_text pool.now (member_of method.now)) 7))
-        out.old.items out.new.items) }
+// Appends the pair of indexes of the name and the descriptor, if the method is native.
+fn add_native_pair(pairs: &mut Vec<(u16, u16)>, method: &MemberView<'_>) -> Result<(), RulesError>
+    ensures { OnOk result (Gains (λ pair. IsNative (member_of method.now) × (pair ≡ pair_of (member_of method.now))) pairs.old.items pairs.new.items) }
 {
     if is_native(method) {
-        add_member_line(alloc, out, path, pool, method, NATIVE)
-    } else {
-        Ok(())
+        pairs.push((method.name, method.desc))?;
     }
+    Ok(())
 }
 
-fn add_finalizer_line(
+// The same, if the method is a finalizer.
+fn add_finalizer_pair(
+    pairs: &mut Vec<(u16, u16)>,
+    pool: &Pool<'_>,
+    method: &MemberView<'_>,
+) -> Result<(), RulesError>
+    ensures { OnOk result (Gains (λ pair. IsFinalizer pool.now (member_of method.now) × (pair ≡ pair_of (member_of method.now))) pairs.old.items pairs.new.items) }
+{
+    if is_finalizer(pool, method) {
+        pairs.push((method.name, method.desc))?;
+    }
+    Ok(())
+}
+
+// The line depends on the pair alone, and is longer by far. So repeats are dropped before lines are copied.
+fn each_once(mut pairs: Vec<(u16, u16)>) -> Vec<(u16, u16)>
+    ensures { (pair : ℕ × ℕ) → Contains result.items pair ↔ Contains pairs.items pair }
+{
+    pairs.sort_unstable();
+    pairs.dedup();
+    pairs
+}
+
+// Appends the line of each pair.
+fn add_pair_lines(
     alloc: Global,
     out: &mut Vec<Violation>,
     path: &str,
     pool: &Pool<'_>,
-    method: &MemberView<'_>,
+    pairs: &[(u16, u16)],
+    rule: u8,
 ) -> Result<(), RulesError>
-    ensures { OnOk result (Adds
-        (λ v. IsFinalizer pool.now (member_of method.now) × (v ≡ member_line path.now (member_text pool.now (member_of method.now)) 8))
-        out.old.items out.new.items) }
+    ensures { OnOk result (Adds (IsLineAmong (IsPairLine path.now rule pool.now) pairs.now) out.old.items out.new.items) }
 {
-    if is_finalizer(pool, method) {
-        add_member_line(alloc, out, path, pool, method, FINALIZER)
-    } else {
-        Ok(())
+    for pair in pairs {
+        add_member_line(alloc, out, path, pool, *pair, rule)?;
     }
+    Ok(())
 }
 
 /// Appends the lines of the rule NATIVE.
@@ -85,10 +99,11 @@ pub fn add_native_lines(
 ) -> Result<(), RulesError>
     ensures { OnOk result (Adds (IsMethodLine (λ _ m. IsNative m) path.now 7 (class_of view.now)) out.old.items out.new.items) }
 {
+    let mut pairs = Vec::new(alloc);
     for method in view.methods.as_slice() {
-        add_native_line(alloc, out, path, &view.pool, method)?;
+        add_native_pair(&mut pairs, method)?;
     }
-    Ok(())
+    add_pair_lines(alloc, out, path, &view.pool, &each_once(pairs), NATIVE)
 }
 
 /// Appends the lines of the rule FINALIZER.
@@ -100,8 +115,9 @@ pub fn add_finalizer_lines(
 ) -> Result<(), RulesError>
     ensures { OnOk result (Adds (IsMethodLine IsFinalizer path.now 8 (class_of view.now)) out.old.items out.new.items) }
 {
+    let mut pairs = Vec::new(alloc);
     for method in view.methods.as_slice() {
-        add_finalizer_line(alloc, out, path, &view.pool, method)?;
+        add_finalizer_pair(&mut pairs, &view.pool, method)?;
     }
-    Ok(())
+    add_pair_lines(alloc, out, path, &view.pool, &each_once(pairs), FINALIZER)
 }

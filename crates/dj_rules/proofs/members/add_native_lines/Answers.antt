@@ -1,21 +1,25 @@
-use Rattle.std.proofs.Common.{List, subst}
+use Rattle.std.proofs.Common.{[], List, subst}
 use Rattle.std.proofs.lemmas.List.{take_all}
 use Rattle.dj_class.specs.declared.class.MemberView.{MemberView}
 use Rattle.dj_class.specs.Views.{class_of}
-use Rattle.dj_rules.specs.Lines.{Adds, IsLineAmong}
+use Rattle.dj_rules.specs.Lines.{Gains, Adds, IsLineAmong, IsPairLine}
 use Rattle.dj_rules.specs.Violations.{IsNative}
-use Rattle.dj_rules.proofs.Adding.{adds_read}
-use Rattle.dj_rules.proofs.Judged.{IsOwnLine, adds_method_lines}
+use Rattle.dj_rules.proofs.Adding.{IsAmong, adds_read, on_ok}
+use Rattle.dj_rules.proofs.Judged.{IsOwnPair, adds_method_lines}
 use Rattle.dj_rules.proofs.members.add_native_lines.Goals as goal
 
 pub loop-method-preserved : goal.loop-method-preserved
 loop-method-preserved c =
-    adds_read (IsOwnLine (λ _ m. IsNative m) c.args.path.now 7 c.args.view.now.pool) c.as_slice-method-items.result.now c.loop-method.method-index c.method-item.result
-    c.args.out.now.items c.loop-method.out.items c.add_native_line.new.out.items
-    c.loop-method-test.true c.method-item.is c.loop-method.invariant c.in_ok-add_native_line.ensures
+    adds_read (IsOwnPair (λ _ m. IsNative m) c.args.view.now.pool) c.as_slice-method-items.result.now c.loop-method.method-index c.method-item.result
+    [] c.loop-method.pairs.items c.add_native_pair.new.pairs.items
+    c.loop-method-test.true c.method-item.is c.loop-method.invariant c.in_ok-add_native_pair.ensures
 
 pub returns : goal.returns
 returns c =
-    adds_method_lines (λ _ m. IsNative m) c.args.path.now 7 (class_of c.args.view.now) c.as_slice-method-items.result.now c.args.out.now.items c.loop-method.out.items c.as_slice-method-items.ensures
-    (subst (λ (views : List MemberView). Adds (IsLineAmong (IsOwnLine (λ _ m. IsNative m) c.args.path.now 7 c.args.view.now.pool) views) c.args.out.now.items c.loop-method.out.items)
+    on_ok c.add_pair_lines.result
+    (λ adds. adds_method_lines (λ _ m. IsNative m) c.args.path.now 7 (class_of c.args.view.now) c.as_slice-method-items.result.now c.loop-method.pairs.items c.each_once.result.items c.args.out.now.items c.add_pair_lines.new.out.items c.as_slice-method-items.ensures
+    (subst (λ (views : List MemberView). Gains (IsAmong (IsOwnPair (λ _ m. IsNative m) c.args.view.now.pool) views) [] c.loop-method.pairs.items)
     (take_all c.loop-method.method-index c.as_slice-method-items.result.now c.loop-method-test.false) c.loop-method.invariant)
+    c.each_once.ensures
+    (subst (λ pairs. Adds (IsLineAmong (IsPairLine c.args.path.now 7 c.args.view.now.pool) pairs) c.args.out.now.items c.add_pair_lines.new.out.items) c.deref.ensures.value adds))
+    c.add_pair_lines.ensures

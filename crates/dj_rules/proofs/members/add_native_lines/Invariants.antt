@@ -1,9 +1,10 @@
-use Rattle.std.proofs.Common.{take}
-use Rattle.dj_rules.specs.Lines.{Adds, IsLineAmong}
+use Rattle.std.proofs.Common.{[], take}
+use Rattle.dj_rules.specs.Lines.{Gains}
 use Rattle.dj_rules.specs.Violations.{IsNative}
-use Rattle.dj_rules.proofs.Judged.{IsOwnLine}
+use Rattle.dj_rules.proofs.Adding.{IsAmong}
+use Rattle.dj_rules.proofs.Judged.{IsOwnPair}
 use Rattle.dj_rules.proofs.members.add_native_lines.Given as goal
 
--- the lines of the methods so far
+-- the pairs of the methods so far
 abbrev pub invariant-loop-method : goal.invariant-loop-method
-invariant-loop-method l = Adds (IsLineAmong (IsOwnLine (λ _ m. IsNative m) l.path 7 l.view.pool) (take l.method-index l.method-items)) l.initial.out.items l.out.items
+invariant-loop-method l = Gains (IsAmong (IsOwnPair (λ _ m. IsNative m) l.view.pool) (take l.method-index l.method-items)) [] l.pairs.items
