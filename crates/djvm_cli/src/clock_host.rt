@@ -1,8 +1,14 @@
-ghost use Rattle.std.specs.Prelude.{◌≡◌, [], ◌∷◌, ◌++◌, OnOk, OnErr};
+ghost use Rattle.std.specs.Prelude.{◌≡◌, ◌%◌, ◌^◌, [], ◌∷◌, ◌++◌, OnOk, OnErr};
 
 use dj_edge::{Host, HostAnswer, HostError};
 use std::rt::Clock;
 use std::time::{Instant, SystemTime, UNIX_EPOCH};
+
+fn low_word(word: u64) -> u32
+    ensures { result ≡ word % 2 ^ 32 }
+{
+    (word & 0xffff_ffff) as u32
+}
 
 /// The system's clocks. A clock that cannot be read answers 0.
 #[derive(Drop)]
@@ -51,8 +57,7 @@ impl<R: Clock + AllocGlobal + Drop> Host for ClockHost<R> {
 
     /// The low 32 bits of the nanoseconds since the host was made.
     fn hash_word(&mut self) -> Result<i32, HostError> {
-        let low = self.nanos_since().cast_unsigned() & 0xffff_ffff;
-        let word = (low as u32).cast_signed();
+        let word = low_word(self.nanos_since().cast_unsigned()).cast_signed();
         self.give(HostAnswer::Word(word))?;
         Ok(word)
     }
