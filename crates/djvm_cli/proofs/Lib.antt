@@ -16,3 +16,4 @@ pub mod StraightCode
 pub mod StraightNames
 pub mod PushedNulls
 pub mod Straights
+pub mod Facts
