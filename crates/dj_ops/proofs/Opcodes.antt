@@ -1,8 +1,8 @@
 -- The operands of every opcode, written out from JVMS 6.5 and chapter 7: `form_of` says the same.
-use Rattle.std.specs.Prelude.{◌≡◌, ℕ, ◌+◌, ◌-◌, List, [], ◌∷◌, map}
+use Rattle.std.specs.Prelude.{◌≡◌, ℕ, ◌+◌, ◌-◌, List, [], ◌∷◌, Some, None, map}
 use Rattle.std.specs.List.{flat_map, range_with_len}
 use Rattle.std.proofs.Common.{refl}
-use Rattle.dj_ops.specs.Forms.{Form, Bare, SignedByte, SignedShort, ShortLiteral, LongLiteral, Slot, SlotAndByte, ShortOffset, LongOffset, MemberIndex, InterfaceIndex, DynamicIndex, ClassIndex, ArrayType, MultiIndex, TableSwitch, LookupSwitch, WidePrefix, Reserved, form_of}
+use Rattle.dj_ops.specs.Forms.{Form, Bare, SignedByte, SignedShort, ShortLiteral, LongLiteral, Slot, SlotAndByte, ShortOffset, LongOffset, MemberIndex, InterfaceIndex, DynamicIndex, ClassIndex, ArrayType, MultiIndex, TableSwitch, LookupSwitch, WidePrefix, Reserved, form_of, operand_count}
 
 -- opcodes side by side that have the same operands
 pub record Group : Type 0 where
@@ -102,3 +102,15 @@ groups =
 forms : map (λ op. (op, form_of op)) (range_with_len 0 256) ≡ flat_map members groups
 unfolding form_of
 forms = refl
+
+-- the bytes of operands, of each form where they are always as many
+counts : map operand_count (Bare ∷ SignedByte ∷ SignedShort ∷ ShortLiteral ∷ LongLiteral ∷ Slot ∷ SlotAndByte ∷ ShortOffset ∷ LongOffset ∷ [])
+    ≡ Some 0 ∷ Some 1 ∷ Some 2 ∷ Some 1 ∷ Some 2 ∷ Some 1 ∷ Some 2 ∷ Some 2 ∷ Some 4 ∷ []
+counts = refl
+
+more_counts : map operand_count (MemberIndex ∷ InterfaceIndex ∷ DynamicIndex ∷ ClassIndex ∷ ArrayType ∷ MultiIndex ∷ [])
+    ≡ Some 2 ∷ Some 4 ∷ Some 4 ∷ Some 2 ∷ Some 1 ∷ Some 3 ∷ []
+more_counts = refl
+
+no_counts : map operand_count (TableSwitch ∷ LookupSwitch ∷ WidePrefix ∷ Reserved ∷ []) ≡ None ∷ None ∷ None ∷ None ∷ []
+no_counts = refl
