@@ -177,6 +177,13 @@ def array_of_2147483647_in_little_memory():
     write("in")
 
 
+# Its charge is within the threshold, and there is no memory for it.
+@special(*VERIFY, wanted=Outcome(67, b""), before_start=little_memory)
+def array_of_60000000_in_little_memory():
+    write("c/A.class", class_file("A", [straight(instructions("sipush 30000, sipush 2000, imul, newarray byte, areturn"), 2, 1)]))
+    write("in")
+
+
 # Verify on one class after another: each stands alone in its folder, with an empty input.
 
 
