@@ -9,10 +9,9 @@ use Rattle.dj_names.specs.declared.run.Charge.TheVariants as charges
 use Rattle.dj_names.specs.declared.run.Costs.{Costs}
 use Rattle.dj_names.specs.declared.run.Thresholds.{Thresholds}
 use Rattle.dj_model.specs.Program.{Program, Code, code_of}
-use Rattle.dj_model.specs.State.{Frame, State}
+use Rattle.dj_model.specs.State.{Frame, State, instruction_at}
 use Rattle.dj_model.specs.Instructions.{Instruction, NewArray}
 use Rattle.dj_model.specs.Effects.{array_size}
-use Rattle.dj_model.specs.Step.{instruction_at}
 
 -- a charge and its amount
 abbrev pub Amount : Type 0

@@ -1,5 +1,5 @@
 -- The effect of an instruction on the locals and operands of the top frame, the heap, the static fields and the literals (JVMS 6.5).
-use Rattle.std.specs.Prelude.{ℕ, zero, suc, ◌+◌, ◌-◌, ◌*◌, ◌/◌, ◌^◌, ◌&&◌, Bool, true, false, ℤ, pos, negsuc, ◌+ℤ◌, ◌-ℤ◌, ◌*ℤ◌, List, [], ◌∷◌, ◌++◌, length, set, Option, Some, None, slice_get, unsigned_abs, nat_lt, replicate, if◌then◌else◌}
+use Rattle.std.specs.Prelude.{ℕ, zero, suc, ◌+◌, ◌-◌, ◌*◌, ◌/◌, ◌^◌, ◌&&◌, Bool, true, false, ℤ, pos, negsuc, ◌+ℤ◌, ◌-ℤ◌, ◌*ℤ◌, List, [], ◌∷◌, ◌++◌, length, map, set, Option, Some, None, slice_get, unsigned_abs, nat_lt, replicate, if◌then◌else◌}
 use Rattle.std.specs.Int.{w8, w16, w32, w64, int_wrap, int_rem_euclid, int_bit_and, int_bit_or, int_bit_xor}
 use Rattle.dj_names.specs.declared.descriptor.Kind.{Kind}
 use Rattle.dj_names.specs.declared.descriptor.Kind.TheVariants as kinds
@@ -10,8 +10,8 @@ use Rattle.dj_names.specs.declared.run.Element.TheVariants as elements
 use Rattle.dj_names.specs.declared.run.Raised.{Raised}
 use Rattle.dj_names.specs.declared.run.Raised.TheVariants as raises
 use Rattle.dj_names.specs.declared.run.Thresholds.{Thresholds}
-use Rattle.dj_names.specs.Objects.{Object, Array, value_kind, element_size}
-use Rattle.dj_model.specs.Program.{Name, Program}
+use Rattle.dj_names.specs.Objects.{Object, Array, Text, value_kind, element_size}
+use Rattle.dj_model.specs.Program.{Name, same_name, Program}
 use Rattle.dj_model.specs.State.{Heap, Static, Literal}
 use Rattle.dj_model.specs.Instructions.{Instruction, Nop, Push, Load, Store, LoadElement, StoreElement, Move, Compute, Return, ArrayLength, NewArray, Other, IntOperation, Add, Subtract, Multiply, And, Or, Xor, StackOperation, Pop, Dup, Access, Bytes, Chars, Shorts, Ints, Longs}
 
@@ -283,6 +283,42 @@ make_array limit p class element (values.Int (pos n) ∷ rest) =
     Some (make limit p rest (array_size element n) (Array class element (new_contents n)))
 make_array limit p class element (values.Int (negsuc n) ∷ rest) = Some (goes p (Raise raises.NegativeArraySize))
 make_array limit p class element _ = None
+
+-- ---- static fields and literals
+
+abbrev pub is_field : Name → Name → Name → Static → Bool
+is_field class name desc s = same_name s.class class && same_name s.name name && same_name s.desc desc
+
+-- the static fields, of which this one has another value
+abbrev pub with_static : List Static → Name → Name → Name → Value → List Static
+with_static statics class name desc value = map (λ s. if is_field class name desc s then record s { value = value } else s) statics
+
+-- the object of a text that is a literal already
+abbrev pub literal_in : List Literal → List ℕ → Option ℕ
+literal_in [] units = None
+literal_in (l ∷ literals) units = if same_name l.units units then Some l.object else literal_in literals units
+
+abbrev pub text_size : List ℕ → ℕ
+text_size units = 16 + rounded (2 * length units)
+
+-- the number of a literal's object, and the heap and the literals with it
+pub record LiteralMade : Type 0 where
+  pub object : ℕ
+  pub heap : Heap
+  pub literals : List Literal
+
+-- JVMS 5.1: a literal has one text object, which is made when it is first used; none where it doesn't fit
+abbrev pub with_literal : Option ℕ → Heap → List Literal → List ℕ → Option LiteralMade
+with_literal limit heap literals units = made (literal_in literals units) where
+  made : Option ℕ → Option LiteralMade
+  made (Some object) = Some (record { object = object; heap = heap; literals = literals })
+  made None =
+      if passes_limit limit (heap.used + text_size units) then None
+      else Some (record {
+        object = next_number heap;
+        heap = with_new heap (text_size units) (Text units);
+        literals = literals ++ record { units = units; object = next_number heap } ∷ [];
+      })
 
 -- ---- an instruction of a program, on the terms of its run; none where it lacks the kinds that it takes or isn't run yet
 

@@ -1,5 +1,5 @@
 -- The initialisation of classes at their first use (JVMS 5.4.2 and 5.5).
-use Rattle.std.specs.Prelude.{ℕ, ◌+◌, ◌-◌, ◌*◌, ◌&&◌, Bool, false, pos, List, [], ◌∷◌, ◌++◌, length, map, reverse, replicate, Option, Some, None, nat_lt, if◌then◌else◌}
+use Rattle.std.specs.Prelude.{ℕ, ◌+◌, ◌-◌, false, pos, List, [], ◌∷◌, ◌++◌, length, reverse, replicate, Option, Some, None, nat_lt, if◌then◌else◌}
 use Rattle.std.specs.List.{list_any, flat_map}
 use Rattle.dj_names.specs.declared.descriptor.Kind.{Kind}
 use Rattle.dj_names.specs.declared.descriptor.Kind.TheVariants as kinds
@@ -7,10 +7,9 @@ use Rattle.dj_names.specs.declared.run.Value.{Value}
 use Rattle.dj_names.specs.declared.run.Value.TheVariants as values
 use Rattle.dj_names.specs.declared.run.Outcome.{Outcome}
 use Rattle.dj_names.specs.declared.run.Outcome.TheVariants as outcomes
-use Rattle.dj_names.specs.Objects.{Text}
 use Rattle.dj_model.specs.Program.{Name, same_name, Program, MethodName, Code, Class, Field, Constant, Int, Long, Text as TextConstant, class_at, fields_of, field_kind, is_static, code_of, chain, has_initialiser, initialiser_of}
-use Rattle.dj_model.specs.State.{Static, Literal, Frame, State}
-use Rattle.dj_model.specs.Effects.{Terms, passes_limit, rounded, with_new, next_number}
+use Rattle.dj_model.specs.State.{Static, Frame, State}
+use Rattle.dj_model.specs.Effects.{Terms, LiteralMade, with_literal, with_static, text_size}
 
 -- ---- frames
 
@@ -67,13 +66,9 @@ class_statics c = flat_map (λ f. if is_static f.flags then default_static c.nam
 abbrev pub statics_of : Program → List Static
 statics_of program = flat_map class_statics program
 
-abbrev pub is_field : Name → Field → Static → Bool
-is_field class f s = same_name s.class class && same_name s.name f.name && same_name s.desc f.desc
-
 -- the static field has another value
-abbrev pub with_static : State → Name → Field → Value → State
-with_static s class f value =
-    record s { statics = map (λ static. if is_field class f static then record static { value = value } else static) s.statics }
+abbrev pub with_value : State → Name → Field → Value → State
+with_value s class f value = record s { statics = with_static s.statics class f.name f.desc value }
 
 -- ---- constants
 
@@ -90,33 +85,16 @@ abbrev pub then_ready : (State → Initialised) → Initialised → Initialised
 then_ready next (Ready s) = next s
 then_ready next other = other
 
--- the object of a text that is a literal already
-abbrev pub literal_in : List Literal → List ℕ → Option ℕ
-literal_in [] units = None
-literal_in (l ∷ literals) units = if same_name l.units units then Some l.object else literal_in literals units
-
-abbrev pub text_size : List ℕ → ℕ
-text_size units = 16 + rounded (2 * length units)
-
--- JVMS 5.1: a literal has one text object, which is made when it is first used
-abbrev pub with_literal : State → List ℕ → State
-with_literal s units = record s {
-  heap = with_new s.heap (text_size units) (Text units);
-  literals = s.literals ++ record { units = units; object = next_number s.heap } ∷ [];
-}
-
-abbrev pub with_text : Terms → State → Name → Field → List ℕ → Option ℕ → Initialised
-with_text terms s class f units (Some object) = Ready (with_static s class f (values.Ref object))
-with_text terms s class f units None =
-    if passes_limit terms.limit (s.heap.used + text_size units) then Fails (outcomes.HeapFull s.heap.used (text_size units)) s
-    else Ready (with_static (with_literal s units) class f (values.Ref (next_number s.heap)))
+abbrev pub with_text : State → Name → Field → List ℕ → Option LiteralMade → Initialised
+with_text s class f units None = Fails (outcomes.HeapFull s.heap.used (text_size units)) s
+with_text s class f units (Some made) = Ready (with_value (record s { heap = made.heap; literals = made.literals }) class f (values.Ref made.object))
 
 -- JVMS 4.7.2: the field begins with its constant, where it has one
 abbrev pub with_constant : Terms → State → Name → Field → Option Constant → Initialised
 with_constant terms s class f None = Ready s
-with_constant terms s class f (Some (Int z)) = Ready (with_static s class f (values.Int z))
-with_constant terms s class f (Some (Long z)) = Ready (with_static s class f (values.Long z))
-with_constant terms s class f (Some (TextConstant units)) = with_text terms s class f units (literal_in s.literals units)
+with_constant terms s class f (Some (Int z)) = Ready (with_value s class f (values.Int z))
+with_constant terms s class f (Some (Long z)) = Ready (with_value s class f (values.Long z))
+with_constant terms s class f (Some (TextConstant units)) = with_text s class f units (with_literal terms.limit s.heap s.literals units)
 
 -- the static fields of a class, one after the other
 unfoldable pub with_constants : Terms → Name → List Field → State → Initialised

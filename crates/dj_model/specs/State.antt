@@ -1,10 +1,11 @@
 -- The state of the machine (JVMS 2.5 and 2.6).
-use Rattle.std.specs.Prelude.{ℕ, Bool, List, Option}
+use Rattle.std.specs.Prelude.{ℕ, Bool, List, Option, Some, None, slice_get}
 use Rattle.dj_names.specs.declared.run.Value.{Value}
 use Rattle.dj_names.specs.declared.run.Charge.{Charge}
 use Rattle.dj_names.specs.declared.run.Costs.{Costs}
 use Rattle.dj_names.specs.Objects.{Object}
-use Rattle.dj_model.specs.Program.{Name, MethodName}
+use Rattle.dj_model.specs.Program.{Name, Program, MethodName, Code, code_of}
+use Rattle.dj_model.specs.Instructions.{Instruction}
 
 -- objects count from 1, in the order in which they were made; a reference is an object's number, and 0 is null
 pub record Heap : Type 0 where
@@ -50,3 +51,13 @@ pub record State : Type 0 where
   pub costs : Costs
   -- the charge that passed its threshold
   pub exceeded : Option Charge
+
+-- ---- the instruction that is next
+
+abbrev pub instruction_in : Option Code → ℕ → Option Instruction
+instruction_in None number = None
+instruction_in (Some code) number = slice_get code.instructions number
+
+-- the instruction at which a frame stands
+abbrev pub instruction_at : Program → Frame → Option Instruction
+instruction_at program f = instruction_in (code_of program f.method) f.number

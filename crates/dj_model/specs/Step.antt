@@ -1,5 +1,5 @@
 -- One step of the machine: the next instruction of the top frame is done (JVMS 2.6, 2.10 and 6.5).
-use Rattle.std.specs.Prelude.{ℕ, zero, suc, ◌+◌, ◌&&◌, Bool, true, false, List, [], ◌∷◌, ◌++◌, map, Option, Some, None, slice_get, nat_le, nat_lt, if◌then◌else◌}
+use Rattle.std.specs.Prelude.{ℕ, zero, suc, ◌+◌, ◌&&◌, Bool, true, false, List, [], ◌∷◌, ◌++◌, map, Option, Some, None, nat_le, nat_lt, if◌then◌else◌}
 use Rattle.std.specs.Int.{w8, cast_unsigned}
 use Rattle.dj_names.specs.declared.run.Value.{Value}
 use Rattle.dj_names.specs.declared.run.Value.TheVariants as values
@@ -10,7 +10,7 @@ use Rattle.dj_names.specs.declared.run.Outcome.{Outcome}
 use Rattle.dj_names.specs.declared.run.Outcome.TheVariants as outcomes
 use Rattle.dj_names.specs.Objects.{Object, Instance, Text}
 use Rattle.dj_model.specs.Program.{Name, Program, Code, Range, code_of, is_subclass, is_initialiser, option_list}
-use Rattle.dj_model.specs.State.{Heap, Frame, State}
+use Rattle.dj_model.specs.State.{Heap, Frame, State, instruction_at}
 use Rattle.dj_model.specs.Instructions.{Instruction}
 use Rattle.dj_model.specs.Initialisation.{Initialised, Ready, Waits, Fails, initialise}
 use Rattle.dj_model.specs.Effects.{Terms, Part, Flow, Next, To, Raise, Throw, Back, Broken, Full, Effect, effect, object_at, Found, IsArray, array_at, passes_limit, with_new, next_number, raised_size}
@@ -152,14 +152,6 @@ done program terms f below i (Fails outcome s) = Ended outcome s
 abbrev pub act : Program → Terms → State → Frame → List Frame → Option Instruction → Answer
 act program terms s f below None = IllFormed
 act program terms s f below (Some i) = done program terms f below i (prepared program terms (used_class program i) s)
-
-abbrev pub instruction_in : Option Code → ℕ → Option Instruction
-instruction_in None number = None
-instruction_in (Some code) number = slice_get code.instructions number
-
--- the instruction at which a frame stands
-abbrev pub instruction_at : Program → Frame → Option Instruction
-instruction_at program f = instruction_in (code_of program f.method) f.number
 
 abbrev pub step_of : Program → Terms → State → List Frame → Answer
 step_of program terms s [] = IllFormed
