@@ -21,7 +21,7 @@ use Rattle.dj_model.specs.Effects.{reaches, access_kind, element_value, kept, ar
 use Rattle.dj_model.specs.Initialisation.{Initialised, Ready, Waits, Fails, argument_slots, with_frames, constants_of, with_constants}
 use Rattle.dj_model.specs.Step.{Ended, Went, IllFormed, message_of, raise, resumed, unwound, settle, done, bytes_in, result_outcome, prepared, returned, leaves}
 use Rattle.dj_model.specs.Charges.{paid, Paid, Exceeds}
-use Rattle.dj_model.specs.Shape.{kind_slots}
+use Rattle.dj_model.specs.FrameKinds.{kind_slots}
 use Rattle.dj_model.specs.Rows.{class_with, limited_to, field_with, text_desc, beginning, initialiser_with}
 
 -- ---- arrays
@@ -79,7 +79,7 @@ slots_of_arguments : argument_slots (values.Long (pos 5) ∷ values.Int (pos 6) 
     ≡ Some (values.Long (pos 5)) ∷ None ∷ Some (values.Int (pos 6)) ∷ Some (values.Ref 7) ∷ []
 slots_of_arguments = refl
 
-slots_of_kinds : kind_slots (kinds.Long ∷ kinds.Int ∷ kinds.Ref ∷ []) ≡ Some kinds.Long ∷ None ∷ Some kinds.Int ∷ Some kinds.Ref ∷ []
+slots_of_kinds : kind_slots (Some kinds.Long ∷ Some kinds.Int ∷ None ∷ Some kinds.Ref ∷ []) ≡ Some kinds.Long ∷ None ∷ Some kinds.Int ∷ None ∷ Some kinds.Ref ∷ []
 slots_of_kinds = refl
 
 -- ---- charges
@@ -193,7 +193,7 @@ with_message = record no_state {
   heap = record { objects = Text (codes "m") ∷ Instance (codes "X") (values.Ref 1 ∷ values.Ref 0 ∷ []) ∷ []; used = 0 };
 }
 
-throws_with_message : unwound [] with_message (codes "X") 2 [] ≡ Ended (outcomes.Threw (codes "X") (messages.Text (codes "m"))) with_message
+throws_with_message : unwound [] (limited_to 32) with_message (codes "X") 2 [] ≡ Ended (outcomes.Threw (codes "X") (messages.Text (codes "m"))) with_message
 unfolding unwound
 throws_with_message = refl
 
@@ -236,7 +236,7 @@ throws : settle [] (limited_to 32) (record no_state { heap = record { objects = 
 unfolding no_part unwound
 throws = refl
 
-leaves_with_message : leaves with_message (codes "X") 2 (frame_of (codes "<clinit>")) IllFormed
+leaves_with_message : leaves (limited_to 32) with_message (codes "X") 2 (frame_of (codes "<clinit>")) IllFormed
     ≡ Ended (outcomes.Init (codes "A") (codes "X") (messages.Text (codes "m"))) with_message
 leaves_with_message = refl
 
@@ -292,7 +292,7 @@ input_object = refl
 ended_before : turns_from [] all_five 3 (Ended outcomes.TooDeep no_state) ≡ Ends outcomes.TooDeep each_four
 ended_before = refl
 
-terms_are : metered_terms all_five ≡ record { limit = None; raised = raised_class; thresholds = Some all_five }
+terms_are : metered_terms all_five ≡ record { limit = None; raised = raised_class; thresholds = Some all_five; stop = None }
 terms_are = refl
 
 initialisers : map (λ (m : Method). has_initialiser (class_with (m ∷ []) ∷ []) (codes "A")) (initialiser_with [] ∷ record (initialiser_with []) { flags = 1 } ∷ record (initialiser_with []) { desc = codes "(I)V" } ∷ record (initialiser_with []) { body = Abstract } ∷ [])

@@ -1,5 +1,5 @@
 -- What each opcode does, written by hand from JVMS 6.5.
-use Rattle.std.proofs.Common.{◌≡◌, ℕ, true, false, List, [], ◌∷◌, map, pos, negsuc, codes, refl}
+use Rattle.std.proofs.Common.{◌≡◌, ℕ, true, false, List, [], ◌∷◌, map, Some, pos, negsuc, codes, refl}
 use Rattle.dj_names.specs.declared.descriptor.Kind.TheVariants as kinds
 use Rattle.dj_names.specs.declared.run.Value.TheVariants as values
 use Rattle.dj_names.specs.declared.run.Element.TheVariants as elements
@@ -19,7 +19,7 @@ they_do =
     Load kinds.Ref 2 ∷ Load kinds.Ref 3 ∷ LoadElement Bytes ∷ Store kinds.Int 0 ∷ Store kinds.Int 1 ∷ Store kinds.Int 2 ∷
     Store kinds.Int 3 ∷ Store kinds.Ref 0 ∷ Store kinds.Ref 1 ∷ Store kinds.Ref 2 ∷ Store kinds.Ref 3 ∷ StoreElement Bytes ∷
     Move Pop ∷ Move Dup ∷ Compute Add ∷ Compute Subtract ∷ Compute Multiply ∷ Compute And ∷ Compute Or ∷ Compute Xor ∷
-    Return kinds.Ref ∷ ArrayLength ∷ []
+    Return (Some kinds.Ref) ∷ ArrayLength ∷ []
 
 -- the opcodes without operands that run
 simple_runs : map simple run_alone ≡ they_do

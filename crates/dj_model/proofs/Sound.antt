@@ -10,10 +10,11 @@ use Rattle.dj_names.specs.declared.run.Element.TheVariants as elements
 use Rattle.dj_names.specs.Objects.{value_kind, Object, Array}
 use Rattle.dj_model.specs.Program.{Name, Code, Program, MethodName, code_of}
 use Rattle.dj_model.specs.State.{Heap, Static, Literal}
-use Rattle.dj_model.specs.Instructions.{Instruction, Nop, Push, Load, Store, LoadElement, StoreElement, Move, Compute, Return, ArrayLength, NewArray, Other, StackOperation, Pop, Dup, IntOperation, Access, Bytes, Chars, Shorts, Ints, Longs}
+use Rattle.dj_model.specs.Instructions.{Instruction, Nop, Push, Load, Store, LoadElement, StoreElement, Move, Compute, Return, ArrayLength, NewArray, Other, StackOperation, Pop, Dup, IntOperation, Add, Subtract, Multiply, And, Or, Xor, Access, Bytes, Chars, Shorts, Ints, Longs, ends, asks_program}
 use Rattle.dj_model.specs.Effects.{Terms, Part, Next, Effect, effect, same_kind, is_of_kind, local_at, is_long, without_long_before, stored, slots_of, access_kind, reaches, Found, Null, NoArray, IsArray, only, array_at, reached, element_value, passes_limit, array_size, new_contents, make, load_found, element_at, store_found, with_object, with_element, kept, value_number, compute, pushes, goes, Back, next_number, with_new}
 use Rattle.dj_model.specs.Shape as shape
-use Rattle.dj_model.specs.Shape.{Signature, Kinds, ParametersFit, first_kinds, is_kind, kind_at, set_kind, pushed, taken, takes, store_kind, after, ends}
+use Rattle.dj_model.specs.FrameKinds.{Signature, Kinds}
+use Rattle.dj_model.specs.Shape.{ParametersFit, first_kinds, is_kind, kind_at, set_kind, pushed, taken, takes, store_kind, after, same_result, result_list}
 use Rattle.dj_model.specs.Initialisation.{new_frame}
 use Rattle.dj_model.specs.Sound.{LocalsHave, HasKinds, IsSoundFlow, HasSoundEffect}
 
@@ -226,7 +227,7 @@ module _ (program : Program) (terms : Terms) (signature : Signature) (code : Cod
   -- the next instruction finds these operands
   next : (i : Instruction) → IsFalse (ends i) → (operands : List Value) (other : Heap) → at_kinds operands ≡ left
       → IsSoundFlow code i left (record { locals = locals; operands = operands; heap = other; statics = statics; literals = literals }) Next
-  next i goes_on operands other e = rw (← e) (record { locals = has; operands = refl }, long, goes_on)
+  next i goes_on operands other e = rw (← e) ((record { locals = has; operands = refl }, long), goes_on)
 
   pushed_is : (variables : List (Option Kind)) (stack : List Kind) (kind : Kind) → pushed code variables stack kind ≡ Some left
       → record { locals = variables; stack = kind ∷ stack } ≡ left
@@ -267,7 +268,7 @@ module _ (program : Program) (terms : Terms) (signature : Signature) (code : Cod
       let length_is : length (stored locals slot v) ≡ code.max_locals = stored_length locals slot v ∙ long in
       let there : HasKinds (stored locals slot v) rest left = rw (← s.left_is) (record { locals = kept; operands = r.1 }) in
       let p : Part = record (part rest) { locals = stored locals slot v } in
-      (record { part = p; flow = Next }, rw (r.0, long, s.fits) refl, (there, length_is, refl))
+      (record { part = p; flow = Next }, rw (r.0, long, s.fits) refl, ((there, length_is), refl))
 
   load_found_sound : (access : Access) (operands rest : List Value) (element : Element) (found : Option ℤ) → reaches access element ≡ true
       → pushed code ks (map value_kind rest) (access_kind access) ≡ Some left
@@ -291,7 +292,7 @@ module _ (program : Program) (terms : Terms) (signature : Signature) (code : Cod
   load_element_good access _ a = absurd cc
 
   store_found_sound : (access : Access) (operands rest : List Value) (r : ℕ) (object : Object) (found : Option ℤ) → at_kinds rest ≡ left
-      → Sound (StoreElement access) (store_found (part operands) rest r object found)
+      → Sound (StoreElement access) (store_found (part operands) rest r object found None)
   store_found_sound access operands rest r object None e = tt
   store_found_sound access operands rest r object (Some z) e = next (StoreElement access) refl rest (with_object heap r object) e
 
@@ -305,7 +306,7 @@ module _ (program : Program) (terms : Terms) (signature : Signature) (code : Cod
       let same : map value_kind rest ≡ left.stack = cc in
       let kinds_are : at_kinds rest ≡ left = ap (λ stack. record { locals = ks; stack = stack }) same ∙ e in
       let store : Name → Element → List ℤ → Effect = λ class element contents.
-      store_found p rest r (Array class element (with_element contents index (kept element (value_number v)))) (element_at contents index) in (
+      store_found p rest r (Array class element (with_element contents index (kept element (value_number v)))) (element_at contents index) None in (
         reached p (only access (array_at heap.objects r)) store,
         rw is refl,
         only_cases (λ found. Sound (StoreElement access) (reached p found store)) access (array_at heap.objects r) tt tt
@@ -336,17 +337,22 @@ module _ (program : Program) (terms : Terms) (signature : Signature) (code : Cod
 
   compute_good : (operation : IntOperation) (operands : List Value) → Good (Compute operation) operands
   unfolding after effect
-  compute_good operation (values.Int b ∷ (values.Int a ∷ rest)) h =
-      (_, refl, next (Compute operation) refl (values.Int (compute operation a b) ∷ rest) heap (pushed_is _ _ _ h))
+  compute_good Add (values.Int b ∷ (values.Int a ∷ rest)) h = (_, refl, next (Compute Add) refl (values.Int _ ∷ rest) heap (pushed_is _ _ _ h))
+  compute_good Subtract (values.Int b ∷ (values.Int a ∷ rest)) h = (_, refl, next (Compute Subtract) refl (values.Int _ ∷ rest) heap (pushed_is _ _ _ h))
+  compute_good Multiply (values.Int b ∷ (values.Int a ∷ rest)) h = (_, refl, next (Compute Multiply) refl (values.Int _ ∷ rest) heap (pushed_is _ _ _ h))
+  compute_good And (values.Int b ∷ (values.Int a ∷ rest)) h = (_, refl, next (Compute And) refl (values.Int _ ∷ rest) heap (pushed_is _ _ _ h))
+  compute_good Or (values.Int b ∷ (values.Int a ∷ rest)) h = (_, refl, next (Compute Or) refl (values.Int _ ∷ rest) heap (pushed_is _ _ _ h))
+  compute_good Xor (values.Int b ∷ (values.Int a ∷ rest)) h = (_, refl, next (Compute Xor) refl (values.Int _ ∷ rest) heap (pushed_is _ _ _ h))
   compute_good operation _ h = absurd cc
 
-  return_good : (kind : Kind) (operands : List Value) → Good (Return kind) operands
+  return_good : (kind : Option Kind) (operands : List Value) → Good (Return kind) operands
   unfolding after effect
-  return_good kind operands a =
+  return_good None operands a = (_, refl, refl)
+  return_good (Some kind) operands a =
       let r = some_if_some (is_kind kind signature.result) (takes (at_kinds operands) (kind ∷ [])) left a in
       returned kind operands (takes_parts (at_kinds operands) (kind ∷ []) left r.1).0 where
         returned : (kind : Kind) (operands : List Value) → taken (kind ∷ []) (map value_kind operands) ≡ Some left.stack
-            → HasSoundEffect program terms code (Return kind) left (part operands)
+            → HasSoundEffect program terms code (Return (Some kind)) left (part operands)
         returned kind [] t = absurd cc
         returned kind (v ∷ rest) t =
             let r = some_if (same_kind kind (value_kind v)) (map value_kind rest) left.stack t in
@@ -399,9 +405,9 @@ module _ (program : Program) (terms : Terms) (signature : Signature) (code : Cod
   good (Other op) operands = other_good op operands
 
 pub sound_effect : (program : Program) (terms : Terms) (signature : Signature) (code : Code) (i : Instruction) (k left : Kinds) (p : Part)
-    → HasKinds p.locals p.operands k → length p.locals ≡ code.max_locals → after signature code i k ≡ Some left
+    → IsFalse (asks_program i) → HasKinds p.locals p.operands k → length p.locals ≡ code.max_locals → after signature code i k ≡ Some left
     → HasSoundEffect program terms code i left p
-sound_effect program terms signature code i k left p has long a =
+sound_effect program terms signature code i k left p asks has long a =
     good program terms signature code left p.locals k.locals p.heap p.statics p.literals has.locals long i p.operands
     (subst (λ stack. after signature code i (record { locals = k.locals; stack = stack }) ≡ Some left) (sym has.operands) a)
 

@@ -1,5 +1,5 @@
 -- The effect of an instruction on the locals and operands of the top frame, the heap, the static fields and the literals (JVMS 6.5).
-use Rattle.std.specs.Prelude.{ℕ, zero, suc, ◌+◌, ◌-◌, ◌*◌, ◌/◌, ◌^◌, ◌&&◌, Bool, true, false, ℤ, pos, negsuc, ◌+ℤ◌, ◌-ℤ◌, ◌*ℤ◌, List, [], ◌∷◌, ◌++◌, length, map, set, Option, Some, None, slice_get, unsigned_abs, nat_lt, replicate, if◌then◌else◌}
+use Rattle.std.specs.Prelude.{ℕ, zero, suc, ◌+◌, ◌-◌, ◌*◌, ◌/◌, ◌^◌, ◌&&◌, Bool, true, false, ℤ, pos, negsuc, ◌+ℤ◌, ◌-ℤ◌, ◌*ℤ◌, List, [], ◌∷◌, ◌++◌, length, map, set, Option, Some, None, Result, Ok, Err, slice_get, unsigned_abs, nat_lt, replicate, if◌then◌else◌}
 use Rattle.std.specs.Int.{w8, w16, w32, w64, int_wrap, int_rem_euclid, int_bit_and, int_bit_or, int_bit_xor}
 use Rattle.dj_names.specs.declared.descriptor.Kind.{Kind}
 use Rattle.dj_names.specs.declared.descriptor.Kind.TheVariants as kinds
@@ -23,6 +23,8 @@ pub record Terms : Type 0 where
   pub raised : Raised → Name
   -- of the charges that native methods add, where these are counted
   pub thresholds : Option Thresholds
+  -- the class of the object that stops a run by a charge, where there is one
+  pub stop : Option Name
 
 -- what an instruction may change by itself
 pub record Part : Type 0 where
@@ -122,21 +124,28 @@ move p Pop (v ∷ rest) = if same_kind kinds.Long (value_kind v) then None else 
 move p Dup (v ∷ rest) = if same_kind kinds.Long (value_kind v) then None else Some (pushes p (v ∷ rest) v)
 move p operation _ = None
 
-abbrev pub compute : IntOperation → ℤ → ℤ → ℤ
-compute Add a b = int_wrap w32 (a +ℤ b)
-compute Subtract a b = int_wrap w32 (a -ℤ b)
-compute Multiply a b = int_wrap w32 (a *ℤ b)
-compute And a b = int_bit_and w32 a b
-compute Or a b = int_bit_or w32 a b
-compute Xor a b = int_bit_xor w32 a b
+-- the number that is computed, or what is raised in its place
+abbrev pub compute : IntOperation → ℤ → ℤ → Result ℤ Raised
+compute Add a b = Ok (int_wrap w32 (a +ℤ b))
+compute Subtract a b = Ok (int_wrap w32 (a -ℤ b))
+compute Multiply a b = Ok (int_wrap w32 (a *ℤ b))
+compute And a b = Ok (int_bit_and w32 a b)
+compute Or a b = Ok (int_bit_or w32 a b)
+compute Xor a b = Ok (int_bit_xor w32 a b)
+
+abbrev pub computed : Part → List Value → Result ℤ Raised → Effect
+computed p rest (Ok z) = pushes p rest (values.Int z)
+computed p rest (Err raised) = goes p (Raise raised)
 
 abbrev pub compute_two : Part → IntOperation → List Value → Option Effect
-compute_two p operation (values.Int b ∷ (values.Int a ∷ rest)) = Some (pushes p rest (values.Int (compute operation a b)))
+compute_two p operation (values.Int b ∷ (values.Int a ∷ rest)) = Some (computed p rest (compute operation a b))
 compute_two p operation _ = None
 
-abbrev pub return_top : Part → Kind → List Value → Option Effect
-return_top p kind (v ∷ rest) = if is_of_kind kind v then Some (goes p (Back (Some v))) else None
-return_top p kind _ = None
+-- the top operand is returned, or nothing where there is no kind
+abbrev pub return_top : Part → Option Kind → List Value → Option Effect
+return_top p None operands = Some (goes p (Back None))
+return_top p (Some kind) [] = None
+return_top p (Some kind) (v ∷ rest) = if is_of_kind kind v then Some (goes p (Back (Some v))) else None
 
 -- ---- arrays
 
@@ -227,17 +236,27 @@ load_element p access _ = None
 abbrev pub with_object : Heap → ℕ → Object → Heap
 with_object heap r object = record heap { objects = set heap.objects (r - 1) object }
 
-abbrev pub store_found : Part → List Value → ℕ → Object → Option ℤ → Effect
-store_found p rest r object None = goes p (Raise raises.ArrayIndexOutOfBounds)
-store_found p rest r object (Some z) = record { part = record p { operands = rest; heap = with_object p.heap r object }; flow = Next }
+-- what a store of the value in an array of the class raises: of a number it is nothing
+abbrev pub store_raises : Program → List Object → Name → Value → Option Raised
+store_raises program objects class v = None
 
-abbrev pub store_element : Part → Access → List Value → Option Effect
-store_element p access (v ∷ (values.Int index ∷ (values.Ref r ∷ rest))) =
+abbrev pub put : Part → List Value → ℕ → Object → Option Raised → Effect
+put p rest r object None = record { part = record p { operands = rest; heap = with_object p.heap r object }; flow = Next }
+put p rest r object (Some raised) = goes p (Raise raised)
+
+-- the index is asked first, and then whether the array takes the value
+abbrev pub store_found : Part → List Value → ℕ → Object → Option ℤ → Option Raised → Effect
+store_found p rest r object None refused = goes p (Raise raises.ArrayIndexOutOfBounds)
+store_found p rest r object (Some z) refused = put p rest r object refused
+
+abbrev pub store_element : Program → Part → Access → List Value → Option Effect
+store_element program p access (v ∷ (values.Int index ∷ (values.Ref r ∷ rest))) =
     if is_of_kind (access_kind access) v
     then Some (reached p (only access (array_at p.heap.objects r)) (λ class element contents.
-    store_found p rest r (Array class element (with_element contents index (kept element (value_number v)))) (element_at contents index)))
+    store_found p rest r (Array class element (with_element contents index (kept element (value_number v)))) (element_at contents index)
+    (store_raises program p.heap.objects class v)))
     else None
-store_element p access _ = None
+store_element program p access _ = None
 
 abbrev pub array_length : Part → List Value → Option Effect
 array_length p (values.Ref r ∷ rest) =
@@ -328,7 +347,7 @@ effect program terms (Push v) p = Some (pushes p p.operands v)
 effect program terms (Load kind slot) p = load p kind slot
 effect program terms (Store kind slot) p = store_in p kind slot p.operands
 effect program terms (LoadElement access) p = load_element p access p.operands
-effect program terms (StoreElement access) p = store_element p access p.operands
+effect program terms (StoreElement access) p = store_element program p access p.operands
 effect program terms (Move operation) p = move p operation p.operands
 effect program terms (Compute operation) p = compute_two p operation p.operands
 effect program terms (Return kind) p = return_top p kind p.operands

@@ -1,5 +1,5 @@
 -- What instructions do, by families (JVMS 6.5). Several opcodes of one family are one instruction here, with the data in which they differ.
-use Rattle.std.specs.Prelude.{ℕ, ◌-◌, ◌&&◌, ◌==◌, pos, ◌-ℤ◌, List, [], ◌∷◌, codes, nat_le, if◌then◌else◌}
+use Rattle.std.specs.Prelude.{ℕ, ◌-◌, ◌&&◌, ◌==◌, Bool, true, false, not, pos, ◌-ℤ◌, List, [], ◌∷◌, Option, Some, None, codes, nat_le, if◌then◌else◌}
 use Rattle.dj_names.specs.declared.descriptor.Kind.{Kind}
 use Rattle.dj_names.specs.declared.descriptor.Kind.TheVariants as kinds
 use Rattle.dj_names.specs.declared.run.Value.{Value}
@@ -50,8 +50,8 @@ pub data Instruction : Type 0 where
   Move : StackOperation → Instruction
   -- iadd, isub, imul, iand, ior and ixor
   Compute : IntOperation → Instruction
-  -- areturn: a value of the kind is returned
-  Return : Kind → Instruction
+  -- areturn: a value of the kind is returned, or none where there is no kind
+  Return : Option Kind → Instruction
   -- arraylength
   ArrayLength : Instruction
   -- newarray: an array is made, of the class of this name and with such elements
@@ -87,7 +87,7 @@ rows =
     ∷ one 126 (Compute And)
     ∷ one 128 (Compute Or)
     ∷ one 130 (Compute Xor)
-    ∷ one 176 (Return kinds.Ref)
+    ∷ one 176 (Return (Some kinds.Ref))
     ∷ one 190 ArrayLength
     ∷ []
 
@@ -115,10 +115,40 @@ byte_array_class = codes "[B"
 abbrev pub new_array : ℕ → Instruction
 new_array base = if base == 8 then NewArray byte_array_class elements.Byte else Other 188
 
--- what an instruction does
+-- what an instruction does that names nothing of the constant pool
 unfoldable pub instruction_of : Instr → Instruction
 instruction_of (instrs.Simple op) = simple op
 instruction_of (instrs.Push op value) = Push (values.Int value)
 instruction_of (instrs.Local op slot wide) = local_does local_rows op slot
 instruction_of (instrs.Array base) = new_array base
 instruction_of instr = Other (first_byte instr)
+
+-- ---- where the run goes on
+
+-- the run doesn't go on at the instruction after it, whatever it does
+abbrev pub ends : Instruction → Bool
+ends (Return kind) = true
+ends _ = false
+
+-- the numbers of the instructions to which it may jump; of those that run so far none jumps
+abbrev pub targets : Instruction → List ℕ
+targets i = []
+
+-- it throws an object; of those that run so far none does
+abbrev pub throws : Instruction → Bool
+throws i = false
+
+-- it makes an object of a class, which has to be initialised by one of its methods (JVMS 4.10.1.4); of those that run so far none does
+abbrev pub makes_uninitialised : Instruction → Bool
+makes_uninitialised i = false
+
+-- it neither jumps nor throws an object
+abbrev pub is_straight : Instruction → Bool
+is_straight i = is_empty (targets i) && not (throws i) where
+  is_empty : List ℕ → Bool
+  is_empty [] = true
+  is_empty (n ∷ rest) = false
+
+-- it asks for a class or a member of the program; of those that run so far none does
+abbrev pub asks_program : Instruction → Bool
+asks_program i = false

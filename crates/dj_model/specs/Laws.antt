@@ -1,15 +1,16 @@
--- Laws of the model, for every program of the instructions that run so far, which neither jump nor throw.
-use Rattle.std.specs.Prelude.{◌≡◌, ℕ, List, ◌*◌, ◌<◌, [], ◌∷◌, length, Some, Contains, IsFalse}
+-- Laws of the model.
+use Rattle.std.specs.Prelude.{◌≡◌, ℕ, List, ◌*◌, ◌<◌, [], ◌∷◌, length, Some, Contains, IsTrue, IsFalse}
 use Rattle.dj_names.specs.declared.descriptor.Kind.TheVariants as kinds
 use Rattle.dj_names.specs.declared.run.Costs.{Costs}
 use Rattle.dj_names.specs.declared.run.Thresholds.{Thresholds}
 use Rattle.dj_names.specs.declared.run.Outcome.{Outcome}
 use Rattle.dj_model.specs.Program.{Name, Program, HasNoFields, MethodName, Code, code_of, chain, is_initialiser, has_initialiser}
-use Rattle.dj_model.specs.Instructions.{Instruction}
+use Rattle.dj_model.specs.Instructions.{Instruction, is_straight, asks_program}
 use Rattle.dj_model.specs.Effects.{Terms, Part, effect}
 use Rattle.dj_model.specs.Charges.{own_amounts}
 use Rattle.dj_model.specs.Metered.{RunsTo, run, Ends}
-use Rattle.dj_model.specs.Shape.{Signature, Kinds, after, HasShape, IsShapeFault}
+use Rattle.dj_model.specs.FrameKinds.{Signature, Kinds}
+use Rattle.dj_model.specs.Shape.{after, HasShape, IsShapeFault}
 use Rattle.dj_model.specs.Sound.{HasKinds, HasSoundEffect}
 
 -- a run ends in one way, at one cost
@@ -17,15 +18,16 @@ abbrev pub HasOneEnd : Type 0
 HasOneEnd = (program : Program) (entry : MethodName) (input : List ℕ) (most : Thresholds) (a b : Outcome) (c d : Costs)
     → RunsTo program entry input most a c → RunsTo program entry input most b d → (a ≡ b) × (c ≡ d)
 
--- an instruction that finds values of the kinds that it takes has an effect, and leaves values of the kinds that it leaves
+-- an instruction that asks for nothing of the program and finds values of the kinds that it takes has an effect, and leaves values of the
+-- kinds that it leaves
 abbrev pub KeepsKinds : Type 0
 KeepsKinds = (program : Program) (terms : Terms) (signature : Signature) (code : Code) (i : Instruction) (k left : Kinds) (p : Part)
-    → HasKinds p.locals p.operands k → length p.locals ≡ code.max_locals → after signature code i k ≡ Some left
+    → IsFalse (asks_program i) → HasKinds p.locals p.operands k → length p.locals ≡ code.max_locals → after signature code i k ≡ Some left
     → HasSoundEffect program terms code i left p
 
--- the instructions that run so far ask for no class: what they do and are charged is the same in every program, on all terms of one limit
+-- what an instruction that asks for nothing of the program does and is charged is the same in every program, on all terms of one limit
 abbrev pub IsSameInEveryProgram : Type 0
-IsSameInEveryProgram = (a b : Program) (m n : Terms) (i : Instruction) (p : Part) → m.limit ≡ n.limit
+IsSameInEveryProgram = (a b : Program) (m n : Terms) (i : Instruction) (p : Part) → IsFalse (asks_program i) → m.limit ≡ n.limit
     → (effect a m i p ≡ effect b n i p) × (own_amounts a (Some i) p.operands ≡ own_amounts b (Some i) p.operands)
 
 -- code without shape is reported with one number
@@ -36,13 +38,16 @@ HasOneShapeFault = (signature : Signature) (code : Code) (a b : ℕ) → IsShape
 abbrev pub HasNoFaultWithShape : Type 0
 HasNoFaultWithShape = (signature : Signature) (code : Code) (n : ℕ) → HasShape signature code → IsShapeFault signature code n → ⊥
 
--- a method that takes an array, whose code has shape, with nothing before it and no handlers, in a program without fields
+-- a method that takes an array, whose code has shape, with no initialiser before it, no handlers and no stack map, in a program without fields;
+-- its instructions ask for nothing of the program, and neither jump nor throw an object
 pub record IsStraightEntry (program : Program) (entry : MethodName) (signature : Signature) (code : Code) : Type 0 where
   pub code_is : code_of program entry ≡ Some code
   pub parameters : signature.parameters ≡ kinds.Ref ∷ []
   pub shape : HasShape signature code
   pub some : 0 < length code.instructions
   pub no_handlers : code.ranges ≡ []
+  pub no_frames : code.frames ≡ Some []
+  pub straight : (i : Instruction) → Contains code.instructions i → IsTrue (is_straight i) × IsFalse (asks_program i)
   pub no_initialiser : IsFalse (is_initialiser entry)
   pub no_fields : HasNoFields program
   pub no_initialisers : (class : Name) → Contains (chain program entry.class) class → IsFalse (has_initialiser program class)

@@ -7,6 +7,7 @@ pub mod Initialisation
 pub mod Step
 pub mod Charges
 pub mod Metered
+pub mod FrameKinds
 pub mod Shape
 pub mod Sound
 pub mod Laws

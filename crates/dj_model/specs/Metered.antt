@@ -85,9 +85,9 @@ answer_run (Went s) = Goes s
 answer_run (Ended outcome s) = Ends outcome s.costs
 answer_run IllFormed = Stuck
 
--- the terms of a metered run: the heap has no limit
+-- the terms of a metered run: the heap has no limit, and it is stopped by no object
 abbrev pub metered_terms : Thresholds → Terms
-metered_terms most = record { limit = None; raised = raised_class; thresholds = Some most }
+metered_terms most = record { limit = None; raised = raised_class; thresholds = Some most; stop = None }
 
 -- what is charged is paid first; then the instruction is done
 unfoldable pub turn : Program → Thresholds → State → Run

@@ -1,41 +1,24 @@
 -- The shape of code: which kinds of values stand in the local variables and on the operands before each instruction
 -- (JVMS 4.10.1, kinds alone).
-use Rattle.std.specs.Prelude.{◌≡◌, ℕ, zero, suc, ◌+◌, ◌-◌, ◌<◌, ◌≤◌, ◌⊎◌, Bool, true, false, List, [], ◌∷◌, ◌++◌, length, set, replicate, sum_by, Option, Some, None, slice_get, nat_lt, nat_le, if◌then◌else◌, IsTrue, IsFalse}
+use Rattle.std.specs.Prelude.{◌≡◌, ℕ, zero, suc, ◌+◌, ◌-◌, ◌<◌, ◌≤◌, ◌⊎◌, ⊤, Bool, true, false, List, [], ◌∷◌, length, set, Option, Some, None, Contains, slice_get, nat_lt, nat_le, if◌then◌else◌, IsTrue, IsFalse}
 use Rattle.dj_names.specs.declared.descriptor.Kind.{Kind}
 use Rattle.dj_names.specs.declared.descriptor.Kind.TheVariants as kinds
 use Rattle.dj_names.specs.Objects.{value_kind}
-use Rattle.dj_model.specs.Program.{Code}
-use Rattle.dj_model.specs.Instructions.{Instruction, Nop, Push, Load, Store, LoadElement, StoreElement, Move, Compute, Return, ArrayLength, NewArray, Other, StackOperation, Pop, Dup}
+use Rattle.dj_model.specs.Program.{Code, Range}
+use Rattle.dj_model.specs.Instructions.{Instruction, Nop, Push, Load, Store, LoadElement, StoreElement, Move, Compute, Return, ArrayLength, NewArray, Other, StackOperation, Pop, Dup, ends, targets}
 use Rattle.dj_model.specs.Effects.{same_kind, slots_of, access_kind}
-
--- the kinds of a method's parameters, `this` first where there is one, and of its result
-pub record Signature : Type 0 where
-  pub parameters : List Kind
-  pub result : Option Kind
-
-pub record Kinds : Type 0 where
-  -- of each local variable; one without a value has none, as the second slot of a long has
-  pub locals : List (Option Kind)
-  -- the top first
-  pub stack : List Kind
+use Rattle.dj_model.specs.FrameKinds.{Signature, Kinds, kind_slots, depth, padded, parameter_entries, Placed, Frames, Read, Faulty, NoMap, frames_of, placed_at}
 
 -- ---- before the first instruction
 
--- a long takes two local variables
-abbrev pub kind_slots : List Kind → List (Option Kind)
-kind_slots [] = []
-kind_slots (kinds.Long ∷ rest) = Some kinds.Long ∷ None ∷ kind_slots rest
-kind_slots (kind ∷ rest) = Some kind ∷ kind_slots rest
-
 -- the parameters fit in the local variables
 abbrev pub ParametersFit : Signature → Code → Type 0
-ParametersFit signature code = length (kind_slots signature.parameters) ≤ code.max_locals
+ParametersFit signature code = length (kind_slots (parameter_entries signature.parameters)) ≤ code.max_locals
 
 -- the parameters, and then local variables without values; no operands
 abbrev pub first_kinds : Signature → Code → Kinds
 first_kinds signature code =
-    let slots : List (Option Kind) = kind_slots signature.parameters in
-    record { locals = slots ++ replicate (code.max_locals - length slots) None; stack = [] }
+    record { locals = padded code.max_locals (kind_slots (parameter_entries signature.parameters)); stack = [] }
 
 -- ---- what an instruction leaves
 
@@ -57,10 +40,6 @@ without_long_before locals (suc before) = if is_kind kinds.Long (kind_at locals 
 abbrev pub set_kind : List (Option Kind) → ℕ → Kind → List (Option Kind)
 set_kind locals slot kinds.Long = set (set locals slot (Some kinds.Long)) (slot + 1) None
 set_kind locals slot kind = set locals slot (Some kind)
-
--- a long counts as two operands
-abbrev pub depth : List Kind → ℕ
-depth stack = sum_by slots_of stack
 
 -- one more operand, where it fits
 abbrev pub pushed : Code → List (Option Kind) → List Kind → Kind → Option Kinds
@@ -99,6 +78,15 @@ moved code k Pop (kind ∷ stack) = if same_kind kinds.Long kind then None else 
 moved code k Dup (kind ∷ stack) = if same_kind kinds.Long kind then None else pushed code k.locals (kind ∷ stack) kind
 moved code k operation [] = None
 
+abbrev pub same_result : Option Kind → Option Kind → Bool
+same_result None None = true
+same_result None (Some kind) = false
+same_result (Some kind) result = is_kind kind result
+
+abbrev pub result_list : Option Kind → List Kind
+result_list None = []
+result_list (Some kind) = kind ∷ []
+
 -- the kinds after an instruction, or none where it doesn't find what it takes, or what it gives doesn't fit
 unfoldable pub after : Signature → Code → Instruction → Kinds → Option Kinds
 after signature code Nop k = Some k
@@ -109,49 +97,95 @@ after signature code (LoadElement access) k = gives code k (kinds.Int ∷ (kinds
 after signature code (StoreElement access) k = takes k (access_kind access ∷ (kinds.Int ∷ (kinds.Ref ∷ [])))
 after signature code (Move operation) k = moved code k operation k.stack
 after signature code (Compute operation) k = gives code k (kinds.Int ∷ (kinds.Int ∷ [])) kinds.Int
-after signature code (Return kind) k = if is_kind kind signature.result then takes k (kind ∷ []) else None
+after signature code (Return kind) k = if same_result kind signature.result then takes k (result_list kind) else None
 after signature code ArrayLength k = gives code k (kinds.Ref ∷ []) kinds.Int
 after signature code (NewArray class element) k = gives code k (kinds.Int ∷ []) kinds.Ref
 after signature code (Other op) k = None
 
--- the run doesn't go on at the instruction after it
-abbrev pub ends : Instruction → Bool
-ends (Return kind) = true
-ends _ = false
-
 -- ---- shape
 
--- before the first instruction stand the parameters, and before each other one what the instruction before it leaves,
--- which is none after which the run doesn't go on
-abbrev pub StateBefore : Signature → Code → ℕ → Kinds → Type 0
-StateBefore signature code zero k = k ≡ first_kinds signature code
-StateBefore signature code (suc number) k =
-    (before : Kinds) × (i : Instruction) × StateBefore signature code number before × (slice_get code.instructions number ≡ Some i)
-    × IsFalse (ends i) × (after signature code i before ≡ Some k)
+-- each local variable of which the frame tells a kind has it
+abbrev pub LocalsFlow : List (Option Kind) → List (Option Kind) → Type 0
+LocalsFlow locals [] = ⊤
+LocalsFlow locals (None ∷ told) = LocalsFlow (rest locals) told where
+  rest : List (Option Kind) → List (Option Kind)
+  rest [] = []
+  rest (kind ∷ kinds) = kinds
+LocalsFlow [] (Some kind ∷ told) = ⊥
+LocalsFlow (local ∷ locals) (Some kind ∷ told) = (local ≡ Some kind) × LocalsFlow locals told
 
--- the instruction of this number has a state before it and finds there what it takes, and the last one ends the run
-pub record Holds (signature : Signature) (code : Code) (number : ℕ) : Type 0 where
+-- where these kinds are left, the run may go on at a frame that tells those
+abbrev pub FlowsInto : Kinds → Kinds → Type 0
+FlowsInto left told = LocalsFlow left.locals told.locals × (left.stack ≡ told.stack)
+
+-- the same, where there may be no frame
+abbrev pub FlowsTo : Kinds → Option Kinds → Type 0
+FlowsTo left None = ⊤
+FlowsTo left (Some told) = FlowsInto left told
+
+abbrev pub TellsOr : Option Kinds → Kinds → Type 0 → Type 0
+TellsOr None k otherwise = otherwise
+TellsOr (Some told) k otherwise = k ≡ told
+
+-- before an instruction stands what its frame tells. Where it has none, there stand before the first instruction the parameters, and before
+-- each other one what the instruction before it leaves, which is none after which the run doesn't go on
+abbrev pub StateBefore : Signature → Code → List Placed → ℕ → Kinds → Type 0
+StateBefore signature code placed zero k = TellsOr (placed_at placed zero) k (k ≡ first_kinds signature code)
+StateBefore signature code placed (suc number) k =
+    TellsOr (placed_at placed (suc number)) k ((before : Kinds) × (i : Instruction) × StateBefore signature code placed number before
+    × (slice_get code.instructions number ≡ Some i) × IsFalse (ends i) × (after signature code i before ≡ Some k))
+
+-- the frame of a handler has the exception as its one operand
+abbrev pub IsHandlerFrame : Option Kinds → Type 0
+IsHandlerFrame None = ⊥
+IsHandlerFrame (Some told) = told.stack ≡ kinds.Ref ∷ []
+
+abbrev pub LocalsFlowTo : Kinds → Option Kinds → Type 0
+LocalsFlowTo before None = ⊤
+LocalsFlowTo before (Some told) = LocalsFlow before.locals told.locals
+
+-- the instruction of this number has a state before it and finds there what it takes; wherever the run goes on from it, it does so at a frame
+-- that tells what is left, or right after it; and the last instruction goes on at none after it
+pub record Holds (signature : Signature) (code : Code) (placed : List Placed) (number : ℕ) : Type 0 where
   pub before : Kinds
   pub left : Kinds
   pub instruction : Instruction
-  pub state : StateBefore signature code number before
+  pub state : StateBefore signature code placed number before
   pub at : slice_get code.instructions number ≡ Some instruction
   pub found : after signature code instruction before ≡ Some left
   pub last : suc number ≡ length code.instructions → IsTrue (ends instruction)
+  -- the parameters flow into a frame of the first instruction
+  pub begins : number ≡ 0 → FlowsTo (first_kinds signature code) (placed_at placed 0)
+  pub goes_on : IsFalse (ends instruction) → FlowsTo left (placed_at placed (suc number))
+  pub jumps : (target : ℕ) → Contains (targets instruction) target → (told : Kinds) × (placed_at placed target ≡ Some told) × FlowsInto left told
+  -- the first instruction of a handler has a handler's frame, and the local variables of the instructions in its range flow into it
+  pub handles : (range : Range) → Contains code.ranges range → number ≡ range.handler → IsHandlerFrame (placed_at placed number)
+  pub handled : (range : Range) → Contains code.ranges range → range.start ≤ number → number < range.end
+      → LocalsFlowTo before (placed_at placed range.handler)
 
--- all instructions hold
+abbrev pub AllHold : Signature → Code → Frames → Type 0
+AllHold signature code (Read placed) = (number : ℕ) → number < length code.instructions → Holds signature code placed number
+AllHold signature code _ = ⊥
+
+-- the parameters fit, the frames tell kinds, and all instructions hold
 pub record HasShape (signature : Signature) (code : Code) : Type 0 where
   pub parameters : ParametersFit signature code
-  pub each : (number : ℕ) → number < length code.instructions → Holds signature code number
+  pub each : AllHold signature code (frames_of signature code)
 
 -- the first instruction that doesn't hold
-pub record IsFirstFault (signature : Signature) (code : Code) (number : ℕ) : Type 0 where
-  pub parameters : ParametersFit signature code
+pub record IsFirstFault (signature : Signature) (code : Code) (placed : List Placed) (number : ℕ) : Type 0 where
   pub within : number < length code.instructions
-  pub before : (other : ℕ) → other < number → Holds signature code other
-  pub fault : Holds signature code number → ⊥
+  pub before : (other : ℕ) → other < number → Holds signature code placed other
+  pub fault : Holds signature code placed number → ⊥
 
--- the number with which code without shape is reported: 0 where the parameters don't fit, else that of the first instruction that doesn't hold
+abbrev pub IsFrameOrFault : Signature → Code → Frames → ℕ → Type 0
+IsFrameOrFault signature code (Read placed) number = IsFirstFault signature code placed number
+IsFrameOrFault signature code (Faulty at) number = number ≡ at
+IsFrameOrFault signature code NoMap number = ⊥
+
+-- the number with which code without shape is reported: 0 where the parameters don't fit, else that of the instruction of the first frame that
+-- tells no kinds, else that of the first instruction that doesn't hold; code whose stack map is none is reported without a number
 abbrev pub IsShapeFault : Signature → Code → ℕ → Type 0
 IsShapeFault signature code number =
-    ((ParametersFit signature code → ⊥) × (number ≡ 0)) ⊎ IsFirstFault signature code number
+    ((ParametersFit signature code → ⊥) × (number ≡ 0))
+    ⊎ (ParametersFit signature code × IsFrameOrFault signature code (frames_of signature code) number)

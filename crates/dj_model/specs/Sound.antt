@@ -1,12 +1,12 @@
--- Values of the kinds that code's shape tells, and effects that keep them: of the instructions that run so far, which neither jump nor throw.
-use Rattle.std.specs.Prelude.{◌≡◌, List, [], ◌∷◌, length, map, Option, Some, None, IsTrue, IsFalse, ⊤}
+-- Values of the kinds that code's shape tells, and effects that keep them.
+use Rattle.std.specs.Prelude.{◌≡◌, List, [], ◌∷◌, length, map, Option, Some, None, Contains, IsTrue, IsFalse, ⊤}
 use Rattle.dj_names.specs.declared.descriptor.Kind.{Kind}
 use Rattle.dj_names.specs.declared.run.Value.{Value}
 use Rattle.dj_names.specs.Objects.{value_kind}
 use Rattle.dj_model.specs.Program.{Program, Code}
-use Rattle.dj_model.specs.Instructions.{Instruction}
+use Rattle.dj_model.specs.Instructions.{Instruction, ends, targets, throws}
 use Rattle.dj_model.specs.Effects.{Terms, Part, Flow, Next, To, Raise, Throw, Back, Broken, Full, Effect, effect}
-use Rattle.dj_model.specs.Shape.{Kinds, ends}
+use Rattle.dj_model.specs.FrameKinds.{Kinds}
 
 -- as many local variables, and each that has a kind has a value of it
 abbrev pub LocalsHave : List (Option Value) → List (Option Kind) → Type 0
@@ -20,12 +20,17 @@ pub record HasKinds (variables : List (Option Value)) (stack : List Value) (k : 
   pub locals : LocalsHave variables k.locals
   pub operands : map value_kind stack ≡ k.stack
 
--- what may follow an instruction after which these kinds are left: the next instruction finds them, and only one that ends the run returns
+-- these kinds are left
+abbrev pub LeavesKinds : Code → Kinds → Part → Type 0
+LeavesKinds code left p = HasKinds p.locals p.operands left × (length p.locals ≡ code.max_locals)
+
+-- what may follow an instruction after which these kinds are left: the next instruction finds them, or one to which it may jump; only one that
+-- ends the run returns, and only one that throws throws an object
 abbrev pub IsSoundFlow : Code → Instruction → Kinds → Part → Flow → Type 0
-IsSoundFlow code i left p Next = HasKinds p.locals p.operands left × (length p.locals ≡ code.max_locals) × IsFalse (ends i)
-IsSoundFlow code i left p (To number) = ⊥
+IsSoundFlow code i left p Next = LeavesKinds code left p × IsFalse (ends i)
+IsSoundFlow code i left p (To number) = LeavesKinds code left p × Contains (targets i) number
 IsSoundFlow code i left p (Raise raised) = ⊤
-IsSoundFlow code i left p (Throw exception) = ⊥
+IsSoundFlow code i left p (Throw exception) = IsTrue (throws i)
 IsSoundFlow code i left p (Back result) = IsTrue (ends i)
 IsSoundFlow code i left p Broken = ⊤
 IsSoundFlow code i left p (Full used size) = ⊤

@@ -6,10 +6,11 @@ use Rattle.dj_names.specs.declared.run.Value.TheVariants as values
 use Rattle.dj_names.specs.declared.run.Element.TheVariants as elements
 use Rattle.dj_names.specs.declared.run.Message.{Message}
 use Rattle.dj_names.specs.declared.run.Message.TheVariants as messages
+use Rattle.dj_names.specs.declared.run.Charge.{Charge}
 use Rattle.dj_names.specs.declared.run.Outcome.{Outcome}
 use Rattle.dj_names.specs.declared.run.Outcome.TheVariants as outcomes
 use Rattle.dj_names.specs.Objects.{Object, Instance, Text}
-use Rattle.dj_model.specs.Program.{Name, Program, Code, Range, code_of, is_subclass, is_initialiser, option_list}
+use Rattle.dj_model.specs.Program.{Name, same_name, Program, Code, Range, code_of, is_subclass, is_initialiser, option_list}
 use Rattle.dj_model.specs.State.{Heap, Frame, State, instruction_at}
 use Rattle.dj_model.specs.Instructions.{Instruction}
 use Rattle.dj_model.specs.Initialisation.{Initialised, Ready, Waits, Fails, initialise}
@@ -56,28 +57,41 @@ handler_of program class number (Some code) = handler_in program class number co
 abbrev pub caught : Frame → ℕ → ℕ → Frame
 caught f exception handler = record f { number = handler; operands = values.Ref exception ∷ []; paid = false }
 
--- what leaves a frame without a handler: an exception that leaves an initialiser ends the run, any other goes on as told
-abbrev pub leaves : State → Name → ℕ → Frame → Answer → Answer
-leaves s class exception f below =
-    if is_initialiser f.method then Ended (outcomes.Init f.method.class class (message_of s.heap.objects exception)) s else below
+-- how the object that stops a run by a charge ends it
+abbrev pub stopped_by : Option Charge → Outcome → Outcome
+stopped_by None otherwise = otherwise
+stopped_by (Some charge) otherwise = outcomes.Stopped charge
 
-abbrev pub at_handler : State → Name → ℕ → Frame → List Frame → Option ℕ → Answer → Answer
-at_handler s class exception f below (Some handler) otherwise = Went (record s { frames = caught f exception handler ∷ below })
-at_handler s class exception f below None otherwise = leaves s class exception f otherwise
+-- how an object of the class ends a run: the one that stops it by a charge tells the charge that passed, any other one what is told
+abbrev pub ended_by : Option Name → Option Charge → Name → Outcome → Outcome
+ended_by None exceeded class otherwise = otherwise
+ended_by (Some stop) exceeded class otherwise = if same_name stop class then stopped_by exceeded otherwise else otherwise
+
+abbrev pub ends_with : Terms → State → Name → Outcome → Answer
+ends_with terms s class outcome = Ended (ended_by terms.stop s.exceeded class outcome) s
+
+-- what leaves a frame without a handler: an exception that leaves an initialiser ends the run, any other goes on as told
+abbrev pub leaves : Terms → State → Name → ℕ → Frame → Answer → Answer
+leaves terms s class exception f below =
+    if is_initialiser f.method then ends_with terms s class (outcomes.Init f.method.class class (message_of s.heap.objects exception)) else below
+
+abbrev pub at_handler : Terms → State → Name → ℕ → Frame → List Frame → Option ℕ → Answer → Answer
+at_handler terms s class exception f below (Some handler) otherwise = Went (record s { frames = caught f exception handler ∷ below })
+at_handler terms s class exception f below None otherwise = leaves terms s class exception f otherwise
 
 -- JVMS 2.10: the exception goes up the frames to the first handler
-unfoldable pub unwound : Program → State → Name → ℕ → List Frame → Answer
-unwound program s class exception [] = Ended (outcomes.Threw class (message_of s.heap.objects exception)) s
-unwound program s class exception (f ∷ below) =
-    at_handler s class exception f below (handler_of program class f.number (code_of program f.method)) (unwound program s class exception below)
+unfoldable pub unwound : Program → Terms → State → Name → ℕ → List Frame → Answer
+unwound program terms s class exception [] = ends_with terms s class (outcomes.Threw class (message_of s.heap.objects exception))
+unwound program terms s class exception (f ∷ below) =
+    at_handler terms s class exception f below (handler_of program class f.number (code_of program f.method)) (unwound program terms s class exception below)
 
 abbrev pub class_in : Option Object → Name
 class_in (Some (Instance class fields)) = class
 class_in _ = []
 
 -- the exception is an object of the heap
-abbrev pub throw : Program → State → ℕ → Answer
-throw program s exception = unwound program s (class_in (object_at s.heap.objects exception)) exception s.frames
+abbrev pub throw : Program → Terms → State → ℕ → Answer
+throw program terms s exception = unwound program terms s (class_in (object_at s.heap.objects exception)) exception s.frames
 
 -- an exception without message and cause
 abbrev pub new_exception : Name → Object
@@ -87,7 +101,7 @@ new_exception class = Instance class (values.Ref 0 ∷ (values.Ref 0 ∷ []))
 abbrev pub raise : Program → Terms → State → Name → Answer
 raise program terms s class =
     if passes_limit terms.limit (s.heap.used + raised_size) then Ended (outcomes.HeapFull s.heap.used raised_size) s
-    else throw program (record s { heap = with_new s.heap raised_size (new_exception class) }) (next_number s.heap)
+    else throw program terms (record s { heap = with_new s.heap raised_size (new_exception class) }) (next_number s.heap)
 
 -- ---- returns
 
@@ -122,7 +136,7 @@ abbrev pub settle : Program → Terms → State → Frame → List Frame → Par
 settle program terms s f below p Next = Went (record s { frames = at_number f p (f.number + 1) ∷ below })
 settle program terms s f below p (To number) = Went (record s { frames = at_number f p number ∷ below })
 settle program terms s f below p (Raise raised) = raise program terms s (terms.raised raised)
-settle program terms s f below p (Throw exception) = throw program s exception
+settle program terms s f below p (Throw exception) = throw program terms s exception
 settle program terms s f below p (Back result) = returned s f result below
 settle program terms s f below p Broken = Ended outcomes.Link s
 settle program terms s f below p (Full used size) = Ended (outcomes.HeapFull used size) s

@@ -6,12 +6,12 @@ pub fn one_end()
     ensures { HasOneEnd }
 {}
 
-/// An instruction that finds the kinds that it takes has an effect, and leaves the kinds that it leaves.
+/// An instruction that asks for nothing of the program and finds the kinds that it takes has an effect, and leaves the kinds that it leaves.
 pub fn sound_effect()
     ensures { KeepsKinds }
 {}
 
-/// What an instruction does, and what it is charged, is the same in every program.
+/// What an instruction that asks for nothing of the program does, and what it is charged, is the same in every program.
 pub fn same_in_every_program()
     ensures { IsSameInEveryProgram }
 {}

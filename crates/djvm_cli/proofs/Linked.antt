@@ -206,7 +206,7 @@ module _ (locals : List (Option Value)) (heap : Heap) (statics : List Static) (l
   found_linked operands rest (Some z) made = there (values.Int z ∷ rest) (tt, made)
 
   put_linked : (operands rest : List Value) (r : ℕ) (class : Name) (contents : List ℤ) (found : Option ℤ) → AreMade rest
-      → OnEffect (Some (store_found (part operands) rest r (Array class elements.Byte contents) found))
+      → OnEffect (Some (store_found (part operands) rest r (Array class elements.Byte contents) found None))
   put_linked operands rest r class contents None made = tt
   put_linked operands rest r class contents (Some z) made =
       let same : length (set heap.objects (r - 1) (Array class elements.Byte contents)) ≡ length heap.objects = length-set heap.objects (r - 1) (Array class elements.Byte contents) in
@@ -253,7 +253,7 @@ module _ (locals : List (Option Value)) (heap : Heap) (statics : List Static) (l
   new_array_linked (values.Int (negsuc n) ∷ rest) made = tt
   new_array_linked _ made = tt
 
-  return_linked : (operands : List Value) → AreMade operands → OnEffect (straight_effect (model.Return kinds.Ref) (part operands))
+  return_linked : (operands : List Value) → AreMade operands → OnEffect (straight_effect (model.Return (Some kinds.Ref)) (part operands))
   unfolding effect
   return_linked [] made = tt
   return_linked (values.Ref r ∷ rest) made = (made.0, arrays)
@@ -277,7 +277,12 @@ module _ (locals : List (Option Value)) (heap : Heap) (statics : List Static) (l
 
   compute_linked : (operation : model.IntOperation) (operands : List Value) → AreMade operands → OnEffect (straight_effect (model.Compute operation) (part operands))
   unfolding effect
-  compute_linked operation (values.Int b ∷ (values.Int a ∷ rest)) made = there _ (tt, made.1.1)
+  compute_linked model.Add (values.Int b ∷ (values.Int a ∷ rest)) made = there _ (tt, made.1.1)
+  compute_linked model.Subtract (values.Int b ∷ (values.Int a ∷ rest)) made = there _ (tt, made.1.1)
+  compute_linked model.Multiply (values.Int b ∷ (values.Int a ∷ rest)) made = there _ (tt, made.1.1)
+  compute_linked model.And (values.Int b ∷ (values.Int a ∷ rest)) made = there _ (tt, made.1.1)
+  compute_linked model.Or (values.Int b ∷ (values.Int a ∷ rest)) made = there _ (tt, made.1.1)
+  compute_linked model.Xor (values.Int b ∷ (values.Int a ∷ rest)) made = there _ (tt, made.1.1)
   compute_linked operation _ made = tt
 
   push_linked : (v : Value) (operands : List Value) → PushesNull (model.Push v) → AreMade operands → OnEffect (straight_effect (model.Push v) (part operands))

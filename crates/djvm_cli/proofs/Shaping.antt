@@ -1,15 +1,17 @@
 -- What the checker of shape does with kinds, and what follows of the code.
-use Rattle.std.proofs.Common.{◌≡◌, ℕ, zero, suc, ◌+◌, ◌-◌, ◌<◌, ◌≤◌, Bool, true, false, List, [], ◌∷◌, ◌++◌, length, take, get_or, reverse, Some, None, slice_get, nat_lt, IsTrue, refl, sym, ap, subst, ◌∙◌, arith}
+use Rattle.std.proofs.Common.{◌≡◌, ℕ, zero, suc, ◌+◌, ◌-◌, ◌<◌, ◌≤◌, Bool, true, false, List, [], ◌∷◌, ◌++◌, length, take, get_or, reverse, Some, None, Contains, slice_get, nat_lt, IsTrue, refl, sym, ap, subst, ◌∙◌, arith}
 use Rattle.std.proofs.lemmas.Bool.Decides.{nat_tests}
 use Rattle.std.proofs.lemmas.List.{reverse-append, take_all, take_more, take-append-le}
 use Rattle.std.proofs.lemmas.Option.{get_or_from_slice_get, slice_get-map, slice_get_within}
 use Rattle.std.specs.Option.{option_map}
 use Rattle.dj_names.specs.declared.descriptor.Kind.{Kind}
 use Rattle.dj_names.specs.declared.descriptor.Kind.TheVariants as kinds
-use Rattle.dj_model.specs.Program.{Code}
-use Rattle.dj_model.specs.Instructions.{Instruction, Nop, Push, Load, Store, LoadElement, StoreElement, Move, Compute, Return, ArrayLength, NewArray, Other}
+use Rattle.dj_model.specs.Program.{Code, Range}
+use Rattle.dj_model.specs.Instructions.{Instruction, ends, Nop, Push, Load, Store, LoadElement, StoreElement, Move, Compute, Return, ArrayLength, NewArray, Other}
 use Rattle.dj_model.specs.Effects.{slots_of}
-use Rattle.dj_model.specs.Shape.{Kinds, taken, set_kind, without_long_before, after, ends, StateBefore, Holds}
+use Rattle.dj_model.specs.FrameKinds.{Kinds}
+use Rattle.dj_model.specs.Shape.{taken, set_kind, without_long_before, after, StateBefore, Holds}
+use Rattle.dj_model.proofs.Shapes.{one_state}
 use Rattle.djvm_cli.specs.declared.program.Action.{Action}
 use Rattle.djvm_cli.specs.declared.program.StraightMethod.{StraightMethod}
 use Rattle.djvm_cli.specs.Methods.{straight_code, straight_signature, action_view, code_view}
@@ -87,35 +89,48 @@ after_room s method i k h =
 
 -- ---- one instruction
 
--- before an instruction stand no other kinds
-pub one_before : (code : Code) (number : ℕ) (a b : Kinds)
-    → StateBefore straight_signature code number a → StateBefore straight_signature code number b → a ≡ b
-one_before code zero a b p q = p ∙ sym q
-one_before code (suc number) a b p q =
-    let k : p.0 ≡ q.0 = one_before code number p.0 q.0 p.2 q.2 in
-    let i : Some p.1 ≡ Some q.1 = sym p.3 ∙ q.3 in
-    cc
+no_element : {A : Type 0} (n : ℕ) → n < 0 → A
+no_element n below = absurd (omega arith)
 
-pub answers : (code : Code) (number : ℕ) (i : Instruction) (k left : Kinds)
-    → StateBefore straight_signature code number k → slice_get code.instructions number ≡ Some i
+no_range : {A : Type 0} (code : Code) (range : Range) → code.ranges ≡ [] → Contains code.ranges range → A
+no_range code range none has =
+    let some : has.0 < length code.ranges = has.1 in
+    let zero_ranges : length code.ranges ≡ 0 = ap length none in
+    absurd (omega arith)
+
+pub answers : (code : Code) (number : ℕ) (i : Instruction) (k left : Kinds) → code.ranges ≡ []
+    → StateBefore straight_signature code [] number k → slice_get code.instructions number ≡ Some i
     → after straight_signature code i k ≡ Some left → (suc number ≡ length code.instructions → IsTrue (ends i))
     → Answers true code number i left
-answers code number i k left state at found last = (
-  record { before = k; left = left; instruction = i; state = state; at = at; found = found; last = last },
+answers code number i k left none state at found last = (
+  record {
+    before = k;
+    left = left;
+    instruction = i;
+    state = state;
+    at = at;
+    found = found;
+    last = last;
+    begins = λ first. tt;
+    goes_on = λ going. tt;
+    jumps = λ target to. no_element to.0 to.1;
+    handles = λ range has here. no_range code range none has;
+    handled = λ range has from below. no_range code range none has;
+  },
   λ going. (k, i, state, at, going, found),
 )
 
 pub not_found : (code : Code) (number : ℕ) (i : Instruction) (k : Kinds)
-    → StateBefore straight_signature code number k → slice_get code.instructions number ≡ Some i
-    → after straight_signature code i k ≡ None → Holds straight_signature code number → ⊥
+    → StateBefore straight_signature code [] number k → slice_get code.instructions number ≡ Some i
+    → after straight_signature code i k ≡ None → Holds straight_signature code [] number → ⊥
 not_found code number i k state at none h =
-    let same : h.before ≡ k = one_before code number h.before k h.state state in
+    let same : h.before ≡ k = one_state straight_signature code [] number h.before k h.state state in
     let here : Some h.instruction ≡ Some i = sym h.at ∙ at in
     absurd cc
 
 pub not_last : (code : Code) (number : ℕ) (i : Instruction)
     → slice_get code.instructions number ≡ Some i → suc number ≡ length code.instructions → ends i ≡ false
-    → Holds straight_signature code number → ⊥
+    → Holds straight_signature code [] number → ⊥
 not_last code number i at last going h =
     let here : Some h.instruction ≡ Some i = sym h.at ∙ at in
     let ended : ends h.instruction ≡ true = h.last last in
@@ -123,7 +138,7 @@ not_last code number i at last going h =
 
 -- after an end no kinds stand
 pub none_after : (code : Code) (number : ℕ) (i : Instruction) (k : Kinds)
-    → slice_get code.instructions number ≡ Some i → ends i ≡ true → StateBefore straight_signature code (suc number) k → ⊥
+    → slice_get code.instructions number ≡ Some i → ends i ≡ true → StateBefore straight_signature code [] (suc number) k → ⊥
 none_after code number i k at ended h =
     let here : Some h.1 ≡ Some i = sym h.3 ∙ at in
     let going : ends h.1 ≡ false = h.4 in
@@ -134,12 +149,12 @@ pub viewed_at : (method : StraightMethod) (number : ℕ) (action : Action) → s
 viewed_at method number action h = slice_get-map action_view method.actions.items number ∙ ap (option_map action_view) h
 
 -- the answer of the last instruction is whether it ends the run
-pub last_answers : (b : Bool) (code : Code) (number : ℕ) (i : Instruction) (k left : Kinds) → b ≡ ends i
-    → StateBefore straight_signature code number k → slice_get code.instructions number ≡ Some i
+pub last_answers : (b : Bool) (code : Code) (number : ℕ) (i : Instruction) (k left : Kinds) → code.ranges ≡ [] → b ≡ ends i
+    → StateBefore straight_signature code [] number k → slice_get code.instructions number ≡ Some i
     → after straight_signature code i k ≡ Some left → length code.instructions ≤ number + 1
     → Answers b code number i left
-last_answers true code number i k left e state at found last = answers code number i k left state at found (λ _. sym e)
-last_answers false code number i k left e state at found last =
+last_answers true code number i k left none e state at found last = answers code number i k left none state at found (λ _. sym e)
+last_answers false code number i k left none e state at found last =
     let within : number < length code.instructions = slice_get_within code.instructions number i at in
     not_last code number i at (omega arith) (sym e)
 
@@ -147,7 +162,7 @@ pub stands_next : (b : Bool) (code : Code) (number : ℕ) (i : Instruction) (k :
     → slice_get code.instructions number ≡ Some i → Answers true code number i k → StandsBefore b code (number + 1) k
 stands_next true code number i k e at a =
     let n : number + 1 ≡ suc number = omega arith in
-    λ other h. none_after code number i other at (sym e) (subst (λ (n : ℕ). StateBefore straight_signature code n other) n h)
+    λ other h. none_after code number i other at (sym e) (subst (λ (n : ℕ). StateBefore straight_signature code [] n other) n h)
 stands_next false code number i k e at a =
     let n : suc number ≡ number + 1 = omega arith in
-    subst (λ (n : ℕ). StateBefore straight_signature code n k) n (a.1 (sym e))
+    subst (λ (n : ℕ). StateBefore straight_signature code [] n k) n (a.1 (sym e))

@@ -12,13 +12,14 @@ use Rattle.dj_names.specs.declared.run.Outcome.{Outcome}
 use Rattle.dj_names.specs.declared.run.Element.TheVariants as elements
 use Rattle.dj_model.specs.Program.{Program, MethodName, Code}
 use Rattle.dj_model.specs.State.{Heap, Frame, State}
-use Rattle.dj_model.specs.Instructions.{Instruction}
+use Rattle.dj_model.specs.Instructions.{Instruction, ends}
 use Rattle.dj_model.specs.Effects.{Part, Flow, Next, To, Raise, Throw, Back, Broken, Full, Effect, effect, goes, Found, Null, NoArray, IsArray, array_at}
 use Rattle.dj_model.specs.Step.{result_outcome, bytes_in}
 use Rattle.dj_model.specs.Charges as model
 use Rattle.dj_model.specs.Charges.{paid, own_amounts, no_costs}
 use Rattle.dj_model.specs.Metered.{Run, Goes, Ends, turns, RunsTo, metered_terms, input_array, input_size}
-use Rattle.dj_model.specs.Shape.{Kinds, StateBefore, Holds, HasShape, after, ends, first_kinds}
+use Rattle.dj_model.specs.FrameKinds.{Kinds, Read}
+use Rattle.dj_model.specs.Shape.{StateBefore, Holds, HasShape, AllHold, after, first_kinds}
 use Rattle.dj_model.specs.Sound.{LocalsHave, HasKinds, HasSoundEffect, IsSoundFlow}
 use Rattle.dj_model.proofs.Turns.{Stands, turns_more, turns_next, turns_raise, turns_back, turns_broken, turns_stopped, first_state, statics_none, begins_plainly}
 use Rattle.dj_model.proofs.Sound.{sound_effect}
@@ -46,7 +47,7 @@ pub record Reached (code : Code) (input : List ℕ) (most : Thresholds) (number 
       → turns program most (2 * number) (first_state program entry input) ≡ Goes (state_at program entry input number p costs)
   pub more : number < length code.instructions
   pub kinds : Kinds
-  pub state : StateBefore straight_signature code number kinds
+  pub state : StateBefore straight_signature code [] number kinds
   pub values : HasKinds p.locals p.operands kinds
   pub long : length p.locals ≡ code.max_locals
   pub within : costs.alloc ≤ most.alloc
@@ -89,7 +90,7 @@ reached_first code input most p shape some is =
 -- ---- an instruction
 
 module _ (code : Code) (input : List ℕ) (most : Thresholds) (number : ℕ) (i : Instruction) (p : Part) (costs : Costs)
-    (no_handlers : code.ranges ≡ []) (shape : HasShape straight_signature code) (reached : Reached code input most number p costs)
+    (no_handlers : code.ranges ≡ []) (each : AllHold straight_signature code (Read [])) (reached : Reached code input most number p costs)
     (at : slice_get code.instructions number ≡ Some i) where
   -- what is left of the kinds, and that the instruction has an effect
   record Finds : Type 0 where
@@ -100,8 +101,8 @@ module _ (code : Code) (input : List ℕ) (most : Thresholds) (number : ℕ) (i 
 
   finds : Finds
   finds =
-      let h : Holds straight_signature code number = shape.each number reached.more in
-      let kinds_are : h.before ≡ reached.kinds = one_state straight_signature code number h.before reached.kinds h.state reached.state in
+      let h : Holds straight_signature code [] number = each number reached.more in
+      let kinds_are : h.before ≡ reached.kinds = one_state straight_signature code [] number h.before reached.kinds h.state reached.state in
       let both : Some h.instruction ≡ Some i = sym h.at ∙ at in
       let same : h.instruction ≡ i = cc in
       let found : after straight_signature code i reached.kinds ≡ Some h.left =
@@ -110,7 +111,7 @@ module _ (code : Code) (input : List ℕ) (most : Thresholds) (number : ℕ) (i 
       record {
         left = h.left;
         found = found;
-        sound = sound_effect [] straight_terms straight_signature code i reached.kinds h.left p reached.values reached.long found;
+        sound = sound_effect [] straight_terms straight_signature code i reached.kinds h.left p refl reached.values reached.long found;
         last = λ e. subst (λ (j : Instruction). IsTrue (ends j)) same (h.last e);
       }
 
@@ -155,7 +156,7 @@ module _ (code : Code) (input : List ℕ) (most : Thresholds) (number : ℕ) (i 
   reached_next next now (inl done) within =
       let payment : paid most costs (straight_amounts i p.operands) ≡ model.Paid now = done.1 ∙ ap model.Paid (sym done.2.0) in
       let flow = goes_on next done.2.1 in
-      let not_last : suc number ≡ length code.instructions → ⊥ = λ e. let both : true ≡ false = sym (finds.last e) ∙ flow.2 in absurd cc in
+      let not_last : suc number ≡ length code.instructions → ⊥ = λ e. let both : true ≡ false = sym (finds.last e) ∙ flow.1 in absurd cc in
       let more : number < length code.instructions = reached.more in
       let count : 2 * number + 2 ≡ 2 * (number + 1) = omega arith in
       let one : suc number ≡ number + 1 = omega arith in
@@ -166,9 +167,9 @@ module _ (code : Code) (input : List ℕ) (most : Thresholds) (number : ℕ) (i 
             (turns_next program most (state_at program entry input number p costs) (frame_at entry number p) code i (stands program entry plain) now (its_payment program _ payment) next (its_effect program _ done.2.1)));
         more = omega arith;
         kinds = finds.left;
-        state = subst (λ (n : ℕ). StateBefore straight_signature code n finds.left) one (reached.kinds, i, reached.state, at, flow.2, finds.found);
-        values = flow.0;
-        long = flow.1;
+        state = subst (λ (n : ℕ). StateBefore straight_signature code [] n finds.left) one (reached.kinds, i, reached.state, at, flow.1, finds.found);
+        values = flow.0.0;
+        long = flow.0.1;
         within = within;
       }
 

@@ -26,7 +26,7 @@ machine_view m = record { locals = m.locals.items; operands = m.operands; heap =
 
 -- without a limit on the heap
 abbrev pub straight_terms : Terms
-straight_terms = record { limit = None; raised = raised_class; thresholds = None }
+straight_terms = record { limit = None; raised = raised_class; thresholds = None; stop = None }
 
 -- the effect of a straight instruction: it asks for no class, so it is the same in every program and in every metered run
 abbrev pub straight_effect : Instruction → Part → Option Effect

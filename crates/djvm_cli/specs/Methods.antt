@@ -4,7 +4,7 @@ use Rattle.dj_names.specs.declared.descriptor.Kind.TheVariants as kinds
 use Rattle.dj_names.specs.declared.run.Element.TheVariants as elements
 use Rattle.dj_model.specs.Instructions as model
 use Rattle.dj_model.specs.Program.{Program, Class, Method, Code, Runs}
-use Rattle.dj_model.specs.Shape.{Signature}
+use Rattle.dj_model.specs.FrameKinds.{Signature}
 use Rattle.djvm_cli.specs.declared.program.IntOperation.{IntOperation}
 use Rattle.djvm_cli.specs.declared.program.IntOperation.TheVariants as operations
 use Rattle.djvm_cli.specs.declared.program.Action.{Action}
@@ -30,7 +30,7 @@ action_view actions.StoreByte = model.StoreElement model.Bytes
 action_view actions.Pop = model.Move model.Pop
 action_view actions.Dup = model.Move model.Dup
 action_view (actions.Compute operation) = model.Compute (operation_view operation)
-action_view actions.ReturnReference = model.Return kinds.Ref
+action_view actions.ReturnReference = model.Return (Some kinds.Ref)
 action_view actions.ArrayLength = model.ArrayLength
 action_view actions.NewByteArray = model.NewArray model.byte_array_class elements.Byte
 action_view (actions.Other op) = model.Other op

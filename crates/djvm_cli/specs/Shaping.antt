@@ -2,8 +2,9 @@
 use Rattle.std.specs.Prelude.{◌≡◌, ℕ, suc, Bool, true, false, List, [], ◌∷◌, Option, Some, None, IsFalse}
 use Rattle.dj_names.specs.declared.descriptor.Kind.{Kind}
 use Rattle.dj_model.specs.Program.{Code}
-use Rattle.dj_model.specs.Instructions.{Instruction}
-use Rattle.dj_model.specs.Shape.{Kinds, taken, ends, StateBefore, Holds}
+use Rattle.dj_model.specs.Instructions.{Instruction, ends}
+use Rattle.dj_model.specs.FrameKinds.{Kinds}
+use Rattle.dj_model.specs.Shape.{taken, StateBefore, Holds}
 use Rattle.djvm_cli.specs.declared.program.StraightMethod.{StraightMethod}
 use Rattle.djvm_cli.specs.Methods.{straight_code, straight_signature}
 
@@ -40,10 +41,10 @@ Takes false kind old new = (wanted : List Kind) → taken (kind ∷ wanted) old 
 -- the answer tells whether the instruction of this number holds, and these are the kinds after it
 abbrev pub Answers : Bool → Code → ℕ → Instruction → Kinds → Type 0
 Answers true code number i k =
-    Holds straight_signature code number × (IsFalse (ends i) → StateBefore straight_signature code (suc number) k)
-Answers false code number i k = Holds straight_signature code number → ⊥
+    Holds straight_signature code [] number × (IsFalse (ends i) → StateBefore straight_signature code [] (suc number) k)
+Answers false code number i k = Holds straight_signature code [] number → ⊥
 
 -- where the run has ended before the instruction of this number no kinds stand before it, and else these
 abbrev pub StandsBefore : Bool → Code → ℕ → Kinds → Type 0
-StandsBefore true code number k = (other : Kinds) → StateBefore straight_signature code number other → ⊥
-StandsBefore false code number k = StateBefore straight_signature code number k
+StandsBefore true code number k = (other : Kinds) → StateBefore straight_signature code [] number other → ⊥
+StandsBefore false code number k = StateBefore straight_signature code [] number k

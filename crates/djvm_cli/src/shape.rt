@@ -3,7 +3,8 @@ ghost use Rattle.dj_names.specs.declared.descriptor.Kind.{Kind};
 ghost use Rattle.dj_names.specs.Objects.{value_kind};
 ghost use Rattle.dj_model.specs.Instructions as model;
 ghost use Rattle.dj_model.specs.Effects.{same_kind, slots_of};
-ghost use Rattle.dj_model.specs.Shape.{after, ends, first_kinds, gives, is_kind, kind_at, pushed, set_kind, taken, without_long_before, HasShape, IsShapeFault, StateBefore};
+ghost use Rattle.dj_model.specs.Instructions.{ends};
+ghost use Rattle.dj_model.specs.Shape.{after, first_kinds, gives, is_kind, kind_at, pushed, set_kind, taken, without_long_before, HasShape, IsShapeFault, StateBefore};
 ghost use Rattle.djvm_cli.specs.declared.program.Action.{Action};
 ghost use Rattle.djvm_cli.specs.Methods.{action_view, code_view, straight_signature};
 ghost use Rattle.djvm_cli.specs.Shaping.{room, HasRoomOf, SameRoom, SameLocals, Leaves, Takes, Answers};
@@ -293,7 +294,7 @@ impl KindState {
     ) -> Result<bool, RulesError>
         requires at { slice_get method.now.actions.items number ≡ Some action }
         requires room { HasRoomOf self.old method.now }
-        requires before { StateBefore straight_signature (code_view method.now) number self.old.kinds }
+        requires before { StateBefore straight_signature (code_view method.now) [] number self.old.kinds }
         ensures room { HasRoomOf self.new method.now }
         ensures answer { IfOk result (λ holds. Answers holds (code_view method.now) number (action_view action) self.new.kinds) }
     {

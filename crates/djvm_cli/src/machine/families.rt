@@ -90,7 +90,7 @@ impl Machine {
 
     /// A reference is returned.
     pub fn return_reference(&self) -> Progress
-        ensures { Does (model.Return kinds.Ref) (machine_view self.now) (machine_view self.now) result }
+        ensures { Does (model.Return (Some kinds.Ref)) (machine_view self.now) (machine_view self.now) result }
     {
         match self.operands.top() {
             Some(Value::Ref(reference)) => Progress::Returns(reference),

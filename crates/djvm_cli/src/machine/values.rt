@@ -1,4 +1,4 @@
-ghost use Rattle.std.specs.Prelude.{◌≡◌, ◌+◌, ◌-◌, ◌<◌, length};
+ghost use Rattle.std.specs.Prelude.{◌≡◌, ◌+◌, ◌-◌, ◌<◌, length, Ok};
 ghost use Rattle.std.specs.Int.{w8, int_wrap};
 ghost use Rattle.dj_names.specs.Objects.{value_kind};
 ghost use Rattle.dj_model.specs.Effects.{compute, is_of_kind as model_is_of_kind, slots_of, stored, without_long_before, set_local};
@@ -9,7 +9,7 @@ use dj_names::{Kind, Value};
 
 /// What is computed from two ints (JVMS 6.5).
 pub fn computed(operation: IntOperation, a: i32, b: i32) -> i32
-    ensures { result ≡ compute (operation_view operation) a b }
+    ensures { compute (operation_view operation) a b ≡ Ok result }
 {
     match operation {
         IntOperation::Add => a.wrapping_add(b),

@@ -2,7 +2,8 @@ use Rattle.std.proofs.Common.{◌≡◌, ◌<◌, List, length, map, slice_get, 
 use Rattle.std.proofs.lemmas.List.{length-map}
 use Rattle.djvm_cli.specs.declared.program.Action.{Action}
 use Rattle.djvm_cli.specs.declared.program.Action.TheVariants.{Nop}
-use Rattle.djvm_cli.specs.Methods.{code_view, action_view}
+use Rattle.dj_model.proofs.Shapes.{all_hold}
+use Rattle.djvm_cli.specs.Methods.{code_view, action_view, straight_signature}
 use Rattle.djvm_cli.specs.declared.machine.turns.Turns.{Turns}
 use Rattle.djvm_cli.specs.Machines.{machine_view}
 use Rattle.djvm_cli.specs.Turns.{TurnsDo, GoesWithin}
@@ -29,7 +30,7 @@ turns-requires-clause-sound c =
     let at = subst (λ (xs : List Action). slice_get (map action_view xs) c.loop-action.action-index ≡ Some (action_view action)) c.as_slice-action-items.ensures.value
     (action_at c.as_slice-action-items.result.now c.loop-action.action-index Nop c.loop-action-test.true) in
     has_effect code c.args.input.now c.args.thresholds c.loop-action.action-index (action_view action) (machine_view c.loop-action.machine) c.loop-action.costs
-    refl c.requires.shape c.loop-action.invariant.reached at
+    refl (all_hold straight_signature code refl c.requires.shape) c.loop-action.invariant.reached at
 
 pub returns-in-End-clause-runs : goal.returns-in-End-clause-runs
 returns-in-End-clause-runs c =
@@ -38,7 +39,7 @@ returns-in-End-clause-runs c =
     let at = subst (λ (xs : List Action). slice_get (map action_view xs) c.loop-action.action-index ≡ Some (action_view action)) c.as_slice-action-items.ensures.value
     (action_at c.as_slice-action-items.result.now c.loop-action.action-index Nop c.loop-action-test.true) in
     runs_to code c.args.input.now c.args.thresholds c.loop-action.action-index (action_view action) (machine_view c.loop-action.machine) c.loop-action.costs
-    refl c.requires.shape c.loop-action.invariant.reached at (machine_view c.turns.new.self) c.in-End.ending
+    refl (all_hold straight_signature code refl c.requires.shape) c.loop-action.invariant.reached at (machine_view c.turns.new.self) c.in-End.ending
     (subst (λ (r : Turns). TurnsDo c.args.thresholds c.loop-action.costs (action_view action) (machine_view c.loop-action.machine) (machine_view c.turns.new.self) r) c.in-End.is
     c.in_ok-paid.ensures.turns)
 
@@ -68,7 +69,7 @@ loop-action-preserved c =
     c.in_ok-paid.ensures.turns in
     record {
       reached = reached_next code c.args.input.now c.args.thresholds c.loop-action.action-index (action_view action) (machine_view c.loop-action.machine) c.loop-action.costs
-          refl c.requires.shape c.loop-action.invariant.reached at (machine_view c.turns.new.self) c.in-Go.paid
+          refl (all_hold straight_signature code refl c.requires.shape) c.loop-action.invariant.reached at (machine_view c.turns.new.self) c.in-Go.paid
           turns (subst (λ (r : Turns). GoesWithin c.args.thresholds r) c.in-Go.is (c.in_ok-paid.ensures.within c.loop-action.invariant.reached.within));
       linked = λ null. next_linked c.args.thresholds c.loop-action.costs c.in-Go.paid action (machine_view c.loop-action.machine) (machine_view c.turns.new.self)
           (action_null c.args.method.now.actions.items c.as_slice-action-items.result.now c.loop-action.action-index Nop c.as_slice-action-items.ensures.value c.loop-action-test.true null)

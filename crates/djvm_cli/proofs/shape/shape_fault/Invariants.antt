@@ -1,4 +1,4 @@
-use Rattle.std.proofs.Common.{ℕ, ◌<◌}
+use Rattle.std.proofs.Common.{ℕ, ◌<◌, []}
 use Rattle.dj_model.specs.Shape.{Holds}
 use Rattle.djvm_cli.specs.Methods.{code_view, straight_signature}
 use Rattle.djvm_cli.specs.Shaping.{HasRoomOf, StandsBefore}
@@ -7,6 +7,6 @@ use Rattle.djvm_cli.proofs.shape.shape_fault.Given as goal
 abbrev pub invariant-loop-number : goal.invariant-loop-number
 invariant-loop-number l = record {
   room : HasRoomOf l.state l.method;
-  before : (other : ℕ) → other < l.number → Holds straight_signature (code_view l.method) other;
+  before : (other : ℕ) → other < l.number → Holds straight_signature (code_view l.method) [] other;
   stands : StandsBefore l.ended (code_view l.method) l.number l.state.kinds;
 }
