@@ -17,3 +17,9 @@ pub mod StraightNames
 pub mod PushedNulls
 pub mod Straights
 pub mod Facts
+pub mod Classical
+pub mod InsertedLines
+pub mod SomeLines
+pub mod SomeLimits
+pub mod SomeRun
+pub mod SomeReport

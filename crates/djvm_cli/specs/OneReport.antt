@@ -10,6 +10,10 @@ use Rattle.djvm_cli.specs.Ends.{Finished}
 abbrev pub HasOneReport : Type 0
 HasOneReport = (words : List (List ℕ)) (held : Held) (r s : Report) → IsReport words held r → IsReport words held s → r ≡ s
 
+-- no words and files are without a report
+abbrev pub HasSomeReport : Type 0
+HasSomeReport = (words : List (List ℕ)) (held : Held) → ((r : Report) → IsReport words held r → ⊥) → ⊥
+
 -- what two finished calls wrote and answered is the same
 pub record IsSameEnd (a b : ℕ) (old_a new_a old_b new_b : Option (List ℕ)) : Type 0 where
   pub status : a ≡ b

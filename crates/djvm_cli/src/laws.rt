@@ -1,8 +1,13 @@
-ghost use Rattle.djvm_cli.specs.OneReport.{HasOneReport, HasOneEnd};
+ghost use Rattle.djvm_cli.specs.OneReport.{HasOneReport, HasSomeReport, HasOneEnd};
 
 /// The words and what is held have at most one report.
 pub fn one_report()
     ensures { HasOneReport }
+{}
+
+/// No words and files are without a report.
+pub fn some_report()
+    ensures { HasSomeReport }
 {}
 
 /// Two finished calls with the same words on the same files write the same and answer the same.

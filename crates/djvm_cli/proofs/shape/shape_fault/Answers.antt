@@ -1,4 +1,4 @@
-use Rattle.std.proofs.Common.{ℕ, ◌<◌, [], length, below_more, refl, ap, arith}
+use Rattle.std.proofs.Common.{◌<◌, [], length, below_more, refl, ap, arith}
 use Rattle.std.proofs.lemmas.List.{length-map}
 use Rattle.std.proofs.lemmas.Option.{slice_get-get_or}
 use Rattle.dj_model.specs.Shape.{ParametersFit, Holds}

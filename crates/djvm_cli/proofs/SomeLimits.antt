@@ -1,0 +1,81 @@
+-- Files are within the limits or pass one first, and all are read or one is the first that isn't.
+use Rattle.std.proofs.Common.{ℕ, ◌+◌, ◌≤◌, ◌⊎◌, List, [], ◌∷◌, ◌++◌, length, refl, sym, ap, subst, inl, inr, append-nil, arith}
+use Rattle.std.specs.List.{AllByRecursion}
+use Rattle.std.proofs.lemmas.Bool.{cases_lt}
+use Rattle.std.proofs.lemmas.List.{append_assoc}
+use Rattle.std.proofs.lemmas.List.Sums.{sum_by-append, sum_by-cons}
+use Rattle.dj_edge.specs.Held.{File}
+use Rattle.dj_class.specs.Unbuilt.{IsUnbuiltAt}
+use Rattle.dj_rules.specs.Built.{IsBuilt, IsFirstUnbuilt}
+use Rattle.djvm_cli.specs.Limits.{most_file_bytes, most_total_bytes, total_bytes, AreWithin, IsFirstPast, IsTooLong, IsTooMuch}
+use Rattle.djvm_cli.proofs.Classical.{NotNot, unit, bind, so, decide}
+
+-- ---- the limits
+
+each_pushed : {X : Type 0} (P : X → Type 0) (xs : List X) (x : X) → AllByRecursion P xs → P x → AllByRecursion P (xs ++ x ∷ [])
+each_pushed P [] x all p = (p, tt)
+each_pushed P (y ∷ ys) x all p = (all.0, each_pushed P ys x all.1 p)
+
+-- one more file that is within them
+within_pushed : (front : List File) (file : File) → AreWithin front → length file.1 ≤ most_file_bytes → total_bytes front + length file.1 ≤ most_total_bytes
+    → AreWithin (front ++ file ∷ [])
+within_pushed front file within short few =
+    let size : File → ℕ = λ f. length f.1 in
+    record {
+      each = each_pushed (λ f. length f.1 ≤ most_file_bytes) front file within.each short;
+      together = omega (arith, sum_by-append size front (file ∷ []), sum_by-cons size file [], few);
+    }
+
+abbrev Limited : List File → Type 0
+Limited files = AreWithin files ⊎ (IsFirstPast IsTooLong files ⊎ IsFirstPast IsTooMuch files)
+
+limited_from : (rest front : List File) → AreWithin front → Limited (front ++ rest)
+limited_from [] front within = subst Limited (sym (append-nil front)) (inl within)
+limited_from (file ∷ rest) front within =
+    elim (cases_lt most_file_bytes (length file.1)) [
+      | inl long ↦ inr (inl (record { front = front; file = file; rest = rest; parts = refl; before = within; past = long }))
+      | inr short ↦ elim (cases_lt most_total_bytes (total_bytes front + length file.1)) [
+        | inl much ↦ inr (inr (record { front = front; file = file; rest = rest; parts = refl; before = within; past = (short, much) }))
+        | inr few ↦ subst Limited (append_assoc front (file ∷ []) rest) (limited_from rest (front ++ file ∷ []) (within_pushed front file within short few))
+      ]
+    ]
+
+-- within the limits, or the first that is passed
+pub limited : (files : List File) → AreWithin files ⊎ (IsFirstPast IsTooLong files ⊎ IsFirstPast IsTooMuch files)
+limited files = limited_from files [] (record { each = tt; together = omega arith })
+
+-- ---- files that are read
+
+pub some_built : (files : List File) → NotNot (AllByRecursion IsBuilt files ⊎ ((path : List ℕ) × IsFirstUnbuilt files path))
+some_built [] = unit (inl tt)
+some_built (file ∷ files) = bind (decide ((place : ℕ) × IsUnbuiltAt file.1 place)) (elim [
+  | inl (place, unbuilt) ↦ unit (inr (
+    file.0,
+    record {
+      front = [];
+      file = file;
+      rest = files;
+      place = place;
+      parts = refl;
+      before = tt;
+      unbuilt = unbuilt;
+      path_is = refl;
+    },
+  ))
+  | inr not ↦ so (some_built files) (elim [
+    | inl all ↦ inl ((λ place unbuilt. not (place, unbuilt)), all)
+    | inr (path, first) ↦ inr (
+      path,
+      record {
+        front = file ∷ first.front;
+        file = first.file;
+        rest = first.rest;
+        place = first.place;
+        parts = ap (λ (more : List File). file ∷ more) first.parts;
+        before = ((λ place unbuilt. not (place, unbuilt)), first.before);
+        unbuilt = first.unbuilt;
+        path_is = first.path_is;
+      },
+    )
+  ])
+])
