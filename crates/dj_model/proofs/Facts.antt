@@ -1,5 +1,5 @@
 -- Single definitions at single arguments, computed.
-use Rattle.std.proofs.Common.{◌≡◌, true, false, pos, negsuc, List, [], ◌∷◌, map, replicate, Option, Some, None, Ok, Err, codes, refl}
+use Rattle.std.proofs.Common.{◌≡◌, true, false, pos, negsuc, ℕ, List, [], ◌∷◌, map, replicate, Option, Some, None, Ok, Err, codes, refl}
 use Rattle.std.specs.Int.{int_wrap}
 use Rattle.dj_names.specs.declared.descriptor.Kind.TheVariants as kinds
 use Rattle.dj_names.specs.declared.run.Value.TheVariants as values
@@ -13,16 +13,17 @@ use Rattle.dj_names.specs.declared.run.Thresholds.{Thresholds}
 use Rattle.dj_names.specs.declared.run.Outcome.{Outcome}
 use Rattle.dj_names.specs.declared.run.Outcome.TheVariants as outcomes
 use Rattle.dj_names.specs.Objects.{Object, Instance, Array, Text, raised_class}
-use Rattle.dj_model.specs.Instructions.{Bytes, Chars, Shorts, Ints, Longs, Nop}
+use Rattle.dj_names.specs.declared.run.Raised.TheVariants as raises
+use Rattle.dj_model.specs.Instructions.{Bytes, Chars, Shorts, Ints, Longs, Nop, Return, Add, Subtract, instruction_of, simple}
 use Rattle.dj_model.specs.Program.{Name, Program, Method, method_in, Abstract, Field, Constant, Int, Long, Text as TextConstant, is_subclass, ancestors_of, field_kind, chain_of, has_initialiser, code_of}
 use Rattle.dj_model.specs.Metered.{begin, start_state, input_array, turns_from, metered_terms, Ends}
 use Rattle.dj_model.specs.State.{Frame, State}
-use Rattle.dj_model.specs.Effects.{reaches, access_kind, element_value, kept, array_size, text_size, Part, Next, To, Throw, Broken, Full, IsArray, NoArray, reached, goes, make, effect}
+use Rattle.dj_model.specs.Effects.{reaches, access_kind, element_value, kept, array_size, text_size, Part, Flow, Next, To, Raise, Throw, Back, Broken, Full, IsArray, NoArray, reached, goes, make, effect, Terms, Effect, computed, compute_two, put, store_found, store_raises, return_top}
 use Rattle.dj_model.specs.Initialisation.{Initialised, Ready, Waits, Fails, argument_slots, with_frames, constants_of, with_constants}
-use Rattle.dj_model.specs.Step.{Ended, Went, IllFormed, message_of, raise, resumed, unwound, settle, done, bytes_in, result_outcome, prepared, returned, leaves}
+use Rattle.dj_model.specs.Step.{Answer, Ended, Went, IllFormed, message_of, raise, resumed, unwound, settle, done, bytes_in, result_outcome, prepared, returned, leaves, stopped_by, ended_by, ends_with, throw}
 use Rattle.dj_model.specs.Charges.{paid, Paid, Exceeds}
 use Rattle.dj_model.specs.FrameKinds.{kind_slots}
-use Rattle.dj_model.specs.Rows.{class_with, limited_to, field_with, text_desc, beginning, initialiser_with}
+use Rattle.dj_model.specs.Rows.{class_with, limited_to, field_with, text_desc, beginning, initialiser_with, entry, verify_with, op}
 
 -- ---- arrays
 
@@ -308,3 +309,194 @@ no_room_begins_empty : begin [] (record { class = codes "A"; name = codes "f"; d
     ≡ Ended (outcomes.HeapFull 0 24) (start_state [] (record { class = codes "A"; name = codes "f"; desc = codes "()V" }) (record { objects = []; used = 0 }))
 unfolding begin
 no_room_begins_empty = refl
+
+-- ---- the object that stops a run
+
+-- an object of the class X stops the run
+abbrev stopped_by_x : Terms
+stopped_by_x = record (limited_to 1000) { stop = Some (codes "X") }
+
+-- each charge in turn has passed its threshold; the second object is of the class X, and the third of the class XY
+abbrev with_exceeded : Option Charge → State
+with_exceeded exceeded = record no_state {
+  heap = record { objects = Text (codes "m") ∷ Instance (codes "X") (values.Ref 1 ∷ []) ∷ Instance (codes "XY") (values.Ref 1 ∷ []) ∷ []; used = 80 };
+  frames = frame_of (codes "g") ∷ [];
+  exceeded = exceeded;
+}
+
+abbrev each_exceeded : List State
+each_exceeded = map (λ charge. with_exceeded (Some charge)) each_charge
+
+abbrev each_stopped : List Outcome
+each_stopped = outcomes.Stopped charges.Alloc ∷ outcomes.Stopped charges.Invoke ∷ outcomes.Stopped charges.Jump ∷ outcomes.Stopped charges.Throw ∷ []
+
+stops : map (λ charge. stopped_by (Some charge) outcomes.TooDeep) each_charge ≡ each_stopped
+stops = refl
+
+no_charge_stops : stopped_by None outcomes.TooDeep ≡ outcomes.TooDeep
+no_charge_stops = refl
+
+ends_stopped : map (λ charge. ended_by (Some (codes "X")) (Some charge) (codes "X") outcomes.TooDeep) each_charge ≡ each_stopped
+ends_stopped = refl
+
+-- by objects of another class, where no charge has passed, and where no object stops the run
+ends_otherwise : ended_by (Some (codes "X")) (Some charges.Jump) (codes "XY") outcomes.TooDeep ∷ ended_by (Some (codes "XY")) (Some charges.Jump) (codes "X") outcomes.TooDeep
+    ∷ ended_by (Some (codes "X")) None (codes "X") outcomes.TooDeep ∷ ended_by None (Some charges.Jump) (codes "X") outcomes.TooDeep
+    ∷ ended_by None (Some charges.Jump) [] outcomes.TooDeep ∷ [] ≡ replicate 5 outcomes.TooDeep
+ends_otherwise = refl
+
+ends_in_state : ends_with stopped_by_x (with_exceeded (Some charges.Jump)) (codes "X") outcomes.TooDeep ≡ Ended (outcomes.Stopped charges.Jump) (with_exceeded (Some charges.Jump))
+ends_in_state = refl
+
+ends_in_state_otherwise : ends_with stopped_by_x (with_exceeded (Some charges.Jump)) (codes "Y") outcomes.TooDeep ≡ Ended outcomes.TooDeep (with_exceeded (Some charges.Jump))
+ends_in_state_otherwise = refl
+
+how_ended : Answer → Option Outcome
+how_ended (Went s) = None
+how_ended (Ended outcome s) = Some outcome
+how_ended IllFormed = None
+
+-- from the last frame
+leaves_last : map (λ s. unwound [] stopped_by_x s (codes "X") 2 []) each_exceeded
+    ≡ Ended (outcomes.Stopped charges.Alloc) (with_exceeded (Some charges.Alloc)) ∷ Ended (outcomes.Stopped charges.Invoke) (with_exceeded (Some charges.Invoke))
+    ∷ Ended (outcomes.Stopped charges.Jump) (with_exceeded (Some charges.Jump)) ∷ Ended (outcomes.Stopped charges.Throw) (with_exceeded (Some charges.Throw)) ∷ []
+unfolding unwound
+leaves_last = refl
+
+-- from an initialiser's frame, which the frames below it don't see
+leaves_initialiser : map (λ s. how_ended (unwound [] stopped_by_x s (codes "X") 2 (frame_of (codes "f") ∷ frame_of (codes "<clinit>") ∷ frame_of (codes "g") ∷ []))) each_exceeded
+    ≡ map Some each_stopped
+unfolding unwound how_ended code_of
+leaves_initialiser = refl
+
+leaves_by_charge : leaves stopped_by_x (with_exceeded (Some charges.Invoke)) (codes "X") 2 (frame_of (codes "<clinit>")) IllFormed
+    ≡ Ended (outcomes.Stopped charges.Invoke) (with_exceeded (Some charges.Invoke))
+leaves_by_charge = refl
+
+goes_up_other_frames : leaves stopped_by_x (with_exceeded (Some charges.Invoke)) (codes "X") 2 (frame_of (codes "f")) IllFormed ≡ IllFormed
+goes_up_other_frames = refl
+
+-- an object of another class, no charge, and no object that stops: it is thrown, and fails an initialiser
+abbrev thrown_by : Terms → Option Charge → Name → ℕ → List Frame → Option Outcome
+thrown_by terms exceeded class exception frames = how_ended (unwound [] terms (with_exceeded exceeded) class exception frames)
+
+thrown_otherwise : thrown_by stopped_by_x (Some charges.Jump) (codes "XY") 3 [] ∷ thrown_by stopped_by_x None (codes "X") 2 [] ∷ thrown_by (limited_to 1000) (Some charges.Jump) (codes "X") 2 [] ∷ []
+    ≡ Some (outcomes.Threw (codes "XY") (messages.Text (codes "m"))) ∷ Some (outcomes.Threw (codes "X") (messages.Text (codes "m"))) ∷ Some (outcomes.Threw (codes "X") (messages.Text (codes "m"))) ∷ []
+unfolding unwound how_ended
+thrown_otherwise = refl
+
+fails_otherwise : thrown_by stopped_by_x (Some charges.Jump) (codes "XY") 3 (frame_of (codes "<clinit>") ∷ [])
+    ∷ thrown_by stopped_by_x None (codes "X") 2 (frame_of (codes "<clinit>") ∷ []) ∷ thrown_by (limited_to 1000) (Some charges.Jump) (codes "X") 2 (frame_of (codes "<clinit>") ∷ []) ∷ []
+    ≡ Some (outcomes.Init (codes "A") (codes "XY") (messages.Text (codes "m"))) ∷ Some (outcomes.Init (codes "A") (codes "X") (messages.Text (codes "m")))
+    ∷ Some (outcomes.Init (codes "A") (codes "X") (messages.Text (codes "m"))) ∷ []
+unfolding unwound how_ended code_of
+fails_otherwise = refl
+
+-- the object's class is looked up in the heap
+throws_by_number : map (λ (exception : ℕ). how_ended (throw [] stopped_by_x (with_exceeded (Some charges.Alloc)) exception)) (2 ∷ 3 ∷ [])
+    ≡ Some (outcomes.Stopped charges.Alloc) ∷ Some (outcomes.Threw (codes "XY") (messages.Text (codes "m"))) ∷ []
+unfolding unwound how_ended code_of
+throws_by_number = refl
+
+settles_by_number : map (λ (exception : ℕ). how_ended (settle [] stopped_by_x (with_exceeded (Some charges.Alloc)) (frame_of (codes "f")) [] no_part (Throw exception))) (2 ∷ 3 ∷ [])
+    ≡ Some (outcomes.Stopped charges.Alloc) ∷ Some (outcomes.Threw (codes "XY") (messages.Text (codes "m"))) ∷ []
+unfolding unwound how_ended code_of
+settles_by_number = refl
+
+-- its frames are those of the state
+throws_through_initialiser : how_ended (throw [] (limited_to 1000) (record (with_exceeded None) { frames = frame_of (codes "f") ∷ frame_of (codes "<clinit>") ∷ [] }) 2)
+    ≡ Some (outcomes.Init (codes "A") (codes "X") (messages.Text (codes "m")))
+unfolding unwound how_ended code_of
+throws_through_initialiser = refl
+
+-- a handler of everything catches it too, at the instructions of its range
+abbrev catching : Program
+catching = class_with (verify_with (op 1 ∷ op 87 ∷ op 1 ∷ op 190 ∷ op 87 ∷ []) (record { start = 1; end = 3; handler = 4; catches = None } ∷ []) ∷ []) ∷ []
+
+abbrev verify_at : ℕ → Frame
+verify_at number = record { method = entry; number = number; locals = Some (values.Ref 1) ∷ []; operands = values.Int (pos 1) ∷ []; paid = true }
+
+abbrev stopped_at : ℕ → Answer
+stopped_at number = unwound catching stopped_by_x (with_exceeded (Some charges.Throw)) (codes "X") 2 (verify_at number ∷ frame_of (codes "g") ∷ [])
+
+abbrev stop_caught : Answer
+stop_caught = Went (record (with_exceeded (Some charges.Throw)) {
+  frames = record (verify_at 4) { operands = values.Ref 2 ∷ []; paid = false } ∷ frame_of (codes "g") ∷ [];
+})
+
+catches_stop : map stopped_at (0 ∷ 1 ∷ 2 ∷ 3 ∷ [])
+    ≡ Ended (outcomes.Stopped charges.Throw) (with_exceeded (Some charges.Throw)) ∷ stop_caught ∷ stop_caught
+    ∷ Ended (outcomes.Stopped charges.Throw) (with_exceeded (Some charges.Throw)) ∷ []
+unfolding unwound code_of instruction_of simple
+catches_stop = refl
+
+-- in a caller, too
+caller_catches_stop : unwound catching stopped_by_x (with_exceeded (Some charges.Throw)) (codes "X") 2 (frame_of (codes "f") ∷ verify_at 2 ∷ frame_of (codes "g") ∷ []) ≡ stop_caught
+unfolding unwound code_of instruction_of simple
+caller_catches_stop = refl
+
+-- ---- what is computed, stored and returned
+
+abbrev two_operands : Part
+two_operands = record no_part {
+  locals = Some (values.Int (pos 1)) ∷ [];
+  operands = values.Int (pos 2) ∷ values.Int (pos 3) ∷ [];
+  heap = record { objects = new_instance ∷ new_instance ∷ []; used = 64 };
+}
+
+computes : computed two_operands (values.Ref 4 ∷ []) (Ok (negsuc 6)) ≡ record { part = record two_operands { operands = values.Int (negsuc 6) ∷ values.Ref 4 ∷ [] }; flow = Next }
+computes = refl
+
+-- what is raised leaves everything as it was
+computes_none : map (λ raised. computed two_operands [] (Err raised)) (raises.Arithmetic ∷ raises.NegativeArraySize ∷ [])
+    ≡ record { part = two_operands; flow = Raise raises.Arithmetic } ∷ record { part = two_operands; flow = Raise raises.NegativeArraySize } ∷ []
+computes_none = refl
+
+puts : put two_operands (values.Int (pos 3) ∷ []) 2 (Text []) None
+    ≡ record { part = record two_operands { operands = values.Int (pos 3) ∷ []; heap = record { objects = new_instance ∷ Text [] ∷ []; used = 64 } }; flow = Next }
+puts = refl
+
+puts_none : map (λ raised. put two_operands [] 2 (Text []) (Some raised)) (raises.ArrayStore ∷ raises.Arithmetic ∷ [])
+    ≡ record { part = two_operands; flow = Raise raises.ArrayStore } ∷ record { part = two_operands; flow = Raise raises.Arithmetic } ∷ []
+puts_none = refl
+
+-- the index is asked first
+stores_outside : map (store_found two_operands [] 2 (Text []) None) (None ∷ Some raises.ArrayStore ∷ [])
+    ≡ record { part = two_operands; flow = Raise raises.ArrayIndexOutOfBounds } ∷ record { part = two_operands; flow = Raise raises.ArrayIndexOutOfBounds } ∷ []
+stores_outside = refl
+
+stores_within : map (store_found two_operands [] 2 (Text []) (Some (pos 0))) (None ∷ Some raises.ArrayStore ∷ [])
+    ≡ record { part = record two_operands { operands = []; heap = record { objects = new_instance ∷ Text [] ∷ []; used = 64 } }; flow = Next }
+    ∷ record { part = two_operands; flow = Raise raises.ArrayStore } ∷ []
+stores_within = refl
+
+number_refused_by_none : map (store_raises [] [] (codes "[B")) (values.Int (pos 5) ∷ values.Long (pos 5) ∷ []) ≡ None ∷ None ∷ []
+number_refused_by_none = refl
+
+-- the first computes below the top
+subtracts : compute_two two_operands Subtract (values.Int (pos 2) ∷ values.Int (pos 3) ∷ values.Ref 4 ∷ [])
+    ≡ Some (record { part = record two_operands { operands = values.Int (pos 1) ∷ values.Ref 4 ∷ [] }; flow = Next })
+unfolding int_wrap
+subtracts = refl
+
+computes_ints_alone : map (compute_two two_operands Add) ([] ∷ (values.Int (pos 2) ∷ []) ∷ (values.Int (pos 2) ∷ values.Long (pos 3) ∷ []) ∷ (values.Ref 2 ∷ values.Int (pos 3) ∷ []) ∷ [])
+    ≡ None ∷ None ∷ None ∷ None ∷ []
+computes_ints_alone = refl
+
+abbrev how_back : Option Effect → Option Flow
+how_back None = None
+how_back (Some e) = Some e.flow
+
+-- nothing is returned, whatever operands are left
+returns_nothing : map (λ operands. how_back (return_top two_operands None operands)) ([] ∷ (values.Int (pos 2) ∷ values.Ref 3 ∷ []) ∷ []) ≡ Some (Back None) ∷ Some (Back None) ∷ []
+returns_nothing = refl
+
+returns_top : map (λ operands. how_back (return_top two_operands (Some kinds.Int) operands)) (
+    [] ∷ (values.Int (pos 2) ∷ []) ∷ (values.Int (pos 2) ∷ values.Int (pos 3) ∷ []) ∷ (values.Long (pos 2) ∷ values.Int (pos 3) ∷ []) ∷ (values.Ref 2 ∷ []) ∷ [])
+    ≡ None ∷ Some (Back (Some (values.Int (pos 2)))) ∷ Some (Back (Some (values.Int (pos 2)))) ∷ None ∷ None ∷ []
+returns_top = refl
+
+returns_keep_heap : map (λ i. effect [] (limited_to 8) i two_operands) (Return None ∷ Return (Some kinds.Int) ∷ Return (Some kinds.Ref) ∷ [])
+    ≡ Some (record { part = two_operands; flow = Back None }) ∷ Some (record { part = two_operands; flow = Back (Some (values.Int (pos 2))) }) ∷ None ∷ []
+unfolding effect
+returns_keep_heap = refl

@@ -6,3 +6,5 @@ pub mod Runs
 mod Rows
 mod Opcodes
 mod Facts
+mod FrameFacts
+mod ShapeFacts

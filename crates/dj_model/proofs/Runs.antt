@@ -6,14 +6,14 @@ use Rattle.dj_names.specs.declared.run.Thresholds.{Thresholds}
 use Rattle.dj_names.specs.declared.run.Outcome.{Outcome}
 use Rattle.dj_model.specs.Program.{Program, MethodName, Code, code_of, is_initialiser}
 use Rattle.dj_model.specs.State.{Frame, State}
-use Rattle.dj_model.specs.Instructions.{Instruction, ends, targets}
+use Rattle.dj_model.specs.Instructions.{Instruction, ends}
 use Rattle.dj_model.specs.Effects.{Part, Flow, Next, To, Raise, Throw, Back, Broken, Full, effect}
 use Rattle.dj_model.specs.Step.{part_of, at_number}
 use Rattle.dj_model.specs.Charges.{own_amounts, paid, Payment, Paid, Exceeds}
 use Rattle.dj_model.specs.Metered.{Ends, turns, run, metered_terms}
 use Rattle.dj_model.specs.Initialisation.{new_frame}
 use Rattle.dj_model.specs.FrameKinds.{Signature, Kinds, Read}
-use Rattle.dj_model.specs.Shape.{StateBefore, Holds, AllHold, HasShape, first_kinds}
+use Rattle.dj_model.specs.Shape.{StateBefore, Holds, AllHold, first_kinds}
 use Rattle.dj_model.specs.Sound.{HasKinds, HasSoundEffect, IsSoundFlow}
 use Rattle.dj_model.specs.Laws.{IsStraightEntry}
 use Rattle.dj_model.proofs.Turns.{Stands, turns_more, turns_ended, turns_next, turns_raise, turns_back, turns_broken, turns_full, turns_stopped, first_state, begins_plainly}

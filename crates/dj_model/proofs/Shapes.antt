@@ -2,7 +2,7 @@
 use Rattle.std.proofs.Common.{◌≡◌, ℕ, zero, suc, ◌<◌, List, [], Option, Some, None, refl, sym, ap, subst, ◌∙◌, inl, inr, arith}
 use Rattle.dj_model.specs.Program.{Code}
 use Rattle.dj_model.specs.FrameKinds.{Signature, Kinds, Placed, Frames, Read, Faulty, NoMap, parameter_entries, frames_after, frames_in, frames_of, placed_at}
-use Rattle.dj_model.specs.Shape.{ParametersFit, after, TellsOr, StateBefore, Holds, HasShape, AllHold, IsFirstFault, IsFrameOrFault, IsShapeFault}
+use Rattle.dj_model.specs.Shape.{ParametersFit, after, TellsOr, StateBefore, HasShape, AllHold, IsFirstFault, IsFrameOrFault, IsShapeFault}
 
 -- an empty stack map tells no kinds
 pub no_frames : (signature : Signature) (code : Code) → code.frames ≡ Some [] → frames_of signature code ≡ Read []

@@ -11,7 +11,7 @@ use Rattle.dj_names.specs.Objects.{value_kind, Object, Array}
 use Rattle.dj_model.specs.Program.{Name, Code, Program, MethodName, code_of}
 use Rattle.dj_model.specs.State.{Heap, Static, Literal}
 use Rattle.dj_model.specs.Instructions.{Instruction, Nop, Push, Load, Store, LoadElement, StoreElement, Move, Compute, Return, ArrayLength, NewArray, Other, StackOperation, Pop, Dup, IntOperation, Add, Subtract, Multiply, And, Or, Xor, Access, Bytes, Chars, Shorts, Ints, Longs, ends, asks_program}
-use Rattle.dj_model.specs.Effects.{Terms, Part, Next, Effect, effect, same_kind, is_of_kind, local_at, is_long, without_long_before, stored, slots_of, access_kind, reaches, Found, Null, NoArray, IsArray, only, array_at, reached, element_value, passes_limit, array_size, new_contents, make, load_found, element_at, store_found, with_object, with_element, kept, value_number, compute, pushes, goes, Back, next_number, with_new}
+use Rattle.dj_model.specs.Effects.{Terms, Part, Next, Effect, effect, same_kind, is_of_kind, local_at, is_long, without_long_before, stored, slots_of, access_kind, reaches, Found, Null, NoArray, IsArray, only, array_at, reached, element_value, passes_limit, array_size, new_contents, make, load_found, element_at, store_found, with_object, with_element, kept, value_number, pushes, goes, Back, next_number, with_new}
 use Rattle.dj_model.specs.Shape as shape
 use Rattle.dj_model.specs.FrameKinds.{Signature, Kinds}
 use Rattle.dj_model.specs.Shape.{ParametersFit, first_kinds, is_kind, kind_at, set_kind, pushed, taken, takes, store_kind, after, same_result, result_list}

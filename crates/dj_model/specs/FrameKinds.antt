@@ -1,5 +1,5 @@
 -- The kinds that the frames of a code's stack map tell (JVMS 4.7.4 and 4.10.1.6, kinds alone).
-use Rattle.std.specs.Prelude.{ℕ, ◌+◌, ◌-◌, ◌&&◌, Bool, true, false, List, [], ◌∷◌, ◌++◌, length, reverse, take, replicate, sum_by, Option, Some, None, slice_get, nat_eq, nat_le, if◌then◌else◌}
+use Rattle.std.specs.Prelude.{ℕ, ◌-◌, ◌&&◌, List, [], ◌∷◌, ◌++◌, length, reverse, take, replicate, sum_by, Option, Some, None, slice_get, nat_eq, nat_le, if◌then◌else◌}
 use Rattle.dj_names.specs.declared.descriptor.Kind.{Kind}
 use Rattle.dj_names.specs.declared.descriptor.Kind.TheVariants as kinds
 use Rattle.dj_model.specs.Program.{Code}

@@ -1,5 +1,5 @@
 -- What instructions do, by families (JVMS 6.5). Several opcodes of one family are one instruction here, with the data in which they differ.
-use Rattle.std.specs.Prelude.{ℕ, ◌-◌, ◌&&◌, ◌==◌, Bool, true, false, not, pos, ◌-ℤ◌, List, [], ◌∷◌, Option, Some, None, codes, nat_le, if◌then◌else◌}
+use Rattle.std.specs.Prelude.{ℕ, ◌-◌, ◌&&◌, ◌==◌, Bool, true, false, not, pos, ◌-ℤ◌, List, [], ◌∷◌, Option, Some, codes, nat_le, if◌then◌else◌}
 use Rattle.dj_names.specs.declared.descriptor.Kind.{Kind}
 use Rattle.dj_names.specs.declared.descriptor.Kind.TheVariants as kinds
 use Rattle.dj_names.specs.declared.run.Value.{Value}
