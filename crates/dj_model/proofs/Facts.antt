@@ -470,7 +470,7 @@ stores_within : map (store_found two_operands [] 2 (Text []) (Some (pos 0))) (No
     ∷ record { part = two_operands; flow = Raise raises.ArrayStore } ∷ []
 stores_within = refl
 
-number_refused_by_none : map (store_raises [] [] (codes "[B")) (values.Int (pos 5) ∷ values.Long (pos 5) ∷ []) ≡ None ∷ None ∷ []
+number_refused_by_none : map (store_raises [] (limited_to 32) [] (codes "[B")) (values.Int (pos 5) ∷ values.Long (pos 5) ∷ []) ≡ None ∷ None ∷ []
 number_refused_by_none = refl
 
 -- the first computes below the top

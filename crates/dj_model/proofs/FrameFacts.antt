@@ -488,8 +488,11 @@ some_part = record {
 abbrev its_kinds : Kinds
 its_kinds = kinds_of (Some kinds.Ref ∷ None ∷ Some kinds.Int ∷ []) (kinds.Int ∷ [])
 
+abbrev int_out : Signature
+int_out = record { parameters = []; result = Some kinds.Int }
+
 abbrev Follows : Instruction → Kinds → Flow → Type 0
-Follows i left flow = IsSoundFlow two_nops i left some_part flow
+Follows i left flow = IsSoundFlow int_out two_nops i left some_part flow
 
 its_kinds_left : LeavesKinds two_nops its_kinds some_part
 its_kinds_left = (record { locals = (refl, (refl, tt)); operands = refl }, refl)
@@ -508,7 +511,7 @@ other_operands h = let e : kinds.Int ∷ [] ≡ [] = h.0.0.operands in absurd cc
 other_locals : Follows Nop (record its_kinds { locals = Some kinds.Ref ∷ Some kinds.Int ∷ None ∷ [] }) Next → ⊥
 other_locals h = let bad : ⊥ = h.0.0.locals.1 in bad
 
-other_count : IsSoundFlow (record two_nops { max_locals = 4 }) Nop its_kinds some_part Next → ⊥
+other_count : IsSoundFlow int_out (record two_nops { max_locals = 4 }) Nop its_kinds some_part Next → ⊥
 other_count h = let e : length some_part.locals ≡ 4 = h.0.1 in absurd (omega arith)
 
 -- none jumps, and none throws an object
@@ -518,12 +521,21 @@ none_goes_to i number h = let below : h.1.0 < 0 = h.1.1 in absurd (omega arith)
 none_throws_object : (i : Instruction) (exception : ℕ) → Follows i its_kinds (Throw exception) → ⊥
 none_throws_object i exception h = let e : false ≡ true = h in absurd cc
 
--- only a return returns, whatever it leaves
+-- only a return returns, whatever it leaves, and a value of the result's kind
 return_follows : Follows (Return (Some kinds.Int)) (kinds_of [] []) (Back (Some (values.Int (pos 7))))
-return_follows = refl
+return_follows = (refl, refl)
+
+void_follows : IsSoundFlow (record int_out { result = None }) two_nops (Return None) its_kinds some_part (Back None)
+void_follows = (refl, refl)
+
+other_kind_returned : Follows (Return (Some kinds.Int)) its_kinds (Back (Some (values.Ref 7))) → ⊥
+other_kind_returned h = let e : Some kinds.Ref ≡ Some kinds.Int = h.1 in absurd cc
+
+nothing_returned : Follows (Return (Some kinds.Int)) its_kinds (Back None) → ⊥
+nothing_returned h = let e : None ≡ Some kinds.Int = h.1 in absurd cc
 
 none_returns : Follows Nop its_kinds (Back None) → ⊥
-none_returns h = let e : false ≡ true = h in absurd cc
+none_returns h = let e : false ≡ true = h.0 in absurd cc
 
 -- any may raise, and end the run
 raise_follows : Follows Nop (kinds_of [] []) (Raise raises.NullPointer)
@@ -536,11 +548,11 @@ full_follows : Follows Nop (kinds_of [] []) (HeapFull 8 9)
 full_follows = tt
 
 -- an effect has to be there
-nop_has_effect : HasSoundEffect [] (limited_to 8) two_nops Nop its_kinds some_part
+nop_has_effect : HasSoundEffect [] (limited_to 8) int_out two_nops Nop its_kinds some_part
 unfolding effect
 nop_has_effect = (_, refl, next_follows)
 
-other_has_none : HasSoundEffect [] (limited_to 8) two_nops (Other 191) its_kinds some_part → ⊥
+other_has_none : HasSoundEffect [] (limited_to 8) int_out two_nops (Other 191) its_kinds some_part → ⊥
 unfolding effect
 other_has_none h = let e : None ≡ Some h.0 = h.1 in absurd cc
 

@@ -61,7 +61,7 @@ module _ (program : Program) (most : Thresholds) (signature : Signature) (code :
       → (IsFalse (ends i) → StateBefore signature code [] (suc f.number) left)
       → paid most s.costs (own_amounts program (Some i) f.operands) ≡ Paid costs
       → (p : Part) (flow : Flow) → effect program (metered_terms most) i (part_of f s) ≡ Some (record { part = p; flow = flow })
-      → IsSoundFlow code i left p flow
+      → IsSoundFlow signature code i left p flow
       → EndsFrom (2 + n) s
   done n s f i left costs at stands rest state payment p Next e sound =
       let f2 : Frame = at_number f p (f.number + 1) in
@@ -92,7 +92,7 @@ module _ (program : Program) (most : Thresholds) (signature : Signature) (code :
 
   paying : (n : ℕ) (s : State) (f : Frame) (i : Instruction) (left : Kinds) → IsAt s f → Stands program s f code i
       → ((t : State) (g : Frame) → IsAt t g → f.number + 1 ≡ g.number → IsFalse (ends i) → EndsFrom n t)
-      → (IsFalse (ends i) → StateBefore signature code [] (suc f.number) left) → HasSoundEffect program (metered_terms most) code i left (part_of f s)
+      → (IsFalse (ends i) → StateBefore signature code [] (suc f.number) left) → HasSoundEffect program (metered_terms most) signature code i left (part_of f s)
       → (payment : Payment) → paid most s.costs (own_amounts program (Some i) f.operands) ≡ payment → EndsFrom (2 + n) s
   paying n s f i left at stands rest state sound (Paid costs) payment =
       done n s f i left costs at stands rest state payment sound.0.part sound.0.flow sound.1 sound.2

@@ -7,8 +7,8 @@ use Rattle.dj_model.specs.Program.{Code, Range}
 use Rattle.dj_model.specs.Instructions.{Instruction, Nop, Push, Load, Store, Move, Return, Pop, ends}
 use Rattle.dj_model.specs.StackMaps.{Integer, Long, Null, FrameForm, Same, Stack1, Chop, Append, Full}
 use Rattle.dj_model.specs.FrameKinds.{Signature, Kinds, Placed, Frames, Read, Faulty, frames_after, frames_of, placed_at}
-use Rattle.dj_model.specs.Shape.{ParametersFit, first_kinds, after, LocalsFlow, FlowsTo, StateBefore, IsHandlerFrame, LocalsFlowTo, Holds, AllHold, HasShape, IsFrameOrFault, IsShapeFault}
-use Rattle.dj_model.proofs.Shapes.{one_state, one_shape_fault, no_fault_with_shape}
+use Rattle.dj_model.specs.Shape.{ParametersFit, first_kinds, after, LocalsFlow, FlowsTo, StateBefore, IsHandlerFrame, LocalsFlowTo, Holds, AllHold, HasShape, IsFrameOrFault, IsNumberedFault, IsShapeFault}
+use Rattle.dj_model.proofs.Shapes.{one_state, one_number, no_fault_with_shape}
 use Rattle.dj_model.proofs.FrameFacts.{code_with, any_object, kinds_of, at, placed, reference_in}
 
 -- ---- instructions that hold, and that don't
@@ -157,15 +157,15 @@ module _ (signature : Signature) (code : Code) (placed : List Placed) where
   has_shape fit read each = record { parameters = fit; each = subst (AllHold signature code) (sym read) each }
 
   fault_at : (number : ℕ) → ParametersFit signature code → frames_of signature code ≡ Read placed → number < length code.instructions
-      → ((other : ℕ) → other < number → Holds signature code placed other) → (Holds signature code placed number → ⊥) → IsShapeFault signature code number
+      → ((other : ℕ) → other < number → Holds signature code placed other) → (Holds signature code placed number → ⊥) → IsNumberedFault signature code number
   fault_at number fit read within before fault =
       inr (fit, subst (λ (frames : Frames). IsFrameOrFault signature code frames number) (sym read) (record { within = within; before = before; fault = fault }))
 
-faulty_frame : (signature : Signature) (code : Code) (number : ℕ) → ParametersFit signature code → frames_of signature code ≡ Faulty number → IsShapeFault signature code number
+faulty_frame : (signature : Signature) (code : Code) (number : ℕ) → ParametersFit signature code → frames_of signature code ≡ Faulty number → IsNumberedFault signature code number
 faulty_frame signature code number fit read = inr (fit, subst (λ (frames : Frames). IsFrameOrFault signature code frames number) (sym read) refl)
 
-no_fault_but : (signature : Signature) (code : Code) (a b : ℕ) → IsShapeFault signature code a → (a ≡ b → ⊥) → IsShapeFault signature code b → ⊥
-no_fault_but signature code a b fault other h = other (one_shape_fault signature code a b fault h)
+no_fault_but : (signature : Signature) (code : Code) (a b : ℕ) → IsNumberedFault signature code a → (a ≡ b → ⊥) → IsNumberedFault signature code b → ⊥
+no_fault_but signature code a b fault other h = other (one_number signature code a b fault h)
 
 -- ---- the first so many
 
@@ -288,7 +288,7 @@ agrees_shape = has_shape reference_in agrees at_two (omega arith) agrees_read (f
 abbrev operand_left : Code
 operand_left = code_with (push_int ∷ Nop ∷ Return None ∷ []) [] (at 2 Same ∷ [])
 
-operand_left_fault : IsShapeFault reference_in operand_left 1
+operand_left_fault : IsNumberedFault reference_in operand_left 1
 unfolding after frames_after
 operand_left_fault =
     let p : List Placed = placed 2 alone [] ∷ [] in
@@ -317,7 +317,7 @@ operand_told_shape =
 abbrev operand_other : Code
 operand_other = code_with (push_int ∷ Nop ∷ Return None ∷ []) [] (at 2 (Stack1 Null) ∷ [])
 
-operand_other_fault : IsShapeFault reference_in operand_other 1
+operand_other_fault : IsNumberedFault reference_in operand_other 1
 unfolding after frames_after
 operand_other_fault =
     let p : List Placed = placed 2 alone (kinds.Ref ∷ []) ∷ [] in
@@ -346,7 +346,7 @@ operands_turned_shape =
 abbrev local_lacks : Code
 local_lacks = code_with (push_int ∷ Move Pop ∷ Return None ∷ []) [] (at 2 (Append (Integer ∷ [])) ∷ [])
 
-local_lacks_fault : IsShapeFault reference_in local_lacks 1
+local_lacks_fault : IsNumberedFault reference_in local_lacks 1
 unfolding after frames_after
 local_lacks_fault =
     let p : List Placed = placed 2 with_int [] ∷ [] in
@@ -359,7 +359,7 @@ local_lacks_fault =
 abbrev local_other : Code
 local_other = code_with (push_null ∷ Store kinds.Ref 1 ∷ Return None ∷ []) [] (at 2 (Append (Integer ∷ [])) ∷ [])
 
-local_other_fault : IsShapeFault reference_in local_other 1
+local_other_fault : IsNumberedFault reference_in local_other 1
 unfolding after frames_after
 local_other_fault =
     let p : List Placed = placed 2 with_int [] ∷ [] in
@@ -390,7 +390,7 @@ forgets_shape =
 abbrev forgotten : Code
 forgotten = code_with (push_int ∷ Store kinds.Int 1 ∷ Nop ∷ Load kinds.Int 1 ∷ Return None ∷ []) [] (at 2 Same ∷ [])
 
-forgotten_fault : IsShapeFault reference_in forgotten 3
+forgotten_fault : IsNumberedFault reference_in forgotten 3
 unfolding after frames_after
 forgotten_fault =
     let p : List Placed = placed 2 alone [] ∷ [] in
@@ -423,7 +423,7 @@ framed_shape =
 abbrev unframed : Code
 unframed = code_with (Return None ∷ Return None ∷ []) [] []
 
-unframed_fault : IsShapeFault reference_in unframed 1
+unframed_fault : IsNumberedFault reference_in unframed 1
 unfolding after frames_after
 unframed_fault =
     let p : List Placed = [] in
@@ -448,7 +448,7 @@ begins_less_shape =
 abbrev begins_forgets : Code
 begins_forgets = code_with (Load kinds.Ref 0 ∷ Return None ∷ []) [] (at 0 (Chop 1) ∷ [])
 
-begins_forgets_fault : IsShapeFault reference_in begins_forgets 0
+begins_forgets_fault : IsNumberedFault reference_in begins_forgets 0
 unfolding after frames_after
 begins_forgets_fault =
     let p : List Placed = placed 0 (None ∷ None ∷ None ∷ []) [] ∷ [] in
@@ -459,7 +459,7 @@ begins_forgets_fault =
 abbrev begins_more : Code
 begins_more = code_with (Return None ∷ []) [] (at 0 (Append (Integer ∷ [])) ∷ [])
 
-begins_more_fault : IsShapeFault reference_in begins_more 0
+begins_more_fault : IsNumberedFault reference_in begins_more 0
 unfolding after frames_after
 begins_more_fault =
     let p : List Placed = placed 0 with_int [] ∷ [] in
@@ -470,7 +470,7 @@ begins_more_fault =
 abbrev begins_operand : Code
 begins_operand = code_with (Return None ∷ []) [] (at 0 (Stack1 Integer) ∷ [])
 
-begins_operand_fault : IsShapeFault reference_in begins_operand 0
+begins_operand_fault : IsNumberedFault reference_in begins_operand 0
 unfolding after frames_after
 begins_operand_fault =
     let p : List Placed = placed 0 alone (kinds.Int ∷ []) ∷ [] in
@@ -483,7 +483,7 @@ begins_operand_fault =
 abbrev no_end : Code
 no_end = code_with (push_int ∷ Nop ∷ []) [] []
 
-no_end_fault : IsShapeFault reference_in no_end 1
+no_end_fault : IsNumberedFault reference_in no_end 1
 unfolding after frames_after
 no_end_fault =
     let p : List Placed = [] in
@@ -495,7 +495,7 @@ no_end_fault =
 abbrev two_stuck : Code
 two_stuck = code_with (Nop ∷ Load kinds.Int 1 ∷ Load kinds.Int 1 ∷ Return None ∷ []) [] []
 
-two_stuck_fault : IsShapeFault reference_in two_stuck 1
+two_stuck_fault : IsNumberedFault reference_in two_stuck 1
 unfolding after frames_after
 two_stuck_fault =
     let p : List Placed = [] in
@@ -503,11 +503,11 @@ two_stuck_fault =
     fault_at reference_in two_stuck p 1 (omega arith) refl (omega arith) (first_1 two_stuck p (next two_stuck p 0 _ _ _ t0 refl tt (omega arith) tt))
     (stuck reference_in two_stuck p 1 (kinds_of alone []) (Load kinds.Int 1) (_, _, t0.state, t0.at, refl, t0.found) refl refl)
 
-not_the_second : IsShapeFault reference_in two_stuck 2 → ⊥
+not_the_second : IsNumberedFault reference_in two_stuck 2 → ⊥
 not_the_second h = no_fault_but reference_in two_stuck 1 2 two_stuck_fault (λ e. omega arith) h
 
 not_shaped : HasShape reference_in two_stuck → ⊥
-not_shaped h = no_fault_with_shape reference_in two_stuck 1 h two_stuck_fault
+not_shaped h = no_fault_with_shape reference_in two_stuck (Some 1) h (refl, two_stuck_fault)
 
 -- ---- frames and parameters come first
 
@@ -515,31 +515,31 @@ not_shaped h = no_fault_with_shape reference_in two_stuck 1 h two_stuck_fault
 abbrev faulty : Code
 faulty = code_with (Nop ∷ Load kinds.Int 1 ∷ Nop ∷ Return None ∷ []) [] (at 3 (Chop 2) ∷ [])
 
-faulty_fault : IsShapeFault reference_in faulty 3
+faulty_fault : IsNumberedFault reference_in faulty 3
 unfolding frames_after
 faulty_fault = faulty_frame reference_in faulty 3 (omega arith) refl
 
-not_the_stuck : IsShapeFault reference_in faulty 1 → ⊥
+not_the_stuck : IsNumberedFault reference_in faulty 1 → ⊥
 not_the_stuck h = no_fault_but reference_in faulty 3 1 faulty_fault (λ e. omega arith) h
 
 faulty_no_shape : HasShape reference_in faulty → ⊥
-faulty_no_shape h = no_fault_with_shape reference_in faulty 3 h faulty_fault
+faulty_no_shape h = no_fault_with_shape reference_in faulty (Some 3) h (refl, faulty_fault)
 
 -- four slots in three
 abbrev four_slots : Signature
 four_slots = record { parameters = kinds.Long ∷ kinds.Int ∷ kinds.Int ∷ []; result = None }
 
-unfit : IsShapeFault four_slots (code_with (Return None ∷ []) [] []) 0
+unfit : IsNumberedFault four_slots (code_with (Return None ∷ []) [] []) 0
 unfit = inl ((λ fit. omega arith), refl)
 
-unfit_and_faulty : IsShapeFault four_slots faulty 0
+unfit_and_faulty : IsNumberedFault four_slots faulty 0
 unfit_and_faulty = inl ((λ fit. omega arith), refl)
 
-unfit_not_faulty : IsShapeFault four_slots faulty 3 → ⊥
+unfit_not_faulty : IsNumberedFault four_slots faulty 3 → ⊥
 unfit_not_faulty h = no_fault_but four_slots faulty 0 3 unfit_and_faulty (λ e. omega arith) h
 
 unfit_no_shape : HasShape four_slots (code_with (Return None ∷ []) [] []) → ⊥
-unfit_no_shape h = no_fault_with_shape four_slots (code_with (Return None ∷ []) [] []) 0 h unfit
+unfit_no_shape h = no_fault_with_shape four_slots (code_with (Return None ∷ []) [] []) (Some 0) h (refl, unfit)
 
 -- three in three
 abbrev three_slots : Signature
@@ -562,20 +562,28 @@ fit_shape =
     has_shape three_slots returns_first p (omega arith) refl
     (one_more (Holds three_slots returns_first p) 1 (one_more (Holds three_slots returns_first p) 0 (λ number below. absurd (omega arith)) h0) h1)
 
--- no stack map: no shape, and no number
+-- no stack map: no shape, and no number, whether the parameters fit or not
 abbrev mapless : Code
 mapless = record agrees { frames = None }
 
 mapless_no_shape : HasShape reference_in mapless → ⊥
 mapless_no_shape h = h.each
 
-mapless_no_number : (number : ℕ) → IsShapeFault reference_in mapless number → ⊥
-mapless_no_number number (inl unfit) = unfit.0 (omega arith)
-mapless_no_number number (inr fault) = fault.1
+mapless_fault : IsShapeFault reference_in mapless None × IsShapeFault four_slots mapless None
+mapless_fault = (refl, refl)
 
--- where the parameters don't fit there is one
-mapless_unfit : IsShapeFault four_slots mapless 0
-mapless_unfit = inl ((λ fit. omega arith), refl)
+mapless_no_number : (number : ℕ) → IsShapeFault four_slots mapless (Some number) → ⊥
+mapless_no_number number (some, fault) = absurd cc
+
+-- and with a stack map there is a number
+with_number : IsShapeFault reference_in faulty (Some 3) × IsShapeFault four_slots faulty (Some 0)
+with_number = ((refl, faulty_fault), (refl, unfit_and_faulty))
+
+not_without_number : IsShapeFault reference_in faulty None → ⊥
+not_without_number none = absurd cc
+
+not_another_number : IsShapeFault reference_in faulty (Some 1) → ⊥
+not_another_number fault = not_the_stuck fault.1
 
 -- ---- handlers
 
@@ -599,7 +607,7 @@ handled_shape =
     (goes_on_with reference_in code p 0 _ _ _ t0 r0 tt (omega arith) ((refl, tt), refl))
     (ended_with reference_in code p 1 _ _ _ t1 r1 tt refl))
 
-handler_unframed : IsShapeFault reference_in (handles_at []) 1
+handler_unframed : IsNumberedFault reference_in (handles_at []) 1
 unfolding after frames_after
 handler_unframed =
     let p : List Placed = [] in
@@ -614,7 +622,7 @@ abbrev caught_at : FrameForm → Code
 caught_at form = code_with (Return None ∷ Return None ∷ []) (handler_at 0 1 1 ∷ []) (at 1 form ∷ [])
 
 caught_with : (form : FrameForm) (stack : List Kind) → frames_of reference_in (caught_at form) ≡ Read (placed 1 alone stack ∷ []) → (stack ≡ kinds.Ref ∷ [] → ⊥)
-    → IsShapeFault reference_in (caught_at form) 1
+    → IsNumberedFault reference_in (caught_at form) 1
 unfolding after
 caught_with form stack read other =
     let p : List Placed = placed 1 alone stack ∷ [] in
@@ -624,15 +632,15 @@ caught_with form stack read other =
     fault_at reference_in code p 1 (omega arith) read (omega arith) (first_1 code p (ended_with reference_in code p 0 _ _ _ t0 r0 tt refl))
     (no_handler reference_in code p (handler_at 0 1 1) (0, omega arith, refl) other)
 
-caught_without : IsShapeFault reference_in (caught_at Same) 1
+caught_without : IsNumberedFault reference_in (caught_at Same) 1
 unfolding frames_after
 caught_without = caught_with Same [] refl (λ e. absurd cc)
 
-caught_int : IsShapeFault reference_in (caught_at (Stack1 Integer)) 1
+caught_int : IsNumberedFault reference_in (caught_at (Stack1 Integer)) 1
 unfolding frames_after
 caught_int = caught_with (Stack1 Integer) (kinds.Int ∷ []) refl (λ e. absurd cc)
 
-caught_two : IsShapeFault reference_in (caught_at (Full (Null ∷ []) (Null ∷ Null ∷ []))) 1
+caught_two : IsNumberedFault reference_in (caught_at (Full (Null ∷ []) (Null ∷ Null ∷ []))) 1
 unfolding frames_after
 caught_two = caught_with (Full (Null ∷ []) (Null ∷ Null ∷ [])) (kinds.Ref ∷ kinds.Ref ∷ []) refl (λ e. absurd cc)
 
@@ -737,16 +745,16 @@ guarded_shape = has_shape reference_in (guarded 2 5) at_six (omega arith) (guard
     (held_5 2 5 (λ low high. omega arith)) (held_6 2 5))
 
 -- one instruction earlier there is no int yet; one later there is another kind
-early_fault : IsShapeFault reference_in (guarded 1 5) 1
+early_fault : IsNumberedFault reference_in (guarded 1 5) 1
 early_fault = fault_at reference_in (guarded 1 5) at_six 1 (omega arith) (guarded_read 1 5) (omega arith) (first_1 (guarded 1 5) at_six (held_0 1 5 (λ low high. omega arith)))
     (not_handled reference_in (guarded 1 5) at_six 1 _ _ _ (guarded_1 1 5) (catch_all 1 5 6) (0, omega arith, refl) (omega arith) (omega arith) (has_none 1 5))
 
-late_fault : IsShapeFault reference_in (guarded 2 6) 5
+late_fault : IsNumberedFault reference_in (guarded 2 6) 5
 late_fault = fault_at reference_in (guarded 2 6) at_six 5 (omega arith) (guarded_read 2 6) (omega arith) (first_5 (guarded 2 6) at_six
     (held_0 2 6 (λ low high. omega arith)) (held_1 2 6 (λ low high. omega arith)) (held_2 2 6) (held_3 2 6) (held_4 2 6))
     (not_handled reference_in (guarded 2 6) at_six 5 _ _ _ (guarded_5 2 6) (catch_all 2 6 6) (0, omega arith, refl) (omega arith) (omega arith) (has_other 2 6))
 
-whole_fault : IsShapeFault reference_in (guarded 0 7) 0
+whole_fault : IsNumberedFault reference_in (guarded 0 7) 0
 whole_fault = fault_at reference_in (guarded 0 7) at_six 0 (omega arith) (guarded_read 0 7) (omega arith) (none_yet (guarded 0 7) at_six)
     (not_handled reference_in (guarded 0 7) at_six 0 _ _ _ (guarded_0 0 7) (catch_all 0 7 6) (0, omega arith, refl) (omega arith) (omega arith) (has_none 0 7))
 

@@ -42,6 +42,14 @@ same_kind_is kinds.Long kinds.Long e = refl
 same_kind_is kinds.Ref kinds.Ref e = refl
 same_kind_is _ _ e = absurd cc
 
+no_result : (result : Option Kind) → same_result None result ≡ true → None ≡ result
+no_result None e = refl
+no_result (Some kind) e = absurd cc
+
+some_kind : (kind : Kind) (found : Option Kind) → is_kind kind found ≡ true → Some kind ≡ found
+some_kind kind None e = absurd cc
+some_kind kind (Some other) e = ap Some (same_kind_is kind other e)
+
 -- ---- local variables
 
 -- a local variable of this kind has a value of it
@@ -219,14 +227,14 @@ module _ (program : Program) (terms : Terms) (signature : Signature) (code : Cod
   part operands = record { locals = locals; operands = operands; heap = heap; statics = statics; literals = literals }
 
   abbrev Sound : Instruction → Effect → Type 0
-  Sound i e = IsSoundFlow code i left e.part e.flow
+  Sound i e = IsSoundFlow signature code i left e.part e.flow
 
   abbrev Good : Instruction → List Value → Type 0
-  Good i operands = after signature code i (at_kinds operands) ≡ Some left → HasSoundEffect program terms code i left (part operands)
+  Good i operands = after signature code i (at_kinds operands) ≡ Some left → HasSoundEffect program terms signature code i left (part operands)
 
   -- the next instruction finds these operands
   next : (i : Instruction) → IsFalse (ends i) → (operands : List Value) (other : Heap) → at_kinds operands ≡ left
-      → IsSoundFlow code i left (record { locals = locals; operands = operands; heap = other; statics = statics; literals = literals }) Next
+      → IsSoundFlow signature code i left (record { locals = locals; operands = operands; heap = other; statics = statics; literals = literals }) Next
   next i goes_on operands other e = rw (← e) ((record { locals = has; operands = refl }, long), goes_on)
 
   pushed_is : (variables : List (Option Kind)) (stack : List Kind) (kind : Kind) → pushed code variables stack kind ≡ Some left
@@ -243,7 +251,7 @@ module _ (program : Program) (terms : Terms) (signature : Signature) (code : Cod
 
   loaded : (kind : Kind) (slot : ℕ) (operands : List Value) → HasLocal locals slot kind
       → pushed code ks (map value_kind operands) kind ≡ Some left
-      → HasSoundEffect program terms code (Load kind slot) left (part operands)
+      → HasSoundEffect program terms signature code (Load kind slot) left (part operands)
   unfolding effect
   loaded kind slot operands l a =
       let kinds_are : at_kinds (l.value ∷ operands) ≡ left = pushed_is ks (map value_kind operands) (value_kind l.value) (rw l.kind_is a) in
@@ -298,7 +306,7 @@ module _ (program : Program) (terms : Terms) (signature : Signature) (code : Cod
 
   element_stored : (access : Access) (v : Value) (rest : List Value) → same_kind (access_kind access) (value_kind v) ≡ true
       → taken (kinds.Int ∷ (kinds.Ref ∷ [])) (map value_kind rest) ≡ Some left.stack → record { locals = ks; stack = left.stack } ≡ left
-      → HasSoundEffect program terms code (StoreElement access) left (part (v ∷ rest))
+      → HasSoundEffect program terms signature code (StoreElement access) left (part (v ∷ rest))
   unfolding effect
   element_stored access v (values.Int index ∷ (values.Ref r ∷ rest)) is t e =
       let operands : List Value = v ∷ (values.Int index ∷ (values.Ref r ∷ rest)) in
@@ -347,16 +355,18 @@ module _ (program : Program) (terms : Terms) (signature : Signature) (code : Cod
 
   return_good : (kind : Option Kind) (operands : List Value) → Good (Return kind) operands
   unfolding after effect
-  return_good None operands a = (_, refl, refl)
+  return_good None operands a =
+      let r = some_if_some (same_result None signature.result) (takes (at_kinds operands) []) left a in
+      (_, refl, (refl, no_result signature.result r.0))
   return_good (Some kind) operands a =
       let r = some_if_some (is_kind kind signature.result) (takes (at_kinds operands) (kind ∷ [])) left a in
-      returned kind operands (takes_parts (at_kinds operands) (kind ∷ []) left r.1).0 where
-        returned : (kind : Kind) (operands : List Value) → taken (kind ∷ []) (map value_kind operands) ≡ Some left.stack
-            → HasSoundEffect program terms code (Return (Some kind)) left (part operands)
-        returned kind [] t = absurd cc
-        returned kind (v ∷ rest) t =
+      returned kind operands (some_kind kind signature.result r.0) (takes_parts (at_kinds operands) (kind ∷ []) left r.1).0 where
+        returned : (kind : Kind) (operands : List Value) → Some kind ≡ signature.result → taken (kind ∷ []) (map value_kind operands) ≡ Some left.stack
+            → HasSoundEffect program terms signature code (Return (Some kind)) left (part operands)
+        returned kind [] is t = absurd cc
+        returned kind (v ∷ rest) is t =
             let r = some_if (same_kind kind (value_kind v)) (map value_kind rest) left.stack t in
-            (goes (part (v ∷ rest)) (Back (Some v)), rw r.0 refl, refl)
+            (goes (part (v ∷ rest)) (Back (Some v)), rw r.0 refl, (refl, ap Some (sym (same_kind_is kind (value_kind v) r.0)) ∙ is))
 
   length_good : (operands : List Value) → Good ArrayLength operands
   unfolding after effect
@@ -406,7 +416,7 @@ module _ (program : Program) (terms : Terms) (signature : Signature) (code : Cod
 
 pub sound_effect : (program : Program) (terms : Terms) (signature : Signature) (code : Code) (i : Instruction) (k left : Kinds) (p : Part)
     → IsFalse (asks_program i) → HasKinds p.locals p.operands k → length p.locals ≡ code.max_locals → after signature code i k ≡ Some left
-    → HasSoundEffect program terms code i left p
+    → HasSoundEffect program terms signature code i left p
 sound_effect program terms signature code i k left p asks has long a =
     good program terms signature code left p.locals k.locals p.heap p.statics p.literals has.locals long i p.operands
     (subst (λ stack. after signature code i (record { locals = k.locals; stack = stack }) ≡ Some left) (sym has.operands) a)

@@ -237,8 +237,8 @@ abbrev pub with_object : Heap → ℕ → Object → Heap
 with_object heap r object = record heap { objects = set heap.objects (r - 1) object }
 
 -- what a store of the value in an array of the class raises: of a number it is nothing
-abbrev pub store_raises : Program → List Object → Name → Value → Option Raised
-store_raises program objects class v = None
+abbrev pub store_raises : Program → Terms → List Object → Name → Value → Option Raised
+store_raises program terms objects class v = None
 
 abbrev pub put : Part → List Value → ℕ → Object → Option Raised → Effect
 put p rest r object None = record { part = record p { operands = rest; heap = with_object p.heap r object }; flow = Next }
@@ -249,14 +249,14 @@ abbrev pub store_found : Part → List Value → ℕ → Object → Option ℤ �
 store_found p rest r object None refused = goes p (Raise raises.ArrayIndexOutOfBounds)
 store_found p rest r object (Some z) refused = put p rest r object refused
 
-abbrev pub store_element : Program → Part → Access → List Value → Option Effect
-store_element program p access (v ∷ (values.Int index ∷ (values.Ref r ∷ rest))) =
+abbrev pub store_element : Program → Terms → Part → Access → List Value → Option Effect
+store_element program terms p access (v ∷ (values.Int index ∷ (values.Ref r ∷ rest))) =
     if is_of_kind (access_kind access) v
     then Some (reached p (only access (array_at p.heap.objects r)) (λ class element contents.
     store_found p rest r (Array class element (with_element contents index (kept element (value_number v)))) (element_at contents index)
-    (store_raises program p.heap.objects class v)))
+    (store_raises program terms p.heap.objects class v)))
     else None
-store_element program p access _ = None
+store_element program terms p access _ = None
 
 abbrev pub array_length : Part → List Value → Option Effect
 array_length p (values.Ref r ∷ rest) =
@@ -347,7 +347,7 @@ effect program terms (Push v) p = Some (pushes p p.operands v)
 effect program terms (Load kind slot) p = load p kind slot
 effect program terms (Store kind slot) p = store_in p kind slot p.operands
 effect program terms (LoadElement access) p = load_element p access p.operands
-effect program terms (StoreElement access) p = store_element program p access p.operands
+effect program terms (StoreElement access) p = store_element program terms p access p.operands
 effect program terms (Move operation) p = move p operation p.operands
 effect program terms (Compute operation) p = compute_two p operation p.operands
 effect program terms (Return kind) p = return_top p kind p.operands

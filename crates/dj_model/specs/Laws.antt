@@ -1,5 +1,5 @@
 -- Laws of the model.
-use Rattle.std.specs.Prelude.{◌≡◌, ℕ, List, ◌*◌, ◌<◌, [], ◌∷◌, length, Some, Contains, IsTrue, IsFalse}
+use Rattle.std.specs.Prelude.{◌≡◌, ℕ, Option, List, ◌*◌, ◌<◌, [], ◌∷◌, length, Some, Contains, IsTrue, IsFalse}
 use Rattle.dj_names.specs.declared.descriptor.Kind.TheVariants as kinds
 use Rattle.dj_names.specs.declared.run.Costs.{Costs}
 use Rattle.dj_names.specs.declared.run.Thresholds.{Thresholds}
@@ -23,20 +23,24 @@ HasOneEnd = (program : Program) (entry : MethodName) (input : List ℕ) (most : 
 abbrev pub KeepsKinds : Type 0
 KeepsKinds = (program : Program) (terms : Terms) (signature : Signature) (code : Code) (i : Instruction) (k left : Kinds) (p : Part)
     → IsFalse (asks_program i) → HasKinds p.locals p.operands k → length p.locals ≡ code.max_locals → after signature code i k ≡ Some left
-    → HasSoundEffect program terms code i left p
+    → HasSoundEffect program terms signature code i left p
 
 -- what an instruction that asks for nothing of the program does and is charged is the same in every program, on all terms of one limit
 abbrev pub IsSameInEveryProgram : Type 0
 IsSameInEveryProgram = (a b : Program) (m n : Terms) (i : Instruction) (p : Part) → IsFalse (asks_program i) → m.limit ≡ n.limit
     → (effect a m i p ≡ effect b n i p) × (own_amounts a (Some i) p.operands ≡ own_amounts b (Some i) p.operands)
 
--- code without shape is reported with one number
+-- code without shape is reported in one way
 abbrev pub HasOneShapeFault : Type 0
-HasOneShapeFault = (signature : Signature) (code : Code) (a b : ℕ) → IsShapeFault signature code a → IsShapeFault signature code b → a ≡ b
+HasOneShapeFault = (signature : Signature) (code : Code) (a b : Option ℕ) → IsShapeFault signature code a → IsShapeFault signature code b → a ≡ b
 
--- and code with shape with none
+-- and code with shape in none
 abbrev pub HasNoFaultWithShape : Type 0
-HasNoFaultWithShape = (signature : Signature) (code : Code) (n : ℕ) → HasShape signature code → IsShapeFault signature code n → ⊥
+HasNoFaultWithShape = (signature : Signature) (code : Code) (n : Option ℕ) → HasShape signature code → IsShapeFault signature code n → ⊥
+
+-- no code is without shape and without a fault
+abbrev pub HasShapeOrFault : Type 0
+HasShapeOrFault = (signature : Signature) (code : Code) → (HasShape signature code → ⊥) → ((n : Option ℕ) → IsShapeFault signature code n → ⊥) → ⊥
 
 -- a method that takes an array, whose code has shape, with no initialiser before it, no handlers and no stack map, in a program without fields;
 -- its instructions ask for nothing of the program, and neither jump nor throw an object

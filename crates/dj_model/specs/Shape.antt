@@ -1,6 +1,6 @@
 -- The shape of code: which kinds of values stand in the local variables and on the operands before each instruction
 -- (JVMS 4.10.1, kinds alone).
-use Rattle.std.specs.Prelude.{◌≡◌, ℕ, zero, suc, ◌+◌, ◌-◌, ◌<◌, ◌≤◌, ◌⊎◌, ⊤, Bool, true, false, List, [], ◌∷◌, length, set, Option, Some, None, Contains, slice_get, nat_lt, nat_le, if◌then◌else◌, IsTrue, IsFalse}
+use Rattle.std.specs.Prelude.{◌≡◌, ℕ, zero, suc, ◌+◌, ◌-◌, ◌<◌, ◌≤◌, ◌⊎◌, ⊤, Bool, true, false, List, [], ◌∷◌, length, set, Option, Some, None, Contains, IsSome, IsNone, slice_get, nat_lt, nat_le, if◌then◌else◌, IsTrue, IsFalse}
 use Rattle.dj_names.specs.declared.descriptor.Kind.{Kind}
 use Rattle.dj_names.specs.declared.descriptor.Kind.TheVariants as kinds
 use Rattle.dj_names.specs.Objects.{value_kind}
@@ -183,9 +183,14 @@ IsFrameOrFault signature code (Read placed) number = IsFirstFault signature code
 IsFrameOrFault signature code (Faulty at) number = number ≡ at
 IsFrameOrFault signature code NoMap number = ⊥
 
--- the number with which code without shape is reported: 0 where the parameters don't fit, else that of the instruction of the first frame that
--- tells no kinds, else that of the first instruction that doesn't hold; code whose stack map is none is reported without a number
-abbrev pub IsShapeFault : Signature → Code → ℕ → Type 0
-IsShapeFault signature code number =
+-- the number of a fault: 0 where the parameters don't fit, else that of the instruction of the first frame that tells no kinds, else that of the
+-- first instruction that doesn't hold
+abbrev pub IsNumberedFault : Signature → Code → ℕ → Type 0
+IsNumberedFault signature code number =
     ((ParametersFit signature code → ⊥) × (number ≡ 0))
     ⊎ (ParametersFit signature code × IsFrameOrFault signature code (frames_of signature code) number)
+
+-- how code without shape is reported: without a number where the code's stack map is none, else with the number of its fault
+abbrev pub IsShapeFault : Signature → Code → Option ℕ → Type 0
+IsShapeFault signature code None = IsNone code.frames
+IsShapeFault signature code (Some number) = IsSome code.frames × IsNumberedFault signature code number

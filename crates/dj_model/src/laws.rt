@@ -1,5 +1,5 @@
 ghost use Rattle.dj_model.specs.Rows.{WorkedRuns};
-ghost use Rattle.dj_model.specs.Laws.{HasOneEnd, KeepsKinds, IsSameInEveryProgram, HasOneShapeFault, HasNoFaultWithShape, StraightCodeEnds};
+ghost use Rattle.dj_model.specs.Laws.{HasOneEnd, KeepsKinds, IsSameInEveryProgram, HasOneShapeFault, HasNoFaultWithShape, HasShapeOrFault, StraightCodeEnds};
 
 /// A run ends in one way, at one cost.
 pub fn one_end()
@@ -16,14 +16,19 @@ pub fn same_in_every_program()
     ensures { IsSameInEveryProgram }
 {}
 
-/// Code without shape is reported with one number.
+/// Code without shape is reported in one way.
 pub fn one_shape_fault()
     ensures { HasOneShapeFault }
 {}
 
-/// Code with shape is reported with none.
+/// Code with shape is not reported.
 pub fn no_fault_with_shape()
     ensures { HasNoFaultWithShape }
+{}
+
+/// No code is without shape and without a fault.
+pub fn shape_or_fault()
+    ensures { HasShapeOrFault }
 {}
 
 /// The run of straight code with shape ends.

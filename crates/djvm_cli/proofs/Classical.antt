@@ -21,35 +21,6 @@ so p then none = p (λ x. none (then x))
 pub decide : (P : Type 0) → NotNot (P ⊎ (P → ⊥))
 decide P none = none (inr (λ p. none (inl p)))
 
--- ---- the least number of which a condition doesn't hold
-
-pub record IsLeast (P : ℕ → Type 0) (bound number : ℕ) : Type 0 where
-  pub within : number < bound
-  pub before : (other : ℕ) → other < number → P other
-  pub fault : P number → ⊥
-
-HoldBelow : (ℕ → Type 0) → ℕ → Type 0
-HoldBelow P bound = (n : ℕ) → n < bound → P n
-
-one_more : (P : ℕ → Type 0) (bound : ℕ) → HoldBelow P bound → P bound → HoldBelow P (suc bound)
-unfolding HoldBelow
-one_more P bound all last n lt =
-    elim (cases_lt n bound) [
-      | inl below ↦ all n below
-      | inr above ↦ let same : bound ≡ n = omega arith in subst P same last
-    ]
-
-pub all_or_least : (P : ℕ → Type 0) (bound : ℕ) → NotNot (((n : ℕ) → n < bound → P n) ⊎ ((n : ℕ) × IsLeast P bound n))
-unfolding HoldBelow
-all_or_least P zero = unit (inl (λ n lt. absurd (omega arith)))
-all_or_least P (suc bound) = bind (all_or_least P bound) (elim [
-  | inl all ↦ so (decide (P bound)) (elim [
-    | inl last ↦ inl (one_more P bound all last)
-    | inr not ↦ inr (bound, record { within = omega arith; before = all; fault = not })
-  ])
-  | inr (n, least) ↦ unit (inr (n, record { within = omega (arith, least.within); before = least.before; fault = least.fault }))
-])
-
 -- ---- lists of all that meet a condition
 
 module _ {X : Type 0} where

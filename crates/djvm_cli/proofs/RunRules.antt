@@ -53,7 +53,7 @@ own_fault path m v line =
     let same : code_view m ≡ line.code = cc in
     subst (λ (code : Code). IsShapeFault straight_signature code line.number) (sym same) line.fault
 
-own_line : (path : List ℕ) (m : StraightMethod) (n : ℕ) → IsShapeFault straight_signature (code_view m) n → (v : Violation) → (v ≡ shape_line path (method_view m) n) ↔ IsOwnShapeLine path m v
+own_line : (path : List ℕ) (m : StraightMethod) (n : Option ℕ) → IsShapeFault straight_signature (code_view m) n → (v : Violation) → (v ≡ shape_line path (method_view m) n) ↔ IsOwnShapeLine path m v
 own_line path m n fault v = (
   λ e. record { method = method_view m; own = (0, omega arith, refl); code = code_view m; runs = refl; number = n; fault = fault; line = e },
   λ line.
@@ -62,7 +62,7 @@ own_line path m n fault v = (
       ∙ ap (shape_line path (method_view m)) number,
 )
 
-pub adds_fault : (path : List ℕ) (m : StraightMethod) (n : ℕ) (a b : List Violation) → IsShapeFault straight_signature (code_view m) n → Adds (λ v. v ≡ shape_line path (method_view m) n) a b → Adds (IsOwnShapeLine path m) a b
+pub adds_fault : (path : List ℕ) (m : StraightMethod) (n : Option ℕ) (a b : List Violation) → IsShapeFault straight_signature (code_view m) n → Adds (λ v. v ≡ shape_line path (method_view m) n) a b → Adds (IsOwnShapeLine path m) a b
 adds_fault path m n a b fault = adds_same (λ v. v ≡ shape_line path (method_view m) n) (IsOwnShapeLine path m) a b (own_line path m n fault)
 
 pub adds_no_fault : (path : List ℕ) (m : StraightMethod) (a : List Violation) → IsShaped m → Adds (IsOwnShapeLine path m) a a

@@ -1,17 +1,16 @@
 -- Runs of straight sets: the lines of their rules, and the end of a run where there are none.
-use Rattle.std.proofs.Common.{◌≡◌, ℕ, ◌*◌, ◌<◌, ◌&&◌, ◌⊎◌, Bool, true, false, List, [], ◌∷◌, ◌++◌, length, Some, Contains, refl, sym, ap, ◌∙◌, subst, inl, inr, codes, arith}
+use Rattle.std.proofs.Common.{◌≡◌, ℕ, ◌*◌, ◌<◌, ◌&&◌, ◌⊎◌, Bool, true, false, List, [], ◌∷◌, ◌++◌, length, Option, Some, Contains, refl, sym, ap, ◌∙◌, subst, inl, inr, codes, arith}
 use Rattle.std.specs.List.{AllByRecursion}
-use Rattle.std.proofs.lemmas.Bool.{cases_lt}
 use Rattle.dj_edge.specs.Held.{File}
 use Rattle.dj_names.specs.declared.run.Outcome.{Outcome}
 use Rattle.dj_names.specs.declared.run.Costs.{Costs}
 use Rattle.dj_class.specs.ClassFile.{Constant, MemberInfo}
 use Rattle.dj_model.specs.Program.{Name, Program, HasNoFields, Class, Method, Code, Body, Abstract, Runs, same_name, method_in, body_code, code_in, code_of, runs_static}
-use Rattle.dj_model.specs.FrameKinds.{Signature, kind_slots, parameter_entries}
-use Rattle.dj_model.specs.Shape.{Holds, HasShape, IsShapeFault}
+use Rattle.dj_model.specs.FrameKinds.{Signature}
+use Rattle.dj_model.specs.Shape.{HasShape, IsShapeFault}
 use Rattle.dj_model.specs.Metered.{RunsTo}
 use Rattle.dj_model.specs.Laws.{IsStraightEntry}
-use Rattle.dj_model.proofs.Shapes.{has_shape, is_fault, one_shape_fault}
+use Rattle.dj_model.proofs.Shapes.{one_shape_fault, shape_or_fault as some_shape_or_fault}
 use Rattle.dj_model.proofs.Runs.{straight_code_ends}
 use Rattle.dj_report.specs.declared.report.Violation.{Violation}
 use Rattle.dj_report.proofs.Sorted.{contains_none, contains_first, contains_later}
@@ -23,7 +22,7 @@ use Rattle.djvm_cli.specs.Entry.{entry_method, has_entry, IsShapeLine, IsShapeLi
 use Rattle.djvm_cli.specs.Shaped.{shape_line}
 use Rattle.djvm_cli.proofs.Straights.{has_some, no_initialisers, not_entry_initialiser}
 use Rattle.djvm_cli.proofs.RunRules.{entry_is_there}
-use Rattle.djvm_cli.proofs.Classical.{NotNot, unit, bind, so, decide, all_or_least, IsFinite, finite_same, finite_none, finite_one, finite_if, finite_either, finite_among}
+use Rattle.djvm_cli.proofs.Classical.{NotNot, unit, bind, so, decide, IsFinite, finite_same, finite_none, finite_one, finite_if, finite_either, finite_among}
 use Rattle.djvm_cli.proofs.InsertedLines.{finite_in_order}
 
 -- ---- the lines of a run's rules
@@ -32,7 +31,7 @@ use Rattle.djvm_cli.proofs.InsertedLines.{finite_in_order}
 record IsLineOfMethod (path : List ℕ) (m : Method) (v : Violation) : Type 0 where
   code : Code
   runs : m.body ≡ Runs code
-  number : ℕ
+  number : Option ℕ
   fault : IsShapeFault straight_signature code number
   line : v ≡ shape_line path m number
 
@@ -44,7 +43,7 @@ no_code code e = absurd cc
 
 lines_of_body : (path : List ℕ) (m : Method) (body : Body) → m.body ≡ body → IsFinite (IsLineOfMethod path m)
 lines_of_body path m Abstract e = finite_none (IsLineOfMethod path m) (λ v is. no_code is.code (sym e ∙ is.runs))
-lines_of_body path m (Runs code) e = bind (decide ((number : ℕ) × IsShapeFault straight_signature code number)) (elim [
+lines_of_body path m (Runs code) e = bind (decide ((number : Option ℕ) × IsShapeFault straight_signature code number)) (elim [
   | inl (number, fault) ↦ finite_same (λ v. v ≡ shape_line path m number) (IsLineOfMethod path m)
       (λ v is. record { code = code; runs = e; number = number; fault = fault; line = is })
       (λ v is.
@@ -78,16 +77,9 @@ some_run_violations files program class =
 
 -- ---- shape
 
--- code without frames has shape, or it is told with a number
-shape_or_fault : (signature : Signature) (code : Code) → code.frames ≡ Some [] → NotNot (HasShape signature code ⊎ ((n : ℕ) × IsShapeFault signature code n))
-shape_or_fault signature code e =
-    elim (cases_lt code.max_locals (length (kind_slots (parameter_entries signature.parameters)))) [
-      | inl unfit ↦ unit (inr (0, inl ((λ fit. omega (arith, unfit, fit)), refl)))
-      | inr fit ↦ so (all_or_least (Holds signature code []) (length code.instructions)) (elim [
-        | inl all ↦ inl (has_shape signature code e fit all)
-        | inr (n, least) ↦ inr (n, is_fault signature code n e fit (record { within = least.within; before = least.before; fault = least.fault }))
-      ])
-    ]
+-- code has shape, or it is told how it is reported
+shape_or_fault : (signature : Signature) (code : Code) → NotNot (HasShape signature code ⊎ ((n : Option ℕ) × IsShapeFault signature code n))
+shape_or_fault signature code none = some_shape_or_fault signature code (λ shape. none (inl shape)) (λ n fault. none (inr (n, fault)))
 
 -- ---- methods of a straight set
 
@@ -142,7 +134,7 @@ record IsEntryCode (files : List File) (program : Program) (class : List ℕ) : 
   some : 0 < length code.instructions
   no_handlers : code.ranges ≡ []
   no_frames : code.frames ≡ Some []
-  told : (n : ℕ) → IsShapeFault straight_signature code n → (v : Violation) × IsShapeLineOf files program v
+  told : (n : Option ℕ) → IsShapeFault straight_signature code n → (v : Violation) × IsShapeLineOf files program v
 
 no_entry : (class : List ℕ) → has_entry [] class ≡ true → ⊥
 no_entry class e = absurd cc
@@ -213,7 +205,7 @@ pub some_end : (files : List File) (program : Program) (class input : List ℕ) 
     → NotNot ((outcome : Outcome) × (costs : Costs) × RunsTo program (entry_method class) input default_thresholds outcome costs)
 some_end files program class input straight none =
     let entry : IsEntryCode files program class = entry_code files program class straight (entry_is_there files program class none) in
-    so (shape_or_fault straight_signature entry.code entry.no_frames) (elim [
+    so (shape_or_fault straight_signature entry.code) (elim [
       | inl shape ↦ ends_with_shape files program class input straight entry shape
       | inr (n, fault) ↦ let line = entry.told n fault in absurd (contains_none line.0 ((none.all line.0).1 (inl line.1)))
     ])

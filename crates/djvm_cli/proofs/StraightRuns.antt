@@ -96,7 +96,7 @@ module _ (code : Code) (input : List ℕ) (most : Thresholds) (number : ℕ) (i 
   record Finds : Type 0 where
     left : Kinds
     found : after straight_signature code i reached.kinds ≡ Some left
-    sound : HasSoundEffect [] straight_terms code i left p
+    sound : HasSoundEffect [] straight_terms straight_signature code i left p
     last : suc number ≡ length code.instructions → IsTrue (ends i)
 
   finds : Finds
@@ -144,11 +144,11 @@ module _ (code : Code) (input : List ℕ) (most : Thresholds) (number : ℕ) (i 
       turns_more program most (2 * number) n (first_state program entry input) (state_at program entry input number p costs) (reached.reaches program entry plain) ∙ e
 
   -- the flow is sound where it goes on
-  goes_on : (next : Part) → straight_effect i p ≡ Some (goes next Next) → IsSoundFlow code i finds.left next Next
+  goes_on : (next : Part) → straight_effect i p ≡ Some (goes next Next) → IsSoundFlow straight_signature code i finds.left next Next
   goes_on next e =
       let both : Some finds.sound.0 ≡ Some (goes next Next) = sym finds.sound.1 ∙ e in
       let same : finds.sound.0 ≡ goes next Next = cc in
-      subst (λ (x : Effect). IsSoundFlow code i finds.left x.part x.flow) same finds.sound.2
+      subst (λ (x : Effect). IsSoundFlow straight_signature code i finds.left x.part x.flow) same finds.sound.2
 
   pub reached_next : (next : Part) (now : Costs) → TurnsDo most costs i p next (ways.Go now) → now.alloc ≤ most.alloc
       → Reached code input most (number + 1) next now

@@ -29,15 +29,15 @@ class_runs (Some c) = runs_static (method_in c.methods (codes "verify") straight
 abbrev pub has_entry : Program → List ℕ → Bool
 has_entry program class = class_runs (class_at program class)
 
--- rule 19, SHAPE: a line of a method whose code has no shape, at the instruction with which that is told
+-- rule 19, SHAPE: a line of a method whose code has no shape, with the number of an instruction or without one, as the fault has it
 pub record IsShapeLine (path : List ℕ) (methods : List Method) (v : Violation) : Type 0 where
   pub method : Method
   pub own : Contains methods method
   pub code : Code
   pub runs : method.body ≡ Runs code
-  pub number : ℕ
+  pub number : Option ℕ
   pub fault : IsShapeFault straight_signature code number
-  pub line : v ≡ record { path = path; member = method.name ++ method.desc; number = Some number; rule = 19 }
+  pub line : v ≡ record { path = path; member = method.name ++ method.desc; number = number; rule = 19 }
 
 -- the shape lines of the files, of which the program has the classes in the same order
 abbrev pub IsShapeLineOf : List File → Program → Violation → Type 0

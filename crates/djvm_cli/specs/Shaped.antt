@@ -25,14 +25,14 @@ abbrev pub AreShaped : Option StraightClass → Type 0
 AreShaped None = ⊤
 AreShaped (Some c) = All IsShaped c.methods.items
 
--- the method has shape, or it is told with which instruction it has none
+-- the method has shape, or it is told how it is reported that it has none
 abbrev pub IsTold : StraightMethod → Type 0
-IsTold m = IsShaped m ⊎ ((number : ℕ) × IsShapeFault straight_signature (code_view m) number)
+IsTold m = IsShaped m ⊎ ((number : Option ℕ) × IsShapeFault straight_signature (code_view m) number)
 
 abbrev pub AreTold : Option StraightClass → Type 0
 AreTold None = ⊤
 AreTold (Some c) = All IsTold c.methods.items
 
--- the line of a method that has no shape, with the number of an instruction
-abbrev pub shape_line : List ℕ → Method → ℕ → Violation
-shape_line path m number = record { path = path; member = m.name ++ m.desc; number = Some number; rule = 19 }
+-- the line of a method that has no shape
+abbrev pub shape_line : List ℕ → Method → Option ℕ → Violation
+shape_line path m number = record { path = path; member = m.name ++ m.desc; number = number; rule = 19 }

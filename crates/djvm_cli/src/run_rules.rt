@@ -86,7 +86,7 @@ fn add_shape_fault(
     method: &StraightMethod,
     number: u32,
 ) -> Result<(), RulesError>
-    ensures { OnOk result (Adds (λ v. v ≡ shape_line path.now (method_view method.now) number) out.old.items out.new.items) }
+    ensures { OnOk result (Adds (λ v. v ≡ shape_line path.now (method_view method.now) (Some number)) out.old.items out.new.items) }
 {
     let path = Name::from_slice(alloc, path.as_bytes())?;
     let mut member = Name::from_slice(alloc, method.name.as_slice())?;

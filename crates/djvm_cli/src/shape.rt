@@ -313,7 +313,7 @@ fn is_end(action: Action) -> bool
 pub fn shape_fault(alloc: Global, method: &StraightMethod) -> Result<Option<u32>, RulesError>
     requires { vec_len method.now.actions < 2 ^ 32 }
     ensures { IfOk result (λ fault. MatchOption fault (HasShape straight_signature (code_view method.now))
-        (λ number. IsShapeFault straight_signature (code_view method.now) number)) }
+        (λ number. IsShapeFault straight_signature (code_view method.now) (Some number))) }
 {
     if method.max_locals == 0 {
         return Ok(Some(0));

@@ -1,4 +1,4 @@
-use Rattle.std.proofs.Common.{arith}
+use Rattle.std.proofs.Common.{ℕ, Some, arith}
 use Rattle.std.proofs.lemmas.Option.{MatchOption-at_none, MatchOption-at_some}
 use Rattle.dj_model.specs.Shape.{IsShapeFault}
 use Rattle.djvm_cli.specs.Methods.{code_view, straight_signature}
@@ -13,11 +13,11 @@ shape_fault-requires c = omega (arith, c.requires, c.args.method.now.actions.ok.
 pub returns-in-Some-clause-lines : goal.returns-in-Some-clause-lines
 returns-in-Some-clause-lines c =
     on_ok c.add_shape_fault.result
-    (adds_fault c.args.path.now c.args.method.now c.in-Some.number c.args.out.now.items c.add_shape_fault.new.out.items
-    (MatchOption-at_some (IsShaped c.args.method.now) (IsShapeFault straight_signature (code_view c.args.method.now)) c.in-Some.number c.in-Some.is c.in_ok-number.ensures))
+    (adds_fault c.args.path.now c.args.method.now (Some c.in-Some.number) c.args.out.now.items c.add_shape_fault.new.out.items
+    (MatchOption-at_some (IsShaped c.args.method.now) (λ (number : ℕ). IsShapeFault straight_signature (code_view c.args.method.now) (Some number)) c.in-Some.number c.in-Some.is c.in_ok-number.ensures))
     c.add_shape_fault.ensures
 
 pub returns-in-None-clause-lines : goal.returns-in-None-clause-lines
 returns-in-None-clause-lines c =
     adds_no_fault c.args.path.now c.args.method.now c.args.out.now.items
-    (MatchOption-at_none (IsShaped c.args.method.now) (IsShapeFault straight_signature (code_view c.args.method.now)) c.in-None.is c.in_ok-number.ensures)
+    (MatchOption-at_none (IsShaped c.args.method.now) (λ (number : ℕ). IsShapeFault straight_signature (code_view c.args.method.now) (Some number)) c.in-None.is c.in_ok-number.ensures)
