@@ -1,5 +1,5 @@
 -- Runs of straight sets: the lines of their rules, and the end of a run where there are none.
-use Rattle.std.proofs.Common.{◌≡◌, ℕ, ◌*◌, ◌<◌, ◌&&◌, ◌⊎◌, Bool, true, false, List, [], ◌∷◌, ◌++◌, length, Option, Some, Contains, refl, sym, ap, ◌∙◌, subst, inl, inr, codes, arith}
+use Rattle.std.proofs.Common.{◌≡◌, ℕ, ◌*◌, ◌<◌, ◌&&◌, ◌⊎◌, Bool, true, false, List, [], ◌∷◌, ◌++◌, length, Option, Some, Contains, refl, sym, ap, ◌∙◌, subst, inl, inr, codes}
 use Rattle.std.specs.List.{AllByRecursion}
 use Rattle.dj_edge.specs.Held.{File}
 use Rattle.dj_names.specs.declared.run.Outcome.{Outcome}
@@ -22,7 +22,7 @@ use Rattle.djvm_cli.specs.Entry.{entry_method, has_entry, IsShapeLine, IsShapeLi
 use Rattle.djvm_cli.specs.Shaped.{shape_line}
 use Rattle.djvm_cli.proofs.Straights.{has_some, no_initialisers, not_entry_initialiser}
 use Rattle.djvm_cli.proofs.RunRules.{entry_is_there}
-use Rattle.djvm_cli.proofs.Classical.{NotNot, unit, bind, so, decide, IsFinite, finite_same, finite_none, finite_one, finite_if, finite_either, finite_among}
+use Rattle.djvm_cli.proofs.Classical.{NotNot, bind, so, decide, IsFinite, finite_same, finite_none, finite_one, finite_if, finite_either, finite_among}
 use Rattle.djvm_cli.proofs.InsertedLines.{finite_in_order}
 
 -- ---- the lines of a run's rules

@@ -76,6 +76,66 @@ const LESS: [Action; 13] = [
     ARETURN,
 ];
 
+// 511, 256, -129 and 128 in an array of four bytes.
+const LOW_BYTES: [Action; 19] = [
+    Action::Push(Value::Int(4)),
+    Action::NewByteArray,
+    Action::Dup,
+    Action::Push(Value::Int(0)),
+    Action::Push(Value::Int(511)),
+    Action::StoreByte,
+    Action::Dup,
+    Action::Push(Value::Int(1)),
+    Action::Push(Value::Int(256)),
+    Action::StoreByte,
+    Action::Dup,
+    Action::Push(Value::Int(2)),
+    Action::Push(Value::Int(-129)),
+    Action::StoreByte,
+    Action::Dup,
+    Action::Push(Value::Int(3)),
+    Action::Push(Value::Int(128)),
+    Action::StoreByte,
+    ARETURN,
+];
+
+// 511 in an array of one byte, and then what that byte and 1 are together.
+const LOW_BYTE_AND_ONE: [Action; 17] = [
+    Action::Push(Value::Int(1)),
+    Action::NewByteArray,
+    Action::Store(Kind::Ref, 1),
+    Action::Load(Kind::Ref, 1),
+    Action::Push(Value::Int(0)),
+    Action::Push(Value::Int(511)),
+    Action::StoreByte,
+    Action::Load(Kind::Ref, 1),
+    Action::Push(Value::Int(0)),
+    Action::Load(Kind::Ref, 1),
+    Action::Push(Value::Int(0)),
+    Action::LoadByte,
+    Action::Push(Value::Int(1)),
+    Action::Compute(IntOperation::Add),
+    Action::StoreByte,
+    Action::Load(Kind::Ref, 1),
+    ARETURN,
+];
+
+// The same, as the length of another array.
+const LENGTH_OF_LOW_BYTE_AND_ONE: [Action; 12] = [
+    Action::Push(Value::Int(1)),
+    Action::NewByteArray,
+    Action::Dup,
+    Action::Push(Value::Int(0)),
+    Action::Push(Value::Int(511)),
+    Action::StoreByte,
+    Action::Push(Value::Int(0)),
+    Action::LoadByte,
+    Action::Push(Value::Int(1)),
+    Action::Compute(IntOperation::Add),
+    Action::NewByteArray,
+    ARETURN,
+];
+
 fn ends<R: Abort>(
     rt: &R,
     alloc: Global,
@@ -104,6 +164,16 @@ fn returned_bytes(rt: HostRuntime) -> Result<(), Fail> {
     ends(&rt, alloc, &LESS, &[251], 23, (b"stopped", 24))?;
     let class = b"java/lang/ArrayIndexOutOfBoundsException";
     ends(&rt, alloc, &LESS, &[], 24, (class, 0))?;
+    Ok(())
+}
+
+// A byte has the low 8 bits of an int, and a sign: 511 is 0x1ff, so its byte is 255, which is -1.
+#[test]
+fn bastore_keeps_the_low_byte_alone(rt: HostRuntime) -> Result<(), Fail> {
+    let alloc = rt.alloc();
+    ends(&rt, alloc, &LOW_BYTES, &[], 24, (&[255, 0, 127, 128], 24))?;
+    ends(&rt, alloc, &LOW_BYTE_AND_ONE, &[], 24, (&[0], 24))?;
+    ends(&rt, alloc, &LENGTH_OF_LOW_BYTE_AND_ONE, &[], 40, (&[], 40))?;
     Ok(())
 }
 
