@@ -8,3 +8,4 @@ mod Opcodes
 mod Facts
 mod FrameFacts
 mod ShapeFacts
+mod RunFacts

@@ -1,5 +1,5 @@
 -- The kinds that the frames of a code's stack map tell (JVMS 4.7.4 and 4.10.1.6, kinds alone).
-use Rattle.std.specs.Prelude.{ℕ, ◌-◌, ◌&&◌, List, [], ◌∷◌, ◌++◌, length, reverse, take, replicate, sum_by, Option, Some, None, slice_get, nat_eq, nat_le, if◌then◌else◌}
+use Rattle.std.specs.Prelude.{ℕ, Bool, true, false, ◌-◌, ◌&&◌, List, [], ◌∷◌, ◌++◌, length, reverse, take, replicate, sum_by, Option, Some, None, slice_get, nat_eq, nat_le, if◌then◌else◌}
 use Rattle.dj_names.specs.declared.descriptor.Kind.{Kind}
 use Rattle.dj_names.specs.declared.descriptor.Kind.TheVariants as kinds
 use Rattle.dj_model.specs.Program.{Code}
@@ -37,9 +37,13 @@ pub data Entry : Type 0 where
   -- nothing: floats and doubles have no kind, and what no instruction makes has none
   NoEntry : Entry
 
+abbrev pub made_if : Bool → Entry
+made_if true = Of (Some kinds.Ref)
+made_if false = NoEntry
+
 abbrev pub made_by : Option Instruction → Entry
 made_by None = NoEntry
-made_by (Some i) = if makes_uninitialised i then Of (Some kinds.Ref) else NoEntry
+made_by (Some i) = made_if (makes_uninitialised i)
 
 abbrev pub entry_of : Code → VerificationType → Entry
 entry_of code Top = Of None

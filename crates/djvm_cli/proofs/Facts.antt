@@ -1,8 +1,12 @@
 -- The limits, the thresholds and the reserved packages in plain values.
-use Rattle.std.specs.Prelude.{◌≡◌, true, false, [], ◌∷◌, map, codes}
+use Rattle.std.specs.Prelude.{◌≡◌, ℕ, true, false, List, [], ◌∷◌, ◌++◌, Some, None, map, codes}
 use Rattle.std.proofs.Common.{refl}
+use Rattle.dj_edge.specs.Held.{Held}
 use Rattle.djvm_cli.specs.Limits.{most_files, most_file_bytes, most_total_bytes, most_input_bytes, default_thresholds}
 use Rattle.djvm_cli.specs.Straight.{is_reserved}
+use Rattle.djvm_cli.specs.Job.{Check, Verify}
+use Rattle.djvm_cli.specs.Report.{class_paths, asks}
+use Rattle.djvm_cli.specs.Ends.{report_statuses, AsksInOrder}
 
 files : most_files ≡ 4096
 files = refl
@@ -25,3 +29,29 @@ reserved = refl
 -- a package is reserved by its whole name, and only at the start
 not_reserved : map is_reserved (codes "javas/A" ∷ codes "sandbox" ∷ codes "A" ∷ codes "my/java/A" ∷ []) ≡ false ∷ false ∷ false ∷ false ∷ []
 not_reserved = refl
+
+-- ---- what a job asks, and its statuses
+
+verify_words : List (List ℕ)
+verify_words = codes "verify" ∷ codes "c/" ∷ codes "A" ∷ codes "in" ∷ []
+
+asked_of_verify : (held : Held) → asks verify_words held ≡ codes "c" ∷ codes "in" ∷ class_paths (codes "c") held
+unfolding verify_words
+asked_of_verify held = refl
+
+asked_of_check : (held : Held) → asks (codes "check" ∷ codes "c" ∷ []) held ≡ codes "c" ∷ class_paths (codes "c") held
+asked_of_check held = refl
+
+-- words of no job ask nothing
+asks_nothing : (held : Held) → AsksInOrder [] (Some held) [] (codes "c" ∷ []) → ⊥
+asks_nothing held grows =
+    let none : [] ≡ grows.0 ++ grows.1.0 = grows.1.1 in
+    let some : codes "c" ∷ [] ≡ grows.0 = grows.2 in
+    none_is_some grows.0 grows.1.0 none some where
+      none_is_some : (front rest : List (List ℕ)) → [] ≡ front ++ rest → codes "c" ∷ [] ≡ front → ⊥
+      none_is_some [] rest none some = absurd cc
+      none_is_some (x ∷ front) rest none some = absurd cc
+
+statuses : map report_statuses (None ∷ Some (Check []) ∷ Some (Verify [] [] []) ∷ [])
+    ≡ (64 ∷ []) ∷ (0 ∷ 2 ∷ 7 ∷ 75 ∷ []) ∷ (0 ∷ 1 ∷ 2 ∷ 3 ∷ 7 ∷ 65 ∷ 75 ∷ []) ∷ []
+statuses = refl

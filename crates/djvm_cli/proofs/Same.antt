@@ -24,7 +24,8 @@ use Rattle.djvm_cli.specs.Limits.{most_files, most_file_bytes, most_total_bytes,
 use Rattle.dj_rules.specs.Built.{IsBuilt, IsFirstUnbuilt}
 use Rattle.djvm_cli.specs.Report.{AreSound, IsFirstPath, IsLater, AreJobViolations, IsRun, IsInput, IsTooLongInput, IsReportOf, IsVerdict, IsInputReport, IsFewReport, IsRunReport, IsJobReport, files_within}
 use Rattle.dj_rules.specs.Violations.{AreViolations}
-use Rattle.djvm_cli.specs.OneReport.{HasOneReport, HasOneEnd}
+use Rattle.dj_edge.specs.Counts.{IsFront}
+use Rattle.djvm_cli.specs.OneReport.{HasOneReport, HasOneEnd, HasOneFront}
 
 -- ---- two places of one list
 
@@ -418,3 +419,8 @@ same_end words held a b old_a new_a old_b new_b first second =
       first = first.written;
       second = subst (λ r. Appends old_b new_b (report_text r)) (sym same) second.written;
     }
+
+pub same_front : HasOneFront
+same_front words held report old new right broken =
+    let same : broken.report ≡ report = same_report words held broken.report report broken.right right in
+    (broken.front, subst (λ (r : Report). IsFront broken.front (report_text r)) same broken.is_front, broken.written)

@@ -3,8 +3,9 @@ use Rattle.std.specs.Prelude.{◌≡◌, ℕ, List, Option, Some}
 use Rattle.std.specs.Io.KnownBytes.{Appends}
 use Rattle.dj_edge.specs.Held.{Held}
 use Rattle.dj_report.specs.declared.report.Report.{Report}
+use Rattle.dj_report.specs.Text.{report_text}
 use Rattle.djvm_cli.specs.Report.{IsReport}
-use Rattle.djvm_cli.specs.Ends.{Finished}
+use Rattle.djvm_cli.specs.Ends.{Finished, Broken, WritesFront}
 
 -- two right reports are one
 abbrev pub HasOneReport : Type 0
@@ -25,3 +26,8 @@ pub record IsSameEnd (a b : ℕ) (old_a new_a old_b new_b : Option (List ℕ)) :
 abbrev pub HasOneEnd : Type 0
 HasOneEnd = (words : List (List ℕ)) (held : Held) (a b : ℕ) (old_a new_a old_b new_b : Option (List ℕ))
     → Finished words (Some held) a old_a new_a → Finished words (Some held) b old_b new_b → IsSameEnd a b old_a new_a old_b new_b
+
+-- what a call wrote that the sink or want of memory broke off is a front of the right report's text
+abbrev pub HasOneFront : Type 0
+HasOneFront = (words : List (List ℕ)) (held : Held) (report : Report) (old new : Option (List ℕ))
+    → IsReport words held report → Broken words (Some held) old new → WritesFront old new (report_text report)

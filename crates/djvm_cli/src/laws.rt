@@ -1,4 +1,4 @@
-ghost use Rattle.djvm_cli.specs.OneReport.{HasOneReport, HasSomeReport, HasOneEnd};
+ghost use Rattle.djvm_cli.specs.OneReport.{HasOneFront, HasOneReport, HasSomeReport, HasOneEnd};
 
 /// The words and what is held have at most one report.
 pub fn one_report()
@@ -13,4 +13,9 @@ pub fn some_report()
 /// Two finished calls with the same words on the same files write the same and answer the same.
 pub fn one_end()
     ensures { HasOneEnd }
+{}
+
+/// What a call wrote that the sink or want of memory broke off is a front of the right report's text.
+pub fn one_front()
+    ensures { HasOneFront }
 {}

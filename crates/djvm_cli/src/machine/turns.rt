@@ -89,7 +89,7 @@ impl Machine {
         requires costs { costs.alloc ≤ 1073741824 }
         ensures turns { IfOk result (TurnsDo most.now costs (action_view action) (machine_view self.old) (machine_view self.new)) }
         ensures within { costs.alloc ≤ most.now.alloc → IfOk result (GoesWithin most.now) }
-        // A charge that passes its threshold stops the run before the instruction takes any memory.
+        // A charge that passes its threshold stops the run before the machine changes, and want of memory can't come in its place.
         ensures stopped { (now : Costs) → paid most.now costs (straight_amounts (action_view action) self.old.operands) ≡ Exceeds Alloc now
             → (machine_view self.new ≡ machine_view self.old) × (result ≡ Ok (turns.End (record { outcome = Stopped Alloc; costs = now }))) }
     {
