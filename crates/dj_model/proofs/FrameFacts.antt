@@ -1,5 +1,5 @@
 -- What frames tell, what instructions leave, and what flows into what, each written by hand (JVMS 4.7.4 and 4.10.1).
-use Rattle.std.proofs.Common.{◌≡◌, ℕ, ◌<◌, true, false, pos, List, [], ◌∷◌, map, replicate, Option, Some, None, codes, refl, ap, Contains, length, arith}
+use Rattle.std.proofs.Common.{◌≡◌, ℕ, ◌<◌, true, false, pos, List, [], ◌∷◌, map, replicate, Option, Some, None, codes, refl, ap, length, arith}
 use Rattle.dj_names.specs.declared.descriptor.Kind.{Kind}
 use Rattle.dj_names.specs.declared.descriptor.Kind.TheVariants as kinds
 use Rattle.dj_names.specs.declared.run.Value.TheVariants as values
@@ -9,7 +9,7 @@ use Rattle.dj_model.specs.Instructions.{Instruction, Nop, Push, Load, Store, Loa
 use Rattle.dj_model.specs.StackMaps.{VerificationType, Top, Integer, Float, Double, Long, Null, UninitializedThis, Object, Uninitialized, FrameForm, Same, Stack1, Chop, Append, Full, StackMapFrame}
 use Rattle.std.specs.Prelude.{⊤}
 use Rattle.dj_model.specs.FrameKinds.{Signature, Kinds, kind_slots, depth, Of, NoEntry, entry_of, entries_of, stack_of, Entries, form_entries, padded, fitting, Placed, Read, Faulty, NoMap, frames_after, frames_of, parameter_entries, placed_at}
-use Rattle.dj_model.specs.Shape.{same_result, after, LocalsFlow, FlowsInto, FlowsTo, TellsOr, StateBefore, IsHandlerFrame, LocalsFlowTo, Holds}
+use Rattle.dj_model.specs.Shape.{same_result, after, LocalsFlow, FlowsInto, FlowsTo, FlowsToEach, TellsOr, StateBefore, IsHandlerFrame, LocalsFlowTo, Holds}
 use Rattle.dj_names.specs.declared.run.Raised.TheVariants as raises
 use Rattle.dj_model.specs.Effects.{Part, Flow, Next, To, Raise, Throw, Back, Broken, Full as HeapFull, effect}
 use Rattle.dj_model.specs.Sound.{LocalsHave, HasKinds, LeavesKinds, IsSoundFlow, HasSoundEffect}
@@ -601,7 +601,32 @@ before_first_framed = refl
 not_before_first_framed : StateBefore reference_in two_nops (placed 0 [] [] ∷ []) 0 reference_alone → ⊥
 not_before_first_framed h = let e : Some kinds.Ref ∷ None ∷ None ∷ [] ≡ [] = ap (λ (k : Kinds). k.locals) h in absurd cc
 
--- a jump's target has a frame, into which it flows
-jumps_to_frame : (signature : Signature) (code : Code) (p : List Placed) (number target : ℕ) (h : Holds signature code p number) → Contains (targets h.instruction) target
-    → (found : Kinds) × (placed_at p target ≡ Some found) × FlowsInto h.left found
-jumps_to_frame signature code p number target h contains = h.jumps target contains
+-- ---- jumps
+
+abbrev two_placed : List Placed
+two_placed = placed 1 [] (kinds.Int ∷ []) ∷ placed 4 (Some kinds.Ref ∷ None ∷ []) (kinds.Int ∷ []) ∷ []
+
+-- each target has a frame, into which what is left flows
+flows_to_both : FlowsToEach (kinds_of (Some kinds.Ref ∷ Some kinds.Int ∷ []) (kinds.Int ∷ [])) two_placed (4 ∷ 1 ∷ [])
+flows_to_both = (((refl, tt), refl), ((tt, refl), tt))
+
+flows_to_none : FlowsToEach (kinds_of [] []) [] []
+flows_to_none = tt
+
+-- the first or the second target has no frame, or one into which it doesn't flow
+no_frame_first : FlowsToEach (kinds_of [] (kinds.Int ∷ [])) two_placed (2 ∷ 1 ∷ []) → ⊥
+no_frame_first h = h.0
+
+no_frame_second : FlowsToEach (kinds_of [] (kinds.Int ∷ [])) two_placed (1 ∷ 2 ∷ []) → ⊥
+no_frame_second h = h.1.0
+
+other_operands_second : FlowsToEach (kinds_of [] []) (placed 1 [] [] ∷ placed 2 [] (kinds.Int ∷ []) ∷ []) (1 ∷ 2 ∷ []) → ⊥
+other_operands_second h = let e : [] ≡ kinds.Int ∷ [] = h.1.0.1 in absurd cc
+
+lacks_local : FlowsToEach (kinds_of (None ∷ None ∷ []) (kinds.Int ∷ [])) two_placed (4 ∷ []) → ⊥
+lacks_local h = let e : None ≡ Some kinds.Ref = h.0.0.0 in absurd cc
+
+-- an instruction flows to all its targets
+jumps_to_each : (signature : Signature) (code : Code) (p : List Placed) (number : ℕ) (h : Holds signature code p number)
+    → FlowsToEach h.left p (targets h.instruction)
+jumps_to_each signature code p number h = h.jumps

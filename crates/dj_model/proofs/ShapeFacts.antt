@@ -64,7 +64,7 @@ module _ (signature : Signature) (code : Code) (placed : List Placed) where
     last = λ e. absurd (omega arith);
     begins = λ e. first;
     goes_on = λ e. flows;
-    jumps = λ target contains. absurd (omega arith);
+    jumps = tt;
     handles = handled.handles;
     handled = handled.handled;
   }
@@ -82,7 +82,7 @@ module _ (signature : Signature) (code : Code) (placed : List Placed) where
     last = λ e. ended;
     begins = λ e. first;
     goes_on = λ e. let both : true ≡ false = sym ended ∙ e in absurd cc;
-    jumps = λ target contains. absurd (omega arith);
+    jumps = tt;
     handles = handled.handles;
     handled = handled.handled;
   }

@@ -236,7 +236,7 @@ load_element p access _ = None
 abbrev pub with_object : Heap → ℕ → Object → Heap
 with_object heap r object = record heap { objects = set heap.objects (r - 1) object }
 
--- what a store of the value in an array of the class raises: of a number it is nothing
+-- what a store of the value in an array of the class raises: of a number it is nothing, and only numbers are stored so far
 abbrev pub store_raises : Program → Terms → List Object → Name → Value → Option Raised
 store_raises program terms objects class v = None
 

@@ -138,7 +138,7 @@ targets i = []
 abbrev pub throws : Instruction → Bool
 throws i = false
 
--- it makes an object of a class, which has to be initialised by one of its methods (JVMS 4.10.1.4); of those that run so far none does
+-- it makes an object of a class, which has to be initialised by one of its methods (JVMS 4.10.2.4); of those that run so far none does
 abbrev pub makes_uninitialised : Instruction → Bool
 makes_uninitialised i = false
 

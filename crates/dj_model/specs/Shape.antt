@@ -123,6 +123,16 @@ abbrev pub FlowsTo : Kinds → Option Kinds → Type 0
 FlowsTo left None = ⊤
 FlowsTo left (Some told) = FlowsInto left told
 
+-- the same, where there has to be one
+abbrev pub FlowsToFrame : Kinds → Option Kinds → Type 0
+FlowsToFrame left None = ⊥
+FlowsToFrame left (Some told) = FlowsInto left told
+
+-- each of these instructions has a frame, into which the run may go on
+abbrev pub FlowsToEach : Kinds → List Placed → List ℕ → Type 0
+FlowsToEach left placed [] = ⊤
+FlowsToEach left placed (target ∷ others) = FlowsToFrame left (placed_at placed target) × FlowsToEach left placed others
+
 abbrev pub TellsOr : Option Kinds → Kinds → Type 0 → Type 0
 TellsOr None k otherwise = otherwise
 TellsOr (Some told) k otherwise = k ≡ told
@@ -157,7 +167,7 @@ pub record Holds (signature : Signature) (code : Code) (placed : List Placed) (n
   -- the parameters flow into a frame of the first instruction
   pub begins : number ≡ 0 → FlowsTo (first_kinds signature code) (placed_at placed 0)
   pub goes_on : IsFalse (ends instruction) → FlowsTo left (placed_at placed (suc number))
-  pub jumps : (target : ℕ) → Contains (targets instruction) target → (told : Kinds) × (placed_at placed target ≡ Some told) × FlowsInto left told
+  pub jumps : FlowsToEach left placed (targets instruction)
   -- the first instruction of a handler has a handler's frame, and the local variables of the instructions in its range flow into it
   pub handles : (range : Range) → Contains code.ranges range → number ≡ range.handler → IsHandlerFrame (placed_at placed number)
   pub handled : (range : Range) → Contains code.ranges range → range.start ≤ number → number < range.end

@@ -1,4 +1,4 @@
--- The limits, the thresholds and the reserved packages in plain values.
+-- The limits, the thresholds, the reserved packages, what is asked and the statuses of reports in plain values.
 use Rattle.std.specs.Prelude.{◌≡◌, ℕ, true, false, List, [], ◌∷◌, ◌++◌, Some, None, map, codes}
 use Rattle.std.proofs.Common.{refl}
 use Rattle.dj_edge.specs.Held.{Held}

@@ -89,9 +89,6 @@ after_room s method i k h =
 
 -- ---- one instruction
 
-no_element : {A : Type 0} (n : ℕ) → n < 0 → A
-no_element n below = absurd (omega arith)
-
 no_range : {A : Type 0} (code : Code) (range : Range) → code.ranges ≡ [] → Contains code.ranges range → A
 no_range code range none has =
     let some : has.0 < length code.ranges = has.1 in
@@ -113,7 +110,7 @@ answers code number i k left none state at found last = (
     last = last;
     begins = λ first. tt;
     goes_on = λ going. tt;
-    jumps = λ target to. no_element to.0 to.1;
+    jumps = tt;
     handles = λ range has here. no_range code range none has;
     handled = λ range has from below. no_range code range none has;
   },

@@ -99,28 +99,7 @@ const LOW_BYTES: [Action; 19] = [
     ARETURN,
 ];
 
-// 511 in an array of one byte, and then what that byte and 1 are together.
-const LOW_BYTE_AND_ONE: [Action; 17] = [
-    Action::Push(Value::Int(1)),
-    Action::NewByteArray,
-    Action::Store(Kind::Ref, 1),
-    Action::Load(Kind::Ref, 1),
-    Action::Push(Value::Int(0)),
-    Action::Push(Value::Int(511)),
-    Action::StoreByte,
-    Action::Load(Kind::Ref, 1),
-    Action::Push(Value::Int(0)),
-    Action::Load(Kind::Ref, 1),
-    Action::Push(Value::Int(0)),
-    Action::LoadByte,
-    Action::Push(Value::Int(1)),
-    Action::Compute(IntOperation::Add),
-    Action::StoreByte,
-    Action::Load(Kind::Ref, 1),
-    ARETURN,
-];
-
-// The same, as the length of another array.
+// 511 in an array of one byte, and then an array of as many bytes as that byte and 1 are together.
 const LENGTH_OF_LOW_BYTE_AND_ONE: [Action; 12] = [
     Action::Push(Value::Int(1)),
     Action::NewByteArray,
@@ -172,7 +151,6 @@ fn returned_bytes(rt: HostRuntime) -> Result<(), Fail> {
 fn bastore_keeps_the_low_byte_alone(rt: HostRuntime) -> Result<(), Fail> {
     let alloc = rt.alloc();
     ends(&rt, alloc, &LOW_BYTES, &[], 24, (&[255, 0, 127, 128], 24))?;
-    ends(&rt, alloc, &LOW_BYTE_AND_ONE, &[], 24, (&[0], 24))?;
     ends(&rt, alloc, &LENGTH_OF_LOW_BYTE_AND_ONE, &[], 40, (&[], 40))?;
     Ok(())
 }
