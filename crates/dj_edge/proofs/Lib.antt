@@ -2,4 +2,5 @@ pub mod Growth
 pub mod Pairs
 pub mod Sorting
 pub mod Listings
+pub mod Lists
 mod Lookup

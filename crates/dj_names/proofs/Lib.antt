@@ -3,4 +3,3 @@ pub mod NameLaws
 pub mod TypeLaws
 pub mod DescLaws
 pub mod TestLaws
-pub mod Facts

@@ -5,4 +5,3 @@ pub mod UnitReading
 pub mod NameReading
 pub mod DescReading
 pub mod Tests
-pub mod Objects

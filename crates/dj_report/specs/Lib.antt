@@ -3,3 +3,4 @@ pub mod OrderLaws
 pub mod Outcomes
 pub mod Parts
 pub mod Text
+pub mod Stages

@@ -1,9 +1,8 @@
--- The limits, the thresholds, the reserved packages, what is asked and the statuses of reports in plain values.
-use Rattle.std.specs.Prelude.{◌≡◌, ℕ, true, false, List, [], ◌∷◌, ◌++◌, Some, None, map, codes}
+-- The limits, the thresholds, what is asked and the statuses of reports in plain values.
+use Rattle.std.specs.Prelude.{◌≡◌, ℕ, List, [], ◌∷◌, ◌++◌, Some, None, map, codes}
 use Rattle.std.proofs.Common.{refl}
 use Rattle.dj_edge.specs.Held.{Held}
-use Rattle.djvm_cli.specs.Limits.{most_files, most_file_bytes, most_total_bytes, most_input_bytes, default_thresholds}
-use Rattle.djvm_cli.specs.Straight.{is_reserved}
+use Rattle.dj_sandbox.specs.Limits.{most_files, most_file_bytes, most_total_bytes, most_input_bytes, default_thresholds}
 use Rattle.djvm_cli.specs.Job.{Check, Verify}
 use Rattle.djvm_cli.specs.Report.{class_paths, asks}
 use Rattle.djvm_cli.specs.Ends.{report_statuses, AsksInOrder}
@@ -22,13 +21,6 @@ input_bytes = refl
 
 thresholds : default_thresholds ≡ record { alloc = 67108864; invoke = 1000000; jump = 1000000; throw = 1000000 }
 thresholds = refl
-
-reserved : map is_reserved (codes "sandbox/A" ∷ codes "java/A" ∷ codes "javax/A" ∷ []) ≡ true ∷ true ∷ true ∷ []
-reserved = refl
-
--- a package is reserved by its whole name, and only at the start
-not_reserved : map is_reserved (codes "javas/A" ∷ codes "sandbox" ∷ codes "A" ∷ codes "my/java/A" ∷ []) ≡ false ∷ false ∷ false ∷ false ∷ []
-not_reserved = refl
 
 -- ---- what a job asks, and its statuses
 

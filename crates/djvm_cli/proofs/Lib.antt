@@ -1,25 +1,8 @@
-pub mod ArrayLaws
-pub mod StraightRuns
-pub mod Linked
-pub mod Known
 pub mod Folders
 pub mod Loading
-pub mod Judging
 pub mod Reporting
-pub mod RunReporting
 pub mod Same
-pub mod Shaping
 pub mod EachOnce
-pub mod RunRules
-pub mod Entries
-pub mod StraightCode
-pub mod StraightNames
-pub mod PushedNulls
-pub mod Straights
-pub mod Facts
-pub mod Classical
-pub mod InsertedLines
-pub mod SomeLines
 pub mod SomeLimits
-pub mod SomeRun
 pub mod SomeReport
+mod Facts

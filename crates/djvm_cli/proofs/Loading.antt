@@ -20,11 +20,11 @@ use Rattle.djvm_cli.specs.declared.load.SourceFile.{SourceFile}
 use Rattle.djvm_cli.specs.declared.load.NextFile.{NextFile}
 use Rattle.djvm_cli.specs.declared.load.NextFile.TheVariants as next_files
 use Rattle.djvm_cli.specs.declared.load.Loaded.TheVariants as loads
-use Rattle.djvm_cli.specs.Limits.{most_file_bytes, most_total_bytes, total_bytes, AreWithin}
+use Rattle.dj_sandbox.specs.Limits.{most_file_bytes, most_total_bytes, total_bytes, AreWithin}
 use Rattle.djvm_cli.specs.Steps.{files_at, IsLoaded}
 use Rattle.djvm_cli.specs.Next.{IsNextRead, IsNext}
 use Rattle.djvm_cli.specs.Views.{source_view}
-use Rattle.djvm_cli.proofs.Known.{both_told}
+use Rattle.dj_edge.proofs.Lists.{both_told, All-unmap, mapped_at, mapped_more}
 
 -- ---- listing
 
@@ -63,11 +63,6 @@ listed_all {Z} (Some h) folder found paths listing few moved sorted =
     let short : length texts ≤ 4096 = omega arith in
     sorted_listing folder h 4097 found paths listing (few_in folder h texts listing short) moved sorted
 
-pub All-unmap : {X Y : Type 0} (f : X → Y) (P : Y → Type 0) (xs : List X) → All P (map f xs) → All (λ x. P (f x)) xs
-All-unmap f P xs all k d within =
-    let inside : k < length (map f xs) = omega (arith, length-map xs f) in
-    subst P (get_or-map f xs k d (f d) within) (all k (f d) inside)
-
 -- a sort keeps what holds of each path
 pub moved_class_paths : {Z : Type 0} (folder : List ℕ) (found paths : List (String Z)) → All (λ path. IsTrue (is_class_path folder path)) (map string_bytes found)
     → IsPermutation found paths → All (λ path. IsTrue (is_class_path folder (string_bytes path))) paths
@@ -76,16 +71,6 @@ moved_class_paths {Z} folder found paths all moved =
     (All-permutation (λ path. IsTrue (is_class_path folder path)) (map string_bytes found) (map string_bytes paths) (IsPermutation-map string_bytes found paths moved) all)
 
 -- ---- a step of the reading loop
-
--- the item at i of a list, under a function
-pub mapped_at : {X Y : Type 0} (f : X → Y) (xs : List X) (i : ℕ) (x : X) → i < length xs → x ≡ get_or xs i x → get_or (map f xs) i (f x) ≡ f x
-mapped_at f xs i x within is = get_or-map f xs i x (f x) within ∙ ap f (sym is)
-
-pub mapped_more : {X Y : Type 0} (f : X → Y) (xs : List X) (i : ℕ) (x : X) (ys : List Y) → i < length xs → x ≡ get_or xs i x → ys ≡ take i (map f xs)
-    → ys ++ f x ∷ [] ≡ take (i + 1) (map f xs)
-mapped_more f xs i x ys within is so_far =
-    let inside : i < length (map f xs) = omega (arith, length-map xs f) in
-    sym (take_more (map f xs) i (f x) inside ∙ ap (λ y. take i (map f xs) ++ y ∷ []) (mapped_at f xs i x within is) ∙ ap (λ l. l ++ f x ∷ []) (sym so_far))
 
 -- what was asked so far, and one more path
 pub asked_more : {X Y : Type 0} (f : X → Y) (xs : List X) (i : ℕ) (x : X) (y : Y) (old mid new : List Y) → i < length xs → x ≡ get_or xs i x → y ≡ f x

@@ -1,28 +1,35 @@
 -- From the steps of a job to its report.
-use Rattle.std.proofs.Common.{◌≡◌, ℕ, ◌+◌, ◌<◌, ◌≤◌, List, [], ◌∷◌, length, map, All, IsTrue, Option, Some, IsSome, IfSome, string_bytes, vec_len, unwrap_or, refl, sym, ap, ◌∙◌, subst, arith}
+use Rattle.std.proofs.Common.{◌≡◌, ℕ, ◌+◌, ◌^◌, ◌<◌, ◌≤◌, List, [], ◌∷◌, ◌++◌, length, map, All, IsTrue, Option, Some, None, IsSome, IfSome, string_bytes, vec_len, unwrap_or, refl, sym, ap, ◌∙◌, subst, inl, inr, arith}
 use Rattle.std.specs.Prelude.{is_some}
 use Rattle.std.specs.Global.{Vec}
 use Rattle.dj_edge.specs.InMemory.{String}
-use Rattle.std.proofs.lemmas.List.{length-map, map-append}
-use Rattle.std.proofs.lemmas.List.Elements.{All-head, All-tail, All-map, All-weaker}
+use Rattle.std.proofs.lemmas.List.{length-map}
+use Rattle.std.proofs.lemmas.List.Elements.{All-head, All-tail, All-map, All-weaker, All-from_recursion}
 use Rattle.dj_edge.specs.Held.{File, Held, class_files, is_class_path, bytes_at}
+use Rattle.dj_edge.specs.Counts.{GrowsByFront}
+use Rattle.dj_edge.proofs.Growth.{IsFront-append, GrowsByFront-after, GrowsByFront-within}
 use Rattle.dj_edge.proofs.Listings.{class_files_held}
+use Rattle.dj_edge.proofs.Lists.{told_so, both_told, All-unmap}
+use Rattle.dj_report.specs.Stages.{IsDecided}
 use Rattle.dj_report.specs.declared.report.Report.{Report}
 use Rattle.dj_report.specs.declared.report.Report.TheVariants as reports
 use Rattle.dj_report.specs.declared.report.Limit.{Limit}
 use Rattle.dj_report.specs.declared.report.Limit.TheVariants as limits
+use Rattle.dj_report.specs.declared.report.PathFile.{PathFile}
+use Rattle.dj_rules.specs.Views.{path_file_view}
+use Rattle.dj_sandbox.specs.Limits.{most_files, most_file_bytes, AreWithin}
 use Rattle.djvm_cli.specs.declared.load.SourceFile.{SourceFile}
 use Rattle.djvm_cli.specs.declared.load.Listing.{Listing}
 use Rattle.djvm_cli.specs.declared.load.Listing.TheVariants as listings
 use Rattle.djvm_cli.specs.declared.load.Loaded.{Loaded}
 use Rattle.djvm_cli.specs.declared.load.Loaded.TheVariants as loads
-use Rattle.djvm_cli.specs.Limits.{most_files, most_total_bytes, IsFirstPast, IsTooLong, IsTooMuch}
-use Rattle.djvm_cli.specs.Report.{IsReportOf, within_folder, files_within}
+use Rattle.djvm_cli.specs.declared.load.Input.{Input}
+use Rattle.djvm_cli.specs.declared.load.Input.TheVariants as inputs
+use Rattle.djvm_cli.specs.Inputs.{IsJobInput}
+use Rattle.djvm_cli.specs.Job.{Job, folder_of}
+use Rattle.djvm_cli.specs.Report.{input_asks, CountsFiles, FindsInput, ReadsFiles, judging, stages, input_of, within_folder, files_within}
 use Rattle.djvm_cli.specs.Steps.{files_at, IsListed, AreClassPaths, AreRead, IsLoaded}
 use Rattle.djvm_cli.specs.Views.{source_view}
-use Rattle.djvm_cli.proofs.Known.{told_so, both_told}
-use Rattle.djvm_cli.proofs.Loading.{All-unmap}
-use Rattle.djvm_cli.proofs.Judging.{total_same, within_cut}
 
 abbrev path_of : File → List ℕ
 path_of file = file.0
@@ -50,39 +57,6 @@ all_held folder h paths same =
     (subst (All There) (sym same)
     (All-map There path_of (class_files folder h)
     (All-weaker (λ file. bytes_at h file.0 ≡ Some file.1) (λ file. There file.0) (λ file found. ap is_some found) (class_files folder h) (class_files_held folder h))))
-
--- ---- a limit that is passed, under the paths within the folder
-
-too_long_cut : (folder : List ℕ) (files : List File) → IsFirstPast IsTooLong files → IsFirstPast IsTooLong (map (within_folder folder) files)
-too_long_cut folder files past =
-    let cut : File → File = within_folder folder in
-    record {
-      front = map cut past.front;
-      file = cut past.file;
-      rest = map cut past.rest;
-      parts = ap (map cut) past.parts ∙ map-append cut past.front (past.file ∷ past.rest);
-      before = within_cut folder past.front past.before;
-      past = past.past;
-    }
-
-too_much_cut : (folder : List ℕ) (files : List File) → IsFirstPast IsTooMuch files → IsFirstPast IsTooMuch (map (within_folder folder) files)
-too_much_cut folder files past =
-    let cut : File → File = within_folder folder in
-    record {
-      front = map cut past.front;
-      file = cut past.file;
-      rest = map cut past.rest;
-      parts = ap (map cut) past.parts ∙ map-append cut past.front (past.file ∷ past.rest);
-      before = within_cut folder past.front past.before;
-      past = (past.past.0, subst (λ n. most_total_bytes < n + length past.file.1) (sym (total_same folder past.front)) past.past.1);
-    }
-
-pub passed_right : (folder : List ℕ) (files : List File) (limit : Limit) → length files ≤ most_files → IsLoaded files (loads.Passed limit)
-    → IsReportOf (map (within_folder folder) files) (reports.Limited limit)
-passed_right folder files limits.FileCount few past = absurd past
-passed_right folder files limits.Input few past = absurd past
-passed_right folder files limits.File few past = (omega (arith, length-map files (within_folder folder)), too_long_cut folder files past)
-passed_right folder files limits.Total few past = (omega (arith, length-map files (within_folder folder)), too_much_cut folder files past)
 
 pub few_class_files : (folder : List ℕ) (h : Held) (paths : List String) → map string_bytes paths ≡ class_paths folder h → length paths ≤ 4096 → length (class_files folder h) ≤ 4096
 few_class_files folder h paths same few =
@@ -113,28 +87,6 @@ paths_held held mid folder paths same theirs =
     subst (λ o. IfSome o (λ h. All (λ path. IsSome (bytes_at h (string_bytes path))) paths)) (sym same)
     (told_so held (AreTheirs folder paths) (λ h. All (λ path. IsSome (bytes_at h (string_bytes path))) paths) (λ h is. all_held folder h paths is) theirs)
 
-pub limit_right : (held mid : Option Held) (folder : List ℕ) (paths : List String) (limit : Limit) (loaded : Loaded) → mid ≡ held → length paths ≤ 4096
-    → IfSome held (AreTheirs folder paths) → loaded ≡ loads.Passed limit → IfSome mid (λ h. IsLoaded (files_at h (map string_bytes paths)) loaded)
-    → IfSome held (λ h. IsReportOf (files_within folder h) (reports.Limited limit))
-limit_right held mid folder paths limit loaded same few theirs is told =
-    both_told held (AreTheirs folder paths) (λ h. IsLoaded (files_at h (map string_bytes paths)) loaded) (λ h. IsReportOf (files_within folder h) (reports.Limited limit))
-    (λ h are past.
-    passed_right folder (class_files folder h) limit (few_class_files folder h paths are few)
-    (subst (λ files. IsLoaded files (loads.Passed limit)) (files_same folder h (map string_bytes paths) are)
-    (subst (IsLoaded (files_at h (map string_bytes paths))) is past)))
-    theirs (subst (λ o. IfSome o (λ h. IsLoaded (files_at h (map string_bytes paths)) loaded)) same told)
-
-pub check_right : (held mid : Option Held) (folder : List ℕ) (paths : List String) (list : List SourceFile) (sources : Vec SourceFile) (loaded : Loaded) (report : Report) → mid ≡ held
-    → IfSome held (AreTheirs folder paths) → list ≡ sources.items → loaded ≡ loads.Files sources → IfSome mid (λ h. IsLoaded (files_at h (map string_bytes paths)) loaded)
-    → IsReportOf (map (within_folder folder) (map source_view list)) report → IfSome held (λ h. IsReportOf (files_within folder h) report)
-check_right held mid folder paths list sources loaded report same theirs items is told right =
-    both_told held (AreTheirs folder paths) (λ h. IsLoaded (files_at h (map string_bytes paths)) loaded) (λ h. IsReportOf (files_within folder h) report)
-    (λ h are read.
-    let view : map source_view sources.items ≡ files_at h (map string_bytes paths) = subst (IsLoaded (files_at h (map string_bytes paths))) is read in
-    subst (λ files. IsReportOf (map (within_folder folder) files) report)
-    (ap (map source_view) items ∙ view ∙ files_same folder h (map string_bytes paths) are) right)
-    theirs (subst (λ o. IfSome o (λ h. IsLoaded (files_at h (map string_bytes paths)) loaded)) same told)
-
 -- what check asks of its caller
 pub sources_class_paths : (folder : List ℕ) (paths : List String) (list : List SourceFile) (sources : Vec SourceFile) (loaded : Loaded) → All (λ path. IsTrue (is_class_path folder (string_bytes path))) paths
     → list ≡ sources.items → loaded ≡ loads.Files sources → AreRead (map string_bytes paths) loaded → All (λ file. IsTrue (is_class_path folder (string_bytes file.path))) list
@@ -143,3 +95,130 @@ sources_class_paths folder paths list sources loaded all items is read =
     let Is : List ℕ → Type 0 = λ path. IsTrue (is_class_path folder path) in
     subst (All (λ file. Is (string_bytes file.path))) (sym items)
     (All-unmap (λ (file : SourceFile). string_bytes file.path) Is sources.items (subst (All Is) (sym facts.0) (All-map Is string_bytes paths all)))
+
+-- ---- what is judged
+
+-- what is asked of files that are judged
+pub sources_short : (paths : List (List ℕ)) (sources : Vec SourceFile) (loaded : Loaded) (folder : List ℕ) (within : List PathFile) → loaded ≡ loads.Files sources → AreRead paths loaded
+    → map path_file_view within ≡ map (within_folder folder) (map source_view sources.items) → All (λ file. length file.bytes.now < 2 ^ 32) within
+sources_short paths sources loaded folder within is read same =
+    let Short : File → Type 0 = λ file. length file.1 ≤ most_file_bytes in
+    let all : All Short (map source_view sources.items) = All-from_recursion Short (map source_view sources.items) (subst (AreRead paths) is read).1.each in
+    All-unmap path_file_view (λ file. length file.1 < 2 ^ 32) within
+    (All-weaker Short (λ file. length file.1 < 2 ^ 32) (λ file short. omega arith) (map path_file_view within)
+    (subst (All Short) (sym same) (All-map Short (within_folder folder) (map source_view sources.items) all)))
+
+pub sources_few : (paths : List (List ℕ)) (sources : Vec SourceFile) (loaded : Loaded) (folder : List ℕ) (within : List PathFile) → loaded ≡ loads.Files sources → AreRead paths loaded
+    → length paths ≤ most_files → map path_file_view within ≡ map (within_folder folder) (map source_view sources.items) → length within ≤ most_files
+sources_few paths sources loaded folder within is read few same =
+    let size : length (map path_file_view within) ≡ length within = length-map within path_file_view in
+    let cut : length (map (within_folder folder) (map source_view sources.items)) ≡ length (map source_view sources.items) = length-map (map source_view sources.items) (within_folder folder) in
+    let all : length (map source_view sources.items) ≡ length sources.items = length-map sources.items source_view in
+    let named : length (map (λ (file : SourceFile). string_bytes file.path) sources.items) ≡ length sources.items = length-map sources.items (λ file. string_bytes file.path) in
+    let path : length (map (λ (file : SourceFile). string_bytes file.path) sources.items) ≡ length paths = ap length (subst (AreRead paths) is read).0 in
+    omega (arith, ap length same)
+
+-- ---- what was asked
+
+-- the folder, and then a front of what the input asks
+pub asks_input : (job : Job) (folder : List ℕ) (held : Option Held) (list : List String) (old mid new : List (List ℕ)) → folder ≡ folder_of job → IfSome held (AreTheirs folder list)
+    → mid ≡ old ++ folder ∷ [] → GrowsByFront mid new (input_asks job)
+    → IfSome held (λ h. GrowsByFront old new (folder_of job ∷ (input_asks job ++ class_paths (folder_of job) h)))
+asks_input job folder held list old mid new same theirs is grows =
+    told_so held (AreTheirs folder list) (λ h. GrowsByFront old new (folder_of job ∷ (input_asks job ++ class_paths (folder_of job) h)))
+    (λ h are.
+    GrowsByFront-after old mid new (folder_of job ∷ []) (input_asks job ++ class_paths (folder_of job) h) (is ∙ ap (λ (f : List ℕ). old ++ f ∷ []) same)
+    (GrowsByFront-within mid new (input_asks job) (input_asks job ++ class_paths (folder_of job) h) grows (IsFront-append (input_asks job) (class_paths (folder_of job) h))))
+    theirs
+
+-- the folder, what the input asks, and then a front of the paths
+pub asks_files : (job : Job) (folder : List ℕ) (held : Option Held) (list : List String) (old mid next new : List (List ℕ)) → folder ≡ folder_of job → IfSome held (AreTheirs folder list)
+    → mid ≡ old ++ folder ∷ [] → next ≡ mid ++ input_asks job → GrowsByFront next new (map string_bytes list)
+    → IfSome held (λ h. GrowsByFront old new (folder_of job ∷ (input_asks job ++ class_paths (folder_of job) h)))
+asks_files job folder held list old mid next new same theirs is then_is grows =
+    told_so held (AreTheirs folder list) (λ h. GrowsByFront old new (folder_of job ∷ (input_asks job ++ class_paths (folder_of job) h)))
+    (λ h are.
+    let paths : GrowsByFront next new (class_paths (folder_of job) h) = subst (λ (f : List ℕ). GrowsByFront next new (class_paths f h)) same (subst (GrowsByFront next new) are grows) in
+    GrowsByFront-after old mid new (folder_of job ∷ []) (input_asks job ++ class_paths (folder_of job) h) (is ∙ ap (λ (f : List ℕ). old ++ f ∷ []) same)
+    (GrowsByFront-after mid next new (input_asks job) (class_paths (folder_of job) h) then_is paths))
+    theirs
+
+-- ---- stage by stage, where the store tells what it holds
+
+module _ (job : Job) (held : Option Held) where
+  abbrev pub Counted : Type 0
+  Counted = IfSome held (λ h. CountsFiles (class_files (folder_of job) h) None)
+
+  abbrev pub Found : Type 0
+  Found = IfSome held (λ h. FindsInput job h None)
+
+  abbrev pub Decides : Report → Type 0
+  Decides report = IfSome held (λ h. IsDecided (stages (Some job) h) report)
+
+  pub too_many : (folder : List ℕ) (listing : Listing) → folder ≡ folder_of job → listing ≡ listings.TooMany → IfSome held (λ h. IsListed folder h listing)
+      → Decides (reports.Limited limits.FileCount)
+  too_many folder listing same is told =
+      told_so held (λ h. IsListed folder h listing) (λ h. IsDecided (stages (Some job) h) (reports.Limited limits.FileCount))
+      (λ h listed. inl (refl, subst (λ f. IsListed f h listings.TooMany) same (subst (IsListed folder h) is listed))) told
+
+  pub counted : (folder : List ℕ) (list : List String) → folder ≡ folder_of job → length list ≤ 4096 → IfSome held (AreTheirs folder list) → Counted
+  counted folder list same few theirs =
+      told_so held (AreTheirs folder list) (λ h. CountsFiles (class_files (folder_of job) h) None)
+      (λ h are. subst (λ f. length (class_files f h) ≤ most_files) same (few_class_files folder h list are few)) theirs
+
+  module _ (mid : Option Held) (same_held : mid ≡ held) (input : Input) (read : IfSome mid (λ h. IsJobInput job h input)) where
+    input_told : (other : Input) → input ≡ other → IfSome held (λ h. IsJobInput job h other)
+    input_told other is = subst (λ i. IfSome held (λ h. IsJobInput job h i)) is (subst (λ o. IfSome o (λ h. IsJobInput job h input)) same_held read)
+
+    pub absent : (path : List ℕ) → Counted → input ≡ inputs.Absent path → Decides (reports.Absent path)
+    absent path few is =
+        both_told held (λ h. CountsFiles (class_files (folder_of job) h) None) (λ h. IsJobInput job h (inputs.Absent path)) (λ h. IsDecided (stages (Some job) h) (reports.Absent path))
+        (λ h on here. inr (on, inl here)) few (input_told (inputs.Absent path) is)
+
+    pub too_long : Counted → input ≡ inputs.TooLong → Decides (reports.Limited limits.Input)
+    too_long few is =
+        both_told held (λ h. CountsFiles (class_files (folder_of job) h) None) (λ h. IsJobInput job h inputs.TooLong) (λ h. IsDecided (stages (Some job) h) (reports.Limited limits.Input))
+        (λ h on here. inr (on, inl here)) few (input_told inputs.TooLong is)
+
+    pub found : (bytes : Vec ℕ) → input ≡ inputs.Bytes bytes → IfSome held (λ h. FindsInput job h None × (bytes.items ≡ input_of job h))
+    found bytes is = input_told (inputs.Bytes bytes) is
+
+  module _ (mid : Option Held) (same_held : mid ≡ held) (folder : List ℕ) (same : folder ≡ folder_of job) (list : List String) (theirs : IfSome held (AreTheirs folder list)) (loaded : Loaded) (read : IfSome mid (λ h. IsLoaded (files_at h (map string_bytes list)) loaded)) where
+    -- the files are read, under the paths that were listed
+    files_told : (other : Loaded) → loaded ≡ other → IfSome held (λ h. IsLoaded (class_files (folder_of job) h) other)
+    files_told other is =
+        both_told held (AreTheirs folder list) (λ h. IsLoaded (files_at h (map string_bytes list)) loaded) (λ h. IsLoaded (class_files (folder_of job) h) other)
+        (λ h are here.
+        subst (λ f. IsLoaded (class_files f h) other) same
+        (subst (λ files. IsLoaded files other) (files_same folder h (map string_bytes list) are) (subst (IsLoaded (files_at h (map string_bytes list))) is here)))
+        theirs (subst (λ o. IfSome o (λ h. IsLoaded (files_at h (map string_bytes list)) loaded)) same_held read)
+
+    pub passed : (limit : Limit) → Counted → Found → loaded ≡ loads.Passed limit → Decides (reports.Limited limit)
+    passed limit few there is =
+        both_told held (λ h. CountsFiles (class_files (folder_of job) h) None × FindsInput job h None) (λ h. IsLoaded (class_files (folder_of job) h) (loads.Passed limit))
+        (λ h. IsDecided (stages (Some job) h) (reports.Limited limit))
+        (λ h on past. inr (on.0, inr (on.1, inl (passed_stage limit (class_files (folder_of job) h) past))))
+        (both_told held (λ h. CountsFiles (class_files (folder_of job) h) None) (λ h. FindsInput job h None)
+        (λ h. CountsFiles (class_files (folder_of job) h) None × FindsInput job h None) (λ h a b. (a, b)) few there)
+        (files_told (loads.Passed limit) is) where
+          passed_stage : (limit : Limit) (files : List File) → IsLoaded files (loads.Passed limit) → ReadsFiles files (Some (reports.Limited limit))
+          passed_stage limits.FileCount files past = absurd past
+          passed_stage limits.File files past = inl (refl, past)
+          passed_stage limits.Total files past = inr (refl, past)
+          passed_stage limits.Input files past = absurd past
+
+    pub judged : (sources : Vec SourceFile) (within : List PathFile) (bytes : Vec ℕ) (report : Report) → Counted → IfSome held (λ h. FindsInput job h None × (bytes.items ≡ input_of job h))
+        → loaded ≡ loads.Files sources → AreRead (map string_bytes list) loaded → map path_file_view within ≡ map (within_folder folder) (map source_view sources.items)
+        → IsDecided (judging job (map path_file_view within) bytes.items) report → Decides report
+    judged sources within bytes report few there is all cut decided =
+        both_told held (λ h. CountsFiles (class_files (folder_of job) h) None × (FindsInput job h None × (bytes.items ≡ input_of job h)))
+        (λ h. IsLoaded (class_files (folder_of job) h) (loads.Files sources)) (λ h. IsDecided (stages (Some job) h) report)
+        (λ h on view. inr (on.0, inr (on.1.0, inr (
+          subst AreWithin view (subst (AreRead (map string_bytes list)) is all).1,
+          subst (λ input. IsDecided (judging job (files_within (folder_of job) h) input) report) on.1.1
+              (subst (λ files. IsDecided (judging job files bytes.items) report)
+              (cut ∙ ap (λ f. map (within_folder f) (map source_view sources.items)) same ∙ ap (map (within_folder (folder_of job))) view) decided),
+        ))))
+        (both_told held (λ h. CountsFiles (class_files (folder_of job) h) None) (λ h. FindsInput job h None × (bytes.items ≡ input_of job h))
+        (λ h. CountsFiles (class_files (folder_of job) h) None × (FindsInput job h None × (bytes.items ≡ input_of job h))) (λ h a b. (a, b)) few there)
+        (files_told (loads.Files sources) is)

@@ -1,14 +1,11 @@
--- Files are within the limits or pass one first, and all are read or one is the first that isn't.
-use Rattle.std.proofs.Common.{ℕ, ◌+◌, ◌≤◌, ◌⊎◌, List, [], ◌∷◌, ◌++◌, length, refl, sym, ap, subst, inl, inr, append-nil, arith}
+-- Files are within the limits, or pass one first.
+use Rattle.std.proofs.Common.{ℕ, ◌+◌, ◌≤◌, ◌⊎◌, List, [], ◌∷◌, ◌++◌, length, refl, sym, subst, inl, inr, append-nil, arith}
 use Rattle.std.specs.List.{AllByRecursion}
 use Rattle.std.proofs.lemmas.Bool.{cases_lt}
 use Rattle.std.proofs.lemmas.List.{append_assoc}
 use Rattle.std.proofs.lemmas.List.Sums.{sum_by-append, sum_by-cons}
 use Rattle.dj_edge.specs.Held.{File}
-use Rattle.dj_class.specs.Unbuilt.{IsUnbuiltAt}
-use Rattle.dj_rules.specs.Built.{IsBuilt, IsFirstUnbuilt}
-use Rattle.djvm_cli.specs.Limits.{most_file_bytes, most_total_bytes, total_bytes, AreWithin, IsFirstPast, IsTooLong, IsTooMuch}
-use Rattle.djvm_cli.proofs.Classical.{NotNot, unit, bind, so, decide}
+use Rattle.dj_sandbox.specs.Limits.{most_file_bytes, most_total_bytes, total_bytes, AreWithin, IsFirstPast, IsTooLong, IsTooMuch}
 
 -- ---- the limits
 
@@ -43,39 +40,3 @@ limited_from (file ∷ rest) front within =
 -- within the limits, or the first that is passed
 pub limited : (files : List File) → AreWithin files ⊎ (IsFirstPast IsTooLong files ⊎ IsFirstPast IsTooMuch files)
 limited files = limited_from files [] (record { each = tt; together = omega arith })
-
--- ---- files that are read
-
-pub some_built : (files : List File) → NotNot (AllByRecursion IsBuilt files ⊎ ((path : List ℕ) × IsFirstUnbuilt files path))
-some_built [] = unit (inl tt)
-some_built (file ∷ files) = bind (decide ((place : ℕ) × IsUnbuiltAt file.1 place)) (elim [
-  | inl (place, unbuilt) ↦ unit (inr (
-    file.0,
-    record {
-      front = [];
-      file = file;
-      rest = files;
-      place = place;
-      parts = refl;
-      before = tt;
-      unbuilt = unbuilt;
-      path_is = refl;
-    },
-  ))
-  | inr not ↦ so (some_built files) (elim [
-    | inl all ↦ inl ((λ place unbuilt. not (place, unbuilt)), all)
-    | inr (path, first) ↦ inr (
-      path,
-      record {
-        front = file ∷ first.front;
-        file = first.file;
-        rest = first.rest;
-        place = first.place;
-        parts = ap (λ (more : List File). file ∷ more) first.parts;
-        before = ((λ place unbuilt. not (place, unbuilt)), first.before);
-        unbuilt = first.unbuilt;
-        path_is = first.path_is;
-      },
-    )
-  ])
-])

@@ -1,11 +1,11 @@
 -- How a call of the program ends.
-use Rattle.std.specs.Prelude.{◌≡◌, ℕ, List, [], ◌∷◌, Option, Some, IfSome, IsSome, ◌⊎◌, IsTrue, nat_eq, ◌↔◌, None}
-use Rattle.std.specs.List.{list_any}
+use Rattle.std.specs.Prelude.{◌≡◌, ℕ, List, [], ◌∷◌, Option, Some, IfSome, IsSome, ◌⊎◌, ◌↔◌, None}
 use Rattle.std.specs.Io.KnownBytes.{Appends}
 use Rattle.dj_edge.specs.Held.{Held}
 use Rattle.dj_edge.specs.Counts.{Rose, IsFront, GrowsByFront}
 use Rattle.dj_report.specs.declared.report.Report.{Report}
 use Rattle.dj_report.specs.Text.{report_text, report_status}
+use Rattle.dj_sandbox.specs.Statuses.{IsAmong}
 use Rattle.djvm_cli.specs.Job.{Job, Check, Verify, job_of}
 use Rattle.djvm_cli.specs.Report.{IsReport, asks}
 
@@ -67,9 +67,6 @@ report_statuses None = 64 ∷ []
 report_statuses (Some (Check folder)) = 0 ∷ 2 ∷ 7 ∷ 75 ∷ []
 report_statuses (Some (Verify folder entry input)) = 0 ∷ 1 ∷ 2 ∷ 3 ∷ 7 ∷ 65 ∷ 75 ∷ []
 
-abbrev pub IsAmong : ℕ → List ℕ → Type 0
-IsAmong status statuses = IsTrue (list_any (nat_eq status) statuses)
-
 -- every status that a call with these words ends with: those of its reports, and those of faults and of want of memory
 abbrev pub IsStatus : List (List ℕ) → ℕ → Type 0
 IsStatus words status = IsAmong status (read_fault ∷ write_fault ∷ no_memory ∷ report_statuses (job_of words))
@@ -81,10 +78,6 @@ IsReportStatus job held status = IsAmong status (report_statuses job) × (status
 -- a report was written, and its status answered, or that of a fault or of want of memory
 abbrev pub IsWritten : ℕ → ℕ → Type 0
 IsWritten status result = IsAmong result (write_fault ∷ no_memory ∷ status ∷ [])
-
--- the status of what is told of files within the limits, of which a class is run
-abbrev pub IsVerdictStatus : ℕ → Type 0
-IsVerdictStatus status = IsAmong status (0 ∷ 1 ∷ 2 ∷ 3 ∷ 75 ∷ [])
 
 -- the status is that of USAGE exactly where the words give no job
 abbrev pub TellsUsage : List (List ℕ) → ℕ → Type 0

@@ -9,6 +9,10 @@ pub data Job : Type 0 where
   -- check the class files of a folder, and run the class of this name on the bytes of the file of this path
   Verify : List ℕ → List ℕ → List ℕ → Job
 
+abbrev pub folder_of : Job → List ℕ
+folder_of (Check folder) = folder
+folder_of (Verify folder entry input) = folder
+
 -- one slash at the end of a folder is dropped
 abbrev pub without_slash : List ℕ → List ℕ
 without_slash folder = if ends_with nat_eq folder (codes "/") then take (length folder - 1) folder else folder

@@ -1,15 +1,4 @@
 pub mod Job
-pub mod Limits
-pub mod Methods
-pub mod Straight
-pub mod Entry
-pub mod Arrays
-pub mod Running
-pub mod Machines
-pub mod Turns
-pub mod Shaping
-pub mod Shaped
-pub mod Finds
 pub mod Report
 pub mod Ends
 pub mod OneReport

@@ -1,142 +1,76 @@
-ghost use Rattle.std.specs.Prelude.{◌≡◌, ◌≢◌, ◌≤◌, ◌∷◌, ℕ, List, Some, length, map, All, IsTrue, IfOk, IfErr, IfSome, string_bytes};
+ghost use Rattle.std.specs.Prelude.{◌≡◌, ◌≢◌, ◌≤◌, ◌<◌, ◌^◌, Some, length, map, All, IfOk, IfErr, IfSome, string_bytes};
 ghost use Rattle.std.specs.Io.KnownBytes.{Appends};
-ghost use Rattle.dj_edge.specs.Held.{bytes_at, is_class_path};
 ghost use Rattle.dj_edge.specs.Counts.{Rose, GrowsByFront};
-ghost use Rattle.dj_report.specs.declared.report.Report.TheVariants.{Absent};
+ghost use Rattle.dj_report.specs.Stages.{IsDecided};
 ghost use Rattle.dj_report.specs.Text.{report_text, report_status};
+ghost use Rattle.dj_rules.specs.Views.{path_file_view};
+ghost use Rattle.dj_sandbox.specs.Limits.{most_files, most_input_bytes};
 ghost use Rattle.djvm_cli.specs.declared.load.Stop.TheVariants.{Memory};
-ghost use Rattle.djvm_cli.specs.Job.{Check, Verify, job_of};
-ghost use Rattle.djvm_cli.specs.Entry.{entry_name};
-ghost use Rattle.djvm_cli.specs.Limits.{most_files, most_input_bytes};
-ghost use Rattle.djvm_cli.specs.Report.{IsReportOf, IsInputReport, IsFewReport, IsRunReport, files_within, class_paths};
+ghost use Rattle.djvm_cli.specs.Job.{job_of};
+ghost use Rattle.djvm_cli.specs.Report.{judging, stages, job_asks};
 ghost use Rattle.djvm_cli.specs.Ends.{IsStatus, IsReportStatus, IsWritten, read_fault, write_fault, no_memory, IsRight, Finished, ReadEnds, WriteFault, OutOfMemory, AsksInOrder, WritesFront, TellsUsage};
-ghost use Rattle.djvm_cli.specs.Steps.{Counted, ArePathsOf};
+ghost use Rattle.djvm_cli.specs.Steps.{Counted};
+ghost use Rattle.djvm_cli.specs.Views.{job_view};
 
-use crate::check::check;
-use crate::load::{Input, Listing, Loaded, Stop, list_paths, read_files, read_input};
-use crate::verify::verify;
+use crate::cut::cut_folders;
+use crate::load::{Input, Listing, Loaded, Stop, list_paths, read_files, read_job_input};
 use crate::words::{Command, command_of};
 use dj_edge::{Files, Host, Sink, SinkError, put_all};
-use dj_names::Name;
-use dj_report::{Limit, Report, bytes_of, status_of};
-use dj_rules::RulesError;
+use dj_report::{Limit, PathFile, Report, bytes_of, status_of};
+use dj_sandbox::{check, entry_name, verify};
 use std::alloc::Global;
 
-/// The report on the class files of the folder.
-fn report_on<F: Files>(alloc: Global, folder: &str, files: &mut F) -> Result<Report, Stop>
-    ensures held { F.held files.new ≡ F.held files.old }
-    ensures counts { Counted (F.faults files.old) (F.faults files.new) result }
-    ensures asks { IfSome (F.held files.old) (λ h.
-        GrowsByFront (F.asked files.old) (F.asked files.new) (folder.now ∷ class_paths folder.now h)) }
-    ensures right { IfOk result (λ report. IfSome (F.held files.old) (λ h. IsReportOf (files_within folder.now h) report)) }
-    ensures status { IfOk result (λ report. IsReportStatus (Some (Check folder.now)) (F.held files.old) (report_status report)) }
-{
-    let paths = match list_paths(alloc, files, folder) {
-        Ok(Listing::Paths(paths)) => paths,
-        Ok(Listing::TooMany) => return Ok(Report::Limited(Limit::FileCount)),
-        Err(stop) => return Err(stop),
-    };
-    let sources = match read_files(alloc, files, &paths) {
-        Ok(Loaded::Files(sources)) => sources,
-        Ok(Loaded::Passed(limit)) => return Ok(Report::Limited(limit)),
-        Err(stop) => return Err(stop),
-    };
-    match check(alloc, folder, &sources) {
-        Ok(report) => Ok(report),
-        Err(RulesError::Memory) => Err(Stop::Memory),
-    }
-}
-
-/// The report on a run of the class on an input that is short, where these are the folder's class files.
-fn report_on_input<F: Files>(
+/// Judges files and an input that were read, as the job asks.
+fn judge(
     alloc: Global,
-    folder: &str,
-    entry: &str,
+    command: Command<'_>,
+    files: &[PathFile<'_>],
     input: &[u8],
-    paths: &[String],
-    files: &mut F,
 ) -> Result<Report, Stop>
-    requires theirs { IfSome (F.held files.old) (ArePathsOf folder.now paths.now) }
-    requires few { length paths.now ≤ most_files }
-    requires class_paths { All (λ path. IsTrue (is_class_path folder.now (string_bytes path))) paths.now }
+    requires few { length files.now ≤ most_files }
+    requires short { All (λ file. length file.bytes.now < 2 ^ 32) files.now }
     requires input { length input.now ≤ most_input_bytes }
-    ensures held { F.held files.new ≡ F.held files.old }
-    ensures counts { Counted (F.faults files.old) (F.faults files.new) result }
-    ensures asks { GrowsByFront (F.asked files.old) (F.asked files.new) (map string_bytes paths.now) }
-    ensures right { IfOk result (λ report. IfSome (F.held files.old) (λ h.
-        IsInputReport (files_within folder.now h) (entry_name entry.now) input.now report)) }
-    ensures status { (path : List ℕ) → IfOk result (λ report. IsReportStatus (Some (Verify folder.now entry.now path)) (F.held files.old) (report_status report)) }
-{
-    let sources = match read_files(alloc, files, paths) {
-        Ok(Loaded::Files(sources)) => sources,
-        Ok(Loaded::Passed(limit)) => return Ok(Report::Limited(limit)),
-        Err(stop) => return Err(stop),
-    };
-    match verify(alloc, folder, &sources, entry, input) {
-        Ok(report) => Ok(report),
-        Err(RulesError::Memory) => Err(Stop::Memory),
-    }
-}
-
-/// The report on a run of the class on the input of the path, where these are the folder's class files.
-fn report_on_paths<F: Files>(
-    alloc: Global,
-    folder: &str,
-    entry: &str,
-    path: &str,
-    paths: &[String],
-    files: &mut F,
-) -> Result<Report, Stop>
-    requires theirs { IfSome (F.held files.old) (ArePathsOf folder.now paths.now) }
-    requires few { length paths.now ≤ most_files }
-    requires class_paths { All (λ path. IsTrue (is_class_path folder.now (string_bytes path))) paths.now }
-    ensures held { F.held files.new ≡ F.held files.old }
-    ensures counts { Counted (F.faults files.old) (F.faults files.new) result }
-    ensures asks { GrowsByFront (F.asked files.old) (F.asked files.new) (path.now ∷ map string_bytes paths.now) }
-    ensures right { IfOk result (λ report. IfSome (F.held files.old) (λ h.
-        IsFewReport (files_within folder.now h) (entry_name entry.now) path.now (bytes_at h path.now) report)) }
-    ensures status { IfOk result (λ report. IsReportStatus (Some (Verify folder.now entry.now path.now)) (F.held files.old) (report_status report)) }
-{
-    match read_input(alloc, files, path) {
-        Ok(Input::Bytes(input)) => report_on_input(alloc, folder, entry, &input, paths, files),
-        Ok(Input::Absent) => absent(alloc, path),
-        Ok(Input::TooLong) => Ok(Report::Limited(Limit::Input)),
-        Err(stop) => Err(stop),
-    }
-}
-
-/// The report on a run of the class on the input of the path.
-fn report_on_run<F: Files>(
-    alloc: Global,
-    folder: &str,
-    entry: &str,
-    path: &str,
-    files: &mut F,
-) -> Result<Report, Stop>
-    ensures held { F.held files.new ≡ F.held files.old }
-    ensures counts { Counted (F.faults files.old) (F.faults files.new) result }
-    ensures asks { IfSome (F.held files.old) (λ h.
-        GrowsByFront (F.asked files.old) (F.asked files.new) (folder.now ∷ path.now ∷ class_paths folder.now h)) }
-    ensures right { IfOk result (λ report. IfSome (F.held files.old) (λ h.
-        IsRunReport (files_within folder.now h) (entry_name entry.now) path.now (bytes_at h path.now) report)) }
-    ensures status { IfOk result (λ report. IsReportStatus (Some (Verify folder.now entry.now path.now)) (F.held files.old) (report_status report)) }
-{
-    match list_paths(alloc, files, folder) {
-        Ok(Listing::Paths(paths)) => report_on_paths(alloc, folder, entry, path, &paths, files),
-        Ok(Listing::TooMany) => Ok(Report::Limited(Limit::FileCount)),
-        Err(stop) => Err(stop),
-    }
-}
-
-/// The report that the file of this path isn't there.
-fn absent(alloc: Global, path: &str) -> Result<Report, Stop>
-    ensures absent { IfOk result (λ report. report ≡ Absent path.now) }
+    ensures decided { IfOk result (IsDecided (judging (job_view command.entry) (map path_file_view files.now) input.now)) }
+    ensures status { IfOk result (λ report. IsReportStatus (Some (job_view command.entry)) None (report_status report)) }
     ensures no_fault { IfErr result (λ stop. stop ≡ Memory) }
 {
-    match Name::from_slice(alloc, path.as_bytes()) {
-        Ok(path) => Ok(Report::Absent(path)),
-        Err(_) => Err(Stop::Memory),
+    match command {
+        Command::Check { .. } => Ok(check(alloc, files)?),
+        Command::Verify { entry, .. } => {
+            let class = entry_name(alloc, entry)?;
+            Ok(verify(alloc, files, class.as_slice(), input)?)
+        }
     }
+}
+
+/// The report of a job. Each step decides it or hands on to the next: the number of files, the input, the limits on the files, and then what
+/// the files are judged to be.
+fn report_of_job<F: Files>(
+    alloc: Global,
+    command: Command<'_>,
+    files: &mut F,
+) -> Result<Report, Stop>
+    ensures held { F.held files.new ≡ F.held files.old }
+    ensures counts { Counted (F.faults files.old) (F.faults files.new) result }
+    ensures asks { IfSome (F.held files.old) (λ h. GrowsByFront (F.asked files.old) (F.asked files.new) (job_asks (Some (job_view command.entry)) h)) }
+    ensures right { IfOk result (λ report. IfSome (F.held files.old) (λ h. IsDecided (stages (Some (job_view command.entry)) h) report)) }
+    ensures status { IfOk result (λ report. IsReportStatus (Some (job_view command.entry)) (F.held files.old) (report_status report)) }
+{
+    let paths = match list_paths(alloc, files, command.folder())? {
+        Listing::Paths(paths) => paths,
+        Listing::TooMany => return Ok(Report::Limited(Limit::FileCount)),
+    };
+    let input = match read_job_input(alloc, files, command)? {
+        Input::Bytes(input) => input,
+        Input::Absent(path) => return Ok(Report::Absent(path)),
+        Input::TooLong => return Ok(Report::Limited(Limit::Input)),
+    };
+    let sources = match read_files(alloc, files, &paths)? {
+        Loaded::Files(sources) => sources,
+        Loaded::Passed(limit) => return Ok(Report::Limited(limit)),
+    };
+    let within = cut_folders(alloc, command.folder(), &sources)?;
+    judge(alloc, command, &within, &input)
 }
 
 /// The report of the job that the words ask for.
@@ -149,14 +83,7 @@ fn report_of<F: Files>(alloc: Global, words: &[String], files: &mut F) -> Result
     ensures status { IfOk result (λ report. IsReportStatus (job_of (map string_bytes words.now)) (F.held files.old) (report_status report)) }
 {
     match command_of(words) {
-        Some(Command::Check { folder }) => report_on(alloc, folder, files),
-        Some(
-            Command::Verify {
-                folder,
-                entry,
-                input,
-            },
-        ) => report_on_run(alloc, folder, entry, input, files),
+        Some(command) => report_of_job(alloc, command, files),
         None => Ok(Report::Usage),
     }
 }

@@ -1,13 +1,20 @@
-ghost use Rattle.std.specs.Prelude.{◌≡◌, ◌≤◌, [], ◌∷◌, ◌++◌, map, All, IsSome, IfOk, OnOk, IfSome, string_bytes, unwrap_or};
+ghost use Rattle.std.specs.Prelude.{◌≡◌, ◌≤◌, [], ◌∷◌, ◌++◌, map, All, IsSome, IfOk, IfErr, OnOk, IfSome, string_bytes, unwrap_or};
+ghost use Rattle.djvm_cli.specs.declared.load.Stop.TheVariants.{Memory};
+ghost use Rattle.djvm_cli.specs.declared.load.Input.TheVariants.{Absent};
 ghost use Rattle.dj_edge.specs.Held.{bytes_at};
 ghost use Rattle.dj_edge.specs.Counts.{GrowsByFront};
-ghost use Rattle.djvm_cli.specs.Limits.{most_total_bytes};
+ghost use Rattle.dj_sandbox.specs.Limits.{most_total_bytes};
 ghost use Rattle.djvm_cli.specs.Steps.{Counted, IsListed, AreClassPaths, AreRead, IsLoaded, files_at};
-ghost use Rattle.djvm_cli.specs.Inputs.{IsShortInput, IsAbsentWhereTold, IsReadInput};
+ghost use Rattle.djvm_cli.specs.Inputs.{IsShortInput, IsAbsentWhereTold, IsReadInput, IsJobInput, IsInputOf};
+ghost use Rattle.djvm_cli.specs.Report.{input_asks};
+ghost use Rattle.djvm_cli.specs.Views.{job_view};
 ghost use Rattle.djvm_cli.specs.Next.{IsNextRead, IsNext};
 
+use crate::words::Command;
 use dj_edge::{Files, ListError, ReadError};
+use dj_names::Name;
 use dj_report::Limit;
+use dj_rules::RulesError;
 use std::alloc::Global;
 
 /// Why a job has no report.
@@ -17,6 +24,17 @@ pub enum Stop {
     Fault,
     /// There was no memory.
     Memory,
+}
+
+impl From<RulesError> for Stop {
+    ghost use Rattle.std.specs.Prelude.{◌≡◌};
+    ghost use Rattle.djvm_cli.specs.declared.load.Stop.TheVariants.{Memory};
+
+    ghost from_gives = { λ _ e. e ≡ Memory };
+
+    fn from(_error: RulesError) -> Stop {
+        Stop::Memory
+    }
 }
 
 /// A file that was read, under its path.
@@ -49,8 +67,8 @@ pub enum Loaded {
 pub enum Input {
     /// Its bytes.
     Bytes(Vec<u8>),
-    /// There is no such file.
-    Absent,
+    /// There is no file of this path.
+    Absent(Name),
     /// It has more than 1,048,576 bytes.
     TooLong,
 }
@@ -95,6 +113,17 @@ pub fn list_paths<F: Files>(alloc: Global, files: &mut F, folder: &str) -> Resul
     }
 }
 
+/// The input that isn't there under the path.
+fn absent(alloc: Global, path: &str) -> Result<Input, Stop>
+    ensures absent { IfOk result (λ input. input ≡ Absent path.now) }
+    ensures no_fault { IfErr result (λ stop. stop ≡ Memory) }
+{
+    match Name::from_slice(alloc, path.as_bytes()) {
+        Ok(path) => Ok(Input::Absent(path)),
+        Err(_) => Err(Stop::Memory),
+    }
+}
+
 /// Reads the input of the path.
 pub fn read_input<F: Files>(alloc: Global, files: &mut F, path: &str) -> Result<Input, Stop>
     ensures held { F.held files.new ≡ F.held files.old }
@@ -103,14 +132,34 @@ pub fn read_input<F: Files>(alloc: Global, files: &mut F, path: &str) -> Result<
     ensures asked { OnOk result (F.asked files.new ≡ F.asked files.old ++ path.now ∷ []) }
     ensures short { IfOk result IsShortInput }
     ensures absent { IfOk result (IsAbsentWhereTold (F.held files.old)) }
-    ensures told { IfSome (F.held files.old) (λ h. IfOk result (IsReadInput (bytes_at h path.now))) }
+    ensures told { IfSome (F.held files.old) (λ h. IfOk result (IsReadInput path.now (bytes_at h path.now))) }
 {
     match files.read(alloc, path, MOST_INPUT_BYTES) {
         Ok(bytes) => Ok(Input::Bytes(bytes)),
-        Err(ReadError::Absent) => Ok(Input::Absent),
+        Err(ReadError::Absent) => absent(alloc, path),
         Err(ReadError::TooLong) => Ok(Input::TooLong),
         Err(ReadError::Failed) => Err(Stop::Fault),
         Err(ReadError::Memory) => Err(Stop::Memory),
+    }
+}
+
+/// Reads the input of the job, which is empty where the job has none.
+pub fn read_job_input<F: Files>(
+    alloc: Global,
+    files: &mut F,
+    command: Command<'_>,
+) -> Result<Input, Stop>
+    ensures held { F.held files.new ≡ F.held files.old }
+    ensures counts { Counted (F.faults files.old) (F.faults files.new) result }
+    ensures asks { GrowsByFront (F.asked files.old) (F.asked files.new) (input_asks (job_view command.entry)) }
+    ensures asked { OnOk result (F.asked files.new ≡ F.asked files.old ++ input_asks (job_view command.entry)) }
+    ensures short { IfOk result IsShortInput }
+    ensures of_job { IfOk result (IsInputOf (job_view command.entry) (F.held files.old)) }
+    ensures told { IfSome (F.held files.old) (λ h. IfOk result (IsJobInput (job_view command.entry) h)) }
+{
+    match command {
+        Command::Check { .. } => Ok(Input::Bytes(Vec::new(alloc))),
+        Command::Verify { input, .. } => read_input(alloc, files, input),
     }
 }
 

@@ -1,23 +1,16 @@
 //! djvm: a deterministic sandbox for Java class files.
 #![tactic(auto)]
 
-mod check;
 mod clock_host;
+mod cut;
 mod djvm;
-mod entry;
 mod folder_files;
 mod laws;
 mod listing;
 mod load;
-mod machine;
 mod out_sink;
-mod program;
-mod run_rules;
-mod shape;
-mod straight;
 #[cfg(test)]
 mod tests;
-mod verify;
 mod walk;
 mod words;
 

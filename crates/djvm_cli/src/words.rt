@@ -18,6 +18,20 @@ pub enum Command<'a> {
     },
 }
 
+impl<'a> Command<'a> {
+    ghost use Rattle.djvm_cli.specs.Job.{folder_of};
+    ghost use Rattle.djvm_cli.specs.Views.{job_view};
+
+    /// The folder of the class files.
+    pub fn folder(self) -> &'a str
+        ensures { result.now ≡ folder_of (job_view self.entry) }
+    {
+        match self {
+            Command::Check { folder } | Command::Verify { folder, .. } => folder,
+        }
+    }
+}
+
 fn cut_slash(folder: &str) -> &str
     ensures { result.now ≡ without_slash folder.now }
 {

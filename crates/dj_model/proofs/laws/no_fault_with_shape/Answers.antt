@@ -1,5 +1,0 @@
-use Rattle.dj_model.proofs.Shapes.{no_fault_with_shape}
-use Rattle.dj_model.proofs.laws.no_fault_with_shape.Goals as goal
-
-pub returns : goal.returns
-returns c = no_fault_with_shape

@@ -1,5 +1,0 @@
-use Rattle.dj_model.proofs.Shapes.{one_shape_fault}
-use Rattle.dj_model.proofs.laws.one_shape_fault.Goals as goal
-
-pub returns : goal.returns
-returns c = one_shape_fault

@@ -1,5 +1,0 @@
-use Rattle.dj_model.proofs.Shapes.{shape_or_fault}
-use Rattle.dj_model.proofs.laws.shape_or_fault.Goals as goal
-
-pub returns : goal.returns
-returns c = shape_or_fault

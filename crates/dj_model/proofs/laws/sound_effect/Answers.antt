@@ -1,5 +1,0 @@
-use Rattle.dj_model.proofs.Sound.{sound_effect}
-use Rattle.dj_model.proofs.laws.sound_effect.Goals as goal
-
-pub returns : goal.returns
-returns c = sound_effect

@@ -1,5 +1,0 @@
-use Rattle.dj_model.proofs.Runs.{straight_code_ends}
-use Rattle.dj_model.proofs.laws.straight_code_ends.Goals as goal
-
-pub returns : goal.returns
-returns c = straight_code_ends

@@ -1,5 +1,0 @@
-use Rattle.dj_model.proofs.Rows.{worked_runs}
-use Rattle.dj_model.proofs.laws.worked_runs.Goals as goal
-
-pub returns : goal.returns
-returns c = worked_runs

@@ -1,0 +1,122 @@
+-- Files are not without a report: each stage of judging them has an answer where those before it handed on.
+use Rattle.std.proofs.Common.{◌≡◌, ◌≢◌, ℕ, List, [], ◌∷◌, length, Option, Some, None, refl, ap, inl, inr}
+use Rattle.std.specs.Prelude.{◌⊎◌}
+use Rattle.std.specs.List.{AllByRecursion}
+use Rattle.dj_edge.specs.Held.{File}
+use Rattle.dj_class.specs.Unbuilt.{IsUnbuiltAt}
+use Rattle.dj_report.specs.Stages.{Stage, Answers, AnswerInTurn}
+use Rattle.dj_report.specs.declared.report.Report.{Report}
+use Rattle.dj_report.specs.declared.report.Report.TheVariants as reports
+use Rattle.dj_report.specs.declared.report.Violation.{Violation}
+use Rattle.dj_rules.specs.Built.{IsBuilt, IsFirstUnbuilt}
+use Rattle.dj_rules.specs.Violations.{AreViolations}
+use Rattle.dj_straight.specs.Program.{Program}
+use Rattle.dj_straight.specs.Straight.{IsStraightSet, IsNotStraight}
+use Rattle.dj_sandbox.specs.Entry.{AreRunViolations}
+use Rattle.dj_sandbox.specs.Judging.{ReadsConstants, JudgesFiles, Accepts, FindsStraight, JudgesRun, Runs, check_stages, run_stages}
+use Rattle.dj_sandbox.proofs.Classical.{NotNot, unit, bind, so, decide}
+use Rattle.dj_sandbox.proofs.SomeLines.{some_violations}
+use Rattle.dj_sandbox.proofs.SomeRun.{some_run_violations, some_end}
+
+some_built : (files : List File) → NotNot (AllByRecursion IsBuilt files ⊎ ((path : List ℕ) × IsFirstUnbuilt files path))
+some_built [] = unit (inl tt)
+some_built (file ∷ files) = bind (decide ((place : ℕ) × IsUnbuiltAt file.1 place)) (elim [
+  | inl (place, unbuilt) ↦ unit (inr (
+    file.0,
+    record {
+      front = [];
+      file = file;
+      rest = files;
+      place = place;
+      parts = refl;
+      before = tt;
+      unbuilt = unbuilt;
+      path_is = refl;
+    },
+  ))
+  | inr not ↦ so (some_built files) (elim [
+    | inl all ↦ inl ((λ place unbuilt. not (place, unbuilt)), all)
+    | inr (path, first) ↦ inr (
+      path,
+      record {
+        front = file ∷ first.front;
+        file = first.file;
+        rest = first.rest;
+        place = first.place;
+        parts = ap (λ (more : List File). file ∷ more) first.parts;
+        before = ((λ place unbuilt. not (place, unbuilt)), first.before);
+        unbuilt = first.unbuilt;
+        path_is = first.path_is;
+      },
+    )
+  ])
+])
+
+-- an answer, where there is one
+pub answers : (stage : Stage Report) → NotNot ((a : Option Report) × stage a) → Answers stage
+answers stage some none = some (λ (a, p). none a p)
+
+not_nil : (v : Violation) (violations : List Violation) → v ∷ violations ≢ []
+not_nil v violations e = absurd cc
+
+-- ---- stage by stage
+
+constants_answer : (files : List File) → Answers (ReadsConstants files)
+constants_answer files = answers (ReadsConstants files) (so (some_built files) (elim [
+  | inl built ↦ (None, built)
+  | inr (path, first) ↦ (Some (reports.Later path), (path, refl, first))
+]))
+
+judged_files : (files : List File) (violations : List Violation) → AreViolations files violations → (a : Option Report) × JudgesFiles files a
+judged_files files [] are = (None, are)
+judged_files files (v ∷ violations) are = (Some (reports.Rejected (v ∷ violations)), (v ∷ violations, refl, are, not_nil v violations))
+
+files_answer : (files : List File) → Answers (JudgesFiles files)
+files_answer files = answers (JudgesFiles files) (so (some_violations files) (λ (violations, are). judged_files files violations are))
+
+accepts_answers : (files : List File) → Answers (Accepts files)
+accepts_answers files none = none (Some (reports.Accepted (length files))) refl
+
+-- a set that isn't straight has a first file
+not_straight : (files : List File) → IsNotStraight files → (a : Option Report) × FindsStraight files a
+not_straight [] not = absurd (not [] refl)
+not_straight (file ∷ files) not = (Some (reports.Later file.0), (file.0, refl, not, refl))
+
+straight_answers : (files : List File) → Answers (FindsStraight files)
+straight_answers files = answers (FindsStraight files) (so (decide ((program : Program) × IsStraightSet files program)) (elim [
+  | inl straight ↦ (None, straight)
+  | inr not ↦ not_straight files (λ program straight. not (program, straight))
+]))
+
+judged_run : (files : List File) (class : List ℕ) (program : Program) → IsStraightSet files program → (violations : List Violation)
+    → AreRunViolations files program class violations → (a : Option Report) × JudgesRun files class a
+judged_run files class program straight [] are = (None, (program, straight, are))
+judged_run files class program straight (v ∷ violations) are =
+    (Some (reports.Rejected (v ∷ violations)), (program, v ∷ violations, straight, refl, are, not_nil v violations))
+
+run_lines_answer : (files : List File) (class : List ℕ) → FindsStraight files None → Answers (JudgesRun files class)
+run_lines_answer files class (program, straight) =
+    answers (JudgesRun files class) (so (some_run_violations files program class) (λ (violations, are). judged_run files class program straight violations are))
+
+runs_answer : (files : List File) (class input : List ℕ) → JudgesRun files class None → Answers (Runs files class input)
+runs_answer files class input (program, straight, none) =
+    answers (Runs files class input) (so (some_end files program class input straight none)
+    (λ (outcome, costs, runs). (Some (reports.Costed outcome costs), (program, outcome, costs, straight, refl, runs))))
+
+-- ---- the order of work
+
+pub check_answers : (files : List File) → AnswerInTurn (check_stages files)
+check_answers files = (constants_answer files, λ built. (files_answer files, λ none. (accepts_answers files, λ on. on)))
+
+pub run_answers : (files : List File) (class input : List ℕ) → AnswerInTurn (run_stages files class input)
+run_answers files class input = (
+  constants_answer files,
+  λ built. (
+    files_answer files,
+    λ none. (
+      straight_answers files,
+      λ straight.
+          (run_lines_answer files class straight, λ lines. (runs_answer files class input lines, λ on. on)),
+    ),
+  ),
+)

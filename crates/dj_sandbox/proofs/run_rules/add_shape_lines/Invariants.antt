@@ -1,0 +1,12 @@
+use Rattle.std.proofs.Common.{take, All}
+use Rattle.dj_rules.specs.Lines.{Adds, IsLineAmong}
+use Rattle.dj_sandbox.specs.Shaped.{IsTold}
+use Rattle.dj_sandbox.proofs.RunRules.{IsOwnShapeLine}
+use Rattle.dj_sandbox.proofs.run_rules.add_shape_lines.Given as goal
+
+-- the lines of the methods so far, of which each is judged
+abbrev pub invariant-loop-method : goal.invariant-loop-method
+invariant-loop-method l = record {
+  lines : Adds (IsLineAmong (IsOwnShapeLine l.path) (take l.method-index l.methods)) l.initial.out.items l.out.items;
+  judged : All IsTold (take l.method-index l.methods);
+}

@@ -1,0 +1,10 @@
+use Rattle.std.proofs.Common.{◌≡◌, map, drop, codes}
+use Rattle.dj_straight.specs.Program.{method_in}
+use Rattle.dj_straight.specs.Methods.{method_view, straight_descriptor}
+use Rattle.dj_sandbox.proofs.run_rules.verify_of.Given as goal
+
+-- none of the methods so far is verify
+abbrev pub invariant-loop-method : goal.invariant-loop-method
+invariant-loop-method l =
+    method_in (map method_view (drop l.method-index l.methods)) (codes "verify") straight_descriptor
+    ≡ method_in (map method_view l.methods) (codes "verify") straight_descriptor

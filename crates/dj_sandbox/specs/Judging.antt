@@ -1,0 +1,65 @@
+-- The order in which class files that were read are judged, and one of them is run. A file is its path within the folder, with its bytes.
+use Rattle.std.specs.Prelude.{◌≡◌, ◌≢◌, ℕ, List, [], ◌∷◌, Option, Some, None, length}
+use Rattle.std.specs.List.{AllByRecursion}
+use Rattle.dj_names.specs.declared.run.Outcome.{Outcome}
+use Rattle.dj_names.specs.declared.run.Costs.{Costs}
+use Rattle.dj_edge.specs.Held.{File}
+use Rattle.dj_report.specs.Stages.{Stage}
+use Rattle.dj_report.specs.declared.report.Report.{Report}
+use Rattle.dj_report.specs.declared.report.Report.TheVariants as reports
+use Rattle.dj_report.specs.declared.report.Violation.{Violation}
+use Rattle.dj_rules.specs.Built.{IsBuilt, IsFirstUnbuilt}
+use Rattle.dj_rules.specs.Violations.{AreViolations}
+use Rattle.dj_straight.specs.Program.{Program}
+use Rattle.dj_straight.specs.Metered.{RunsTo}
+use Rattle.dj_straight.specs.Straight.{IsStraightSet, IsNotStraight}
+use Rattle.dj_sandbox.specs.Limits.{default_thresholds}
+use Rattle.dj_sandbox.specs.Entry.{entry_method, AreRunViolations}
+
+-- all constants are read; or else the first file that has another is told
+abbrev pub ReadsConstants : List File → Stage Report
+ReadsConstants files (Some report) = (path : List ℕ) × (report ≡ reports.Later path) × IsFirstUnbuilt files path
+ReadsConstants files None = AllByRecursion IsBuilt files
+
+-- no rule is violated that is judged of every set; or else the violations are told
+abbrev pub JudgesFiles : List File → Stage Report
+JudgesFiles files (Some report) = (violations : List Violation) × (report ≡ reports.Rejected violations) × AreViolations files violations × (violations ≢ [])
+JudgesFiles files None = AreViolations files []
+
+-- the files are accepted
+abbrev pub Accepts : List File → Stage Report
+Accepts files (Some report) = report ≡ reports.Accepted (length files)
+Accepts files None = ⊥
+
+-- the path of the first file
+abbrev pub IsFirstPath : List File → List ℕ → Type 0
+IsFirstPath [] path = ⊥
+IsFirstPath (file ∷ files) path = path ≡ file.0
+
+-- the files are a straight set; or else it is told that they are not run yet, by the first of them
+abbrev pub FindsStraight : List File → Stage Report
+FindsStraight files (Some report) = (path : List ℕ) × (report ≡ reports.Later path) × IsNotStraight files × IsFirstPath files path
+FindsStraight files None = (program : Program) × IsStraightSet files program
+
+-- a straight set violates none of the rules that are judged of a run of the class; or else the violations are told
+abbrev pub JudgesRun : List File → List ℕ → Stage Report
+JudgesRun files class (Some report) =
+    (program : Program) × (violations : List Violation)
+    × IsStraightSet files program × (report ≡ reports.Rejected violations) × AreRunViolations files program class violations × (violations ≢ [])
+JudgesRun files class None = (program : Program) × IsStraightSet files program × AreRunViolations files program class []
+
+-- the class of a straight set runs on the input, and the outcome and the costs are told
+abbrev pub Runs : List File → List ℕ → List ℕ → Stage Report
+Runs files class input (Some report) =
+    (program : Program) × (outcome : Outcome) × (costs : Costs)
+    × IsStraightSet files program × (report ≡ reports.Costed outcome costs) × RunsTo program (entry_method class) input default_thresholds outcome costs
+Runs files class input None = ⊥
+
+-- how files are checked
+abbrev pub check_stages : List File → List (Stage Report)
+check_stages files = ReadsConstants files ∷ JudgesFiles files ∷ Accepts files ∷ []
+
+-- how files are checked, and the class of this name is run on these bytes
+abbrev pub run_stages : List File → List ℕ → List ℕ → List (Stage Report)
+run_stages files class input =
+    ReadsConstants files ∷ JudgesFiles files ∷ FindsStraight files ∷ JudgesRun files class ∷ Runs files class input ∷ []

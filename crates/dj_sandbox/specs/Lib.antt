@@ -1,0 +1,5 @@
+pub mod Limits
+pub mod Entry
+pub mod Shaped
+pub mod Statuses
+pub mod Judging

@@ -1,0 +1,14 @@
+-- The statuses of reports on class files.
+use Rattle.std.specs.Prelude.{ℕ, List, [], ◌∷◌, nat_eq, IsTrue}
+use Rattle.std.specs.List.{list_any}
+
+abbrev pub IsAmong : ℕ → List ℕ → Type 0
+IsAmong status statuses = IsTrue (list_any (nat_eq status) statuses)
+
+-- accepted, rejected, or not read yet
+abbrev pub check_statuses : List ℕ
+check_statuses = 0 ∷ 2 ∷ 75 ∷ []
+
+-- a result, an exception, rejected, a threshold, or not read or run yet
+abbrev pub run_statuses : List ℕ
+run_statuses = 0 ∷ 1 ∷ 2 ∷ 3 ∷ 75 ∷ []

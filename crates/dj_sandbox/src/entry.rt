@@ -1,0 +1,46 @@
+ghost use Rattle.std.specs.Prelude.{◌≡◌, ◌++◌, ◌==◌, if◌then◌else◌, OnOk, IfOk};
+ghost use Rattle.dj_names.specs.ModifiedUtf8.{unit_text};
+ghost use Rattle.dj_sandbox.specs.Entry.{entry_name};
+
+#[cfg(test)]
+mod tests;
+
+use dj_names::{Name, NoMemory};
+use dj_rules::{RulesError, units_of_path};
+use std::alloc::Global;
+
+// A dot is taken as a slash.
+fn with_slash(unit: u16) -> u16
+    ensures { result ≡ if unit == 46 then 47 else unit }
+{
+    if unit == 46 { 47 } else { unit }
+}
+
+// Appends the spelling of a unit in modified UTF-8 (JVMS 4.4.7).
+fn add_unit(text: &mut Name, unit: u16) -> Result<(), NoMemory>
+    ensures { OnOk result (text.new ≡ text.old ++ unit_text unit) }
+{
+    if 1 <= unit && unit <= 127 {
+        text.push(unit as u8)
+    } else if unit <= 2047 {
+        text.extend(&[192 + (unit / 64) as u8, 128 + (unit % 64) as u8])
+    } else {
+        text.extend(&[
+            224 + (unit / 4096) as u8,
+            128 + (unit / 64 % 64) as u8,
+            128 + (unit % 64) as u8,
+        ])
+    }
+}
+
+/// The name of the class that the word of the command line names, whose parts a dot or a slash may split.
+pub fn entry_name(alloc: Global, word: &str) -> Result<Name, RulesError>
+    ensures { IfOk result (λ name. name ≡ entry_name word.now) }
+{
+    let units = units_of_path(alloc, word)?;
+    let mut name = Name::new(alloc);
+    for unit in &units {
+        add_unit(&mut name, with_slash(*unit))?;
+    }
+    Ok(name)
+}

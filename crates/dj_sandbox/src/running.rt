@@ -1,0 +1,99 @@
+ghost use Rattle.std.specs.Prelude.{◌≡◌, ◌≤◌, ◌<◌, ◌^◌, ℕ, List, length, map, true, false, All, IfOk};
+ghost use Rattle.dj_names.specs.declared.run.Outcome.TheVariants.{Link};
+ghost use Rattle.dj_report.specs.Stages.{IsDecided};
+ghost use Rattle.dj_report.specs.Text.{report_status};
+ghost use Rattle.dj_report.specs.declared.report.Report.TheVariants.{Later};
+ghost use Rattle.dj_rules.specs.Views.{path_file_view};
+ghost use Rattle.dj_straight.specs.Program.{HasNoFields, has_initialiser};
+ghost use Rattle.dj_straight.specs.Metered.{RunsTo};
+ghost use Rattle.dj_straight.specs.Methods.{program_view};
+ghost use Rattle.dj_straight.specs.Straight.{IsNotStraight};
+ghost use Rattle.dj_straight.specs.Running.{IsStraightEnd, AreRunnable};
+ghost use Rattle.dj_sandbox.specs.Limits.{most_input_bytes, default_thresholds};
+ghost use Rattle.dj_sandbox.specs.Entry.{entry_method, has_entry};
+ghost use Rattle.dj_sandbox.specs.Judging.{IsFirstPath, run_stages};
+ghost use Rattle.dj_sandbox.specs.Shaped.{AreShaped};
+ghost use Rattle.dj_sandbox.specs.Statuses.{IsAmong, run_statuses};
+
+use crate::checking::later;
+use crate::run_rules::{entry_of, run_violations};
+use dj_names::Thresholds;
+use dj_report::{PathFile, Report};
+use dj_rules::{RulesError, first_unbuilt, rules};
+use dj_straight::{Ending, StraightSet, run_method, straight_set};
+use std::alloc::Global;
+
+// What a run may be charged.
+const THRESHOLDS: Thresholds = Thresholds {
+    alloc: 67_108_864,
+    invoke: 1_000_000,
+    jump: 1_000_000,
+    throw: 1_000_000,
+};
+
+/// The report that a set which isn't straight is not run yet, by its first file.
+fn later_first(alloc: Global, files: &[PathFile<'_>]) -> Result<Report, RulesError>
+    requires not_straight { IsNotStraight (map path_file_view files.now) }
+    ensures { IfOk result (λ report. (path : List ℕ) × (report ≡ Later path) × IsFirstPath (map path_file_view files.now) path) }
+{
+    match files.first() {
+        Some(file) => later(alloc, file.path),
+        None => unreachable!(),
+    }
+}
+
+/// Runs the method of the set.
+fn run_entry(
+    alloc: Global,
+    set: &StraightSet,
+    class: &[u8],
+    input: &[u8],
+) -> Result<Ending, RulesError>
+    requires entry { has_entry (program_view set.now.class) class.now ≡ true }
+    requires shaped { AreShaped set.now.class }
+    requires runnable { AreRunnable set.now.class }
+    requires input { length input.now ≤ most_input_bytes }
+    requires no_fields { HasNoFields (program_view set.now.class) }
+    requires plain { (name : List ℕ) → has_initialiser (program_view set.now.class) name ≡ false }
+    ensures runs { IfOk result (λ e. RunsTo (program_view set.now.class) (entry_method class.now) input.now default_thresholds e.outcome e.costs) }
+    ensures kinds { IfOk result (λ e. IsStraightEnd e.outcome) }
+    ensures linked { IfOk result (λ e. e.outcome ≡ Link → ⊥) }
+{
+    match entry_of(&set.class, class) {
+        Some(method) => run_method(alloc, method, input, THRESHOLDS),
+        None => unreachable!(),
+    }
+}
+
+/// The report on a run of the class of this name on the input. Each file stands under its path within the folder.
+pub fn verify(
+    alloc: Global,
+    files: &[PathFile<'_>],
+    class: &[u8],
+    input: &[u8],
+) -> Result<Report, RulesError>
+    requires short { All (λ file. length file.bytes.now < 2 ^ 32) files.now }
+    requires input { length input.now ≤ most_input_bytes }
+    ensures decided { IfOk result (IsDecided (run_stages (map path_file_view files.now) class.now input.now)) }
+    ensures status { IfOk result (λ report. IsAmong (report_status report) run_statuses) }
+{
+    if let Some(path) = first_unbuilt(alloc, files)? {
+        return later(alloc, path);
+    }
+    let violations = rules(alloc, files)?;
+    if !violations.as_slice().is_empty() {
+        return Ok(Report::Rejected(violations));
+    }
+    let Some(set) = straight_set(alloc, files)? else {
+        return later_first(alloc, files);
+    };
+    let violations = run_violations(alloc, files, &set.class, class)?;
+    if !violations.as_slice().is_empty() {
+        return Ok(Report::Rejected(violations));
+    }
+    let ending = run_entry(alloc, &set, class, input)?;
+    Ok(Report::Costed {
+        outcome: ending.outcome,
+        costs: ending.costs,
+    })
+}

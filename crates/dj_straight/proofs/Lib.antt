@@ -1,0 +1,21 @@
+pub mod ArrayLaws
+pub mod StraightRuns
+pub mod Linked
+pub mod Shaping
+pub mod StraightCode
+pub mod StraightNames
+pub mod PushedNulls
+pub mod Straights
+pub mod Turns
+pub mod Sound
+pub mod Shapes
+pub mod Programs
+pub mod Runs
+mod Rows
+mod Opcodes
+mod Facts
+mod FrameFacts
+mod ShapeFacts
+mod RunFacts
+mod ObjectFacts
+mod StraightFacts

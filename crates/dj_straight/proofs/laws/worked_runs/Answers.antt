@@ -1,0 +1,5 @@
+use Rattle.dj_straight.proofs.Rows.{worked_runs}
+use Rattle.dj_straight.proofs.laws.worked_runs.Goals as goal
+
+pub returns : goal.returns
+returns c = worked_runs

@@ -1,0 +1,45 @@
+-- The machine's parts as the model has them.
+use Rattle.std.specs.Prelude.{◌≡◌, ◌^◌, ◌<◌, ⊤, [], length, Option, Some, None, codes}
+use Rattle.dj_names.specs.declared.run.Element.TheVariants as elements
+use Rattle.dj_names.specs.declared.run.Value.TheVariants as values
+use Rattle.dj_straight.specs.Objects.{raised_class}
+use Rattle.dj_straight.specs.Instructions.{Instruction}
+use Rattle.dj_straight.specs.Effects as model
+use Rattle.dj_straight.specs.Effects.{Terms, Part, Effect, effect, goes}
+use Rattle.dj_straight.specs.declared.machine.heap.Found.{Found}
+use Rattle.dj_straight.specs.declared.machine.heap.Found.TheVariants as founds
+use Rattle.dj_straight.specs.declared.machine.parts.Machine.{Machine}
+use Rattle.dj_straight.specs.declared.machine.parts.Progress.{Progress}
+use Rattle.dj_straight.specs.declared.machine.parts.Progress.TheVariants as ways
+
+abbrev pub found_view : Found → model.Found
+found_view founds.Null = model.Null
+found_view founds.NoArray = model.NoArray
+found_view (founds.Bytes bytes) = model.IsArray (codes "[B") elements.Byte bytes.now
+
+abbrev pub IsShort : Found → Type 0
+IsShort (founds.Bytes bytes) = length bytes.now < 2 ^ 31
+IsShort _ = ⊤
+
+abbrev pub machine_view : Machine → Part
+machine_view m = record { locals = m.locals.items; operands = m.operands; heap = m.heap; statics = []; literals = [] }
+
+-- without a limit on the heap
+abbrev pub straight_terms : Terms
+straight_terms = record { limit = None; raised = raised_class; thresholds = None; stop = None }
+
+-- the effect of a straight instruction: it asks for no class, so it is the same in every program and in every metered run
+abbrev pub straight_effect : Instruction → Part → Option Effect
+straight_effect i p = effect [] straight_terms i p
+
+-- the effect that is told so, of an instruction from the one state to the other
+abbrev pub told : Part → Part → Progress → Option Effect
+told before after ways.Next = Some (goes after model.Next)
+told before after (ways.Raises raised) = Some (goes before (model.Raise raised))
+told before after (ways.Returns reference) = Some (goes after (model.Back (Some (values.Ref reference))))
+told before after ways.Broken = Some (goes before model.Broken)
+told before after ways.IllFormed = None
+
+-- the instruction has the effect that is told so
+abbrev pub Does : Instruction → Part → Part → Progress → Type 0
+Does i before after way = straight_effect i before ≡ told before after way

@@ -1,0 +1,101 @@
+ghost use Rattle.std.specs.Prelude.{◌≡◌, ◌≤◌, None, Some, Ok, IsSome, IfOk};
+ghost use Rattle.dj_names.specs.declared.run.Value.TheVariants as values;
+ghost use Rattle.dj_straight.specs.Objects.{raised_class};
+ghost use Rattle.dj_names.specs.declared.run.Costs.{Costs};
+ghost use Rattle.dj_names.specs.declared.run.Charge.TheVariants.{Alloc};
+ghost use Rattle.dj_names.specs.declared.run.Outcome.TheVariants.{Stopped};
+ghost use Rattle.dj_straight.specs.Charges.{paid, Exceeds};
+ghost use Rattle.dj_straight.specs.Step.{result_outcome};
+ghost use Rattle.dj_straight.specs.Methods.{action_view};
+ghost use Rattle.dj_straight.specs.declared.machine.turns.Turns.TheVariants as turns;
+ghost use Rattle.dj_straight.specs.Machines.{machine_view, straight_effect};
+ghost use Rattle.dj_straight.specs.Turns.{straight_amounts, TurnsDo, IsDone, GoesWithin};
+
+use crate::machine::Ending;
+use crate::machine::first::unsigned_bytes;
+use crate::machine::heap::{Found, Heap};
+use crate::machine::parts::{Machine, Progress};
+use crate::machine::pay::{Payment, pay};
+use crate::program::Action;
+use dj_names::{Charge, Costs, Message, Name, Outcome, Raised, Thresholds};
+use dj_rules::RulesError;
+use std::alloc::Global;
+
+/// How a run stands after an instruction.
+#[derive(Drop)]
+pub enum Turns {
+    /// It goes on, and was charged so much.
+    Go(Costs),
+    End(Ending),
+}
+
+fn raised_text(raised: Raised) -> &'static [u8]
+    ensures { result.now ≡ raised_class raised }
+{
+    match raised {
+        Raised::Arithmetic => b"java/lang/ArithmeticException".as_slice(),
+        Raised::ArrayIndexOutOfBounds => b"java/lang/ArrayIndexOutOfBoundsException".as_slice(),
+        Raised::ArrayStore => b"java/lang/ArrayStoreException".as_slice(),
+        Raised::ClassCast => b"java/lang/ClassCastException".as_slice(),
+        Raised::NegativeArraySize => b"java/lang/NegativeArraySizeException".as_slice(),
+        Raised::NullPointer => b"java/lang/NullPointerException".as_slice(),
+    }
+}
+
+// The outcome where the entry returns this reference.
+fn returned(alloc: Global, heap: &Heap, reference: u32) -> Result<Outcome, RulesError>
+    ensures { IfOk result (λ outcome. outcome ≡ result_outcome heap.now (Some (values.Ref reference))) }
+{
+    match heap.array(reference) {
+        Found::Null => Ok(Outcome::OkNull),
+        Found::NoArray => Ok(Outcome::Link),
+        Found::Bytes(bytes) => Ok(Outcome::OkBytes(unsigned_bytes(alloc, bytes)?)),
+    }
+}
+
+fn end(outcome: Outcome, costs: Costs) -> Result<Turns, RulesError>
+    ensures { result ≡ Ok (turns.End (record { outcome = outcome; costs = costs })) }
+{
+    Ok(Turns::End(Ending { outcome, costs }))
+}
+
+impl Machine {
+    // The instruction is done, after its charges were added.
+    fn done(&mut self, alloc: Global, action: Action, costs: Costs) -> Result<Turns, RulesError>
+        requires { IsSome (straight_effect (action_view action) (machine_view self.old)) }
+        ensures { IfOk result (IsDone costs (action_view action) (machine_view self.old) (machine_view self.new)) }
+    {
+        match self.act(alloc, action)? {
+            Progress::Next => Ok(Turns::Go(costs)),
+            Progress::Raises(raised) => {
+                let class = Name::from_slice(alloc, raised_text(raised))?;
+                end(Outcome::Threw(class, Message::Null), costs)
+            }
+            Progress::Returns(reference) => end(returned(alloc, &self.heap, reference)?, costs),
+            Progress::Broken => end(Outcome::Link, costs),
+            Progress::IllFormed => unreachable!(),
+        }
+    }
+
+    /// An instruction's charges are added, and then it is done.
+    pub fn turns(
+        &mut self,
+        alloc: Global,
+        action: Action,
+        costs: Costs,
+        most: &Thresholds,
+    ) -> Result<Turns, RulesError>
+        requires sound { IsSome (straight_effect (action_view action) (machine_view self.old)) }
+        requires costs { costs.alloc ≤ 1073741824 }
+        ensures turns { IfOk result (TurnsDo most.now costs (action_view action) (machine_view self.old) (machine_view self.new)) }
+        ensures within { costs.alloc ≤ most.now.alloc → IfOk result (GoesWithin most.now) }
+        // A charge that passes its threshold stops the run before the machine changes, and want of memory can't come in its place.
+        ensures stopped { (now : Costs) → paid most.now costs (straight_amounts (action_view action) self.old.operands) ≡ Exceeds Alloc now
+            → (machine_view self.new ≡ machine_view self.old) × (result ≡ Ok (turns.End (record { outcome = Stopped Alloc; costs = now }))) }
+    {
+        match pay(action, &self.operands, costs, most) {
+            Payment::Paid(costs) => self.done(alloc, action, costs),
+            Payment::Exceeds(costs) => end(Outcome::Stopped(Charge::Alloc), costs),
+        }
+    }
+}

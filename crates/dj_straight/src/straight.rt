@@ -1,0 +1,125 @@
+ghost use Rattle.std.specs.Prelude.{◌≡◌, ◌↔◌, ◌<◌, ◌^◌, [], All, Some, length, map, IsTrue, IfOk, IfSome, MatchOption};
+ghost use Rattle.dj_class.specs.ClassFile.{class_name_at, IsValid};
+ghost use Rattle.dj_class.specs.Views.{class_of};
+ghost use Rattle.dj_straight.specs.Methods.{object_name, class_view, program_view};
+ghost use Rattle.dj_straight.specs.Running.{AreRunnable};
+ghost use Rattle.dj_straight.specs.Straight.{is_reserved, IsPlainClass, IsStraightClass, IsStraightFile, IsNotStraight, IsStraightSet};
+ghost use Rattle.dj_rules.specs.Violations.{this_name};
+ghost use Rattle.dj_rules.specs.Views.{path_file_view};
+ghost use Rattle.dj_straight.specs.Finds.{Finds};
+
+mod code;
+mod method;
+#[cfg(test)]
+mod tests;
+
+use crate::program::StraightClass;
+use dj_class::{ClassView, read_class};
+use dj_names::Name;
+use dj_report::PathFile;
+use dj_rules::{RulesError, is_memory};
+use method::distinct_methods;
+use std::alloc::Global;
+
+/// The class of a straight set, or none where there are no files.
+#[derive(Drop)]
+pub struct StraightSet {
+    pub class: Option<StraightClass>,
+}
+
+// JVMS table 4.1-B.
+const ACC_INTERFACE: u16 = 0x0200;
+
+// Whether the name is of a package that is not the files' own.
+fn is_reserved(name: &[u8]) -> bool
+    ensures { result ≡ is_reserved name.now }
+{
+    name.starts_with(b"sandbox/") || name.starts_with(b"java/") || name.starts_with(b"javax/")
+}
+
+fn class_name<'a>(view: &ClassView<'a>) -> &'a [u8]
+    ensures { result.now ≡ this_name (class_of view.now) }
+{
+    view.pool.class_name(view.this_class).unwrap_or(b"")
+}
+
+fn extends_object(view: &ClassView<'_>) -> bool
+    ensures { IsTrue result ↔ (class_name_at view.now.pool view.now.super_class ≡ Some object_name) }
+{
+    match view.pool.class_name(view.super_class) {
+        Some(name) => name == b"java/lang/Object".as_slice(),
+        None => false,
+    }
+}
+
+fn is_alone(view: &ClassView<'_>) -> bool
+    ensures { IsTrue result ↔ ((view.now.interfaces ≡ []) × (view.now.fields ≡ [])) }
+{
+    view.interfaces.as_slice().is_empty() && view.fields.as_slice().is_empty()
+}
+
+// Whether the class is straight but for its methods.
+fn is_plain_class(view: &ClassView<'_>) -> bool
+    ensures { IsTrue result ↔ IsPlainClass (class_of view.now) }
+{
+    view.flags & ACC_INTERFACE == 0
+        && !is_reserved(class_name(view))
+        && extends_object(view)
+        && is_alone(view)
+}
+
+// The straight class that the class of the file is.
+fn straight_class(alloc: Global, view: &ClassView<'_>) -> Result<Option<StraightClass>, RulesError>
+    requires { IsValid (class_of view.now) }
+    ensures { IfOk result (Finds class_view (IsStraightClass (class_of view.now))) }
+{
+    if !is_plain_class(view) {
+        return Ok(None);
+    }
+    match distinct_methods(alloc, &view.pool, view.methods.as_slice())? {
+        Some(methods) => Ok(Some(StraightClass {
+            name: Name::from_slice(alloc, class_name(view))?,
+            flags: view.flags,
+            methods,
+        })),
+        None => Ok(None),
+    }
+}
+
+// The straight class of the file.
+fn class_of_file(alloc: Global, file: &PathFile<'_>) -> Result<Option<StraightClass>, RulesError>
+    requires { length file.now.bytes.now < 2 ^ 32 }
+    ensures { IfOk result (Finds class_view (IsStraightFile file.now.bytes.now)) }
+{
+    match read_class(alloc, file.bytes) {
+        Ok(view) => straight_class(alloc, &view),
+        Err(error) => {
+            if is_memory(error) {
+                Err(RulesError::Memory)
+            } else {
+                Ok(None)
+            }
+        }
+    }
+}
+
+/// The straight set that the files are, or none.
+pub fn straight_set(
+    alloc: Global,
+    files: &[PathFile<'_>],
+) -> Result<Option<StraightSet>, RulesError>
+    requires { All (λ file. length file.bytes.now < 2 ^ 32) files.now }
+    ensures straight { IfOk result (λ found. MatchOption found
+        (IsNotStraight (map path_file_view files.now))
+        (λ set. IsStraightSet (map path_file_view files.now) (program_view set.class))) }
+    ensures runnable { IfOk result (λ found. IfSome found (λ set. AreRunnable set.class)) }
+{
+    match files {
+        [] => Ok(Some(StraightSet { class: None })),
+        [file] => match class_of_file(alloc, file)? {
+            Some(class) => Ok(Some(StraightSet { class: Some(class) })),
+            None => Ok(None),
+        },
+        _ => Ok(None),
+    }
+}

@@ -1,5 +1,0 @@
-use Rattle.djvm_cli.proofs.Judging.{short_files}
-use Rattle.djvm_cli.proofs.check.judge.Goals as goal
-
-pub rules-requires : goal.rules-requires
-rules-requires c = short_files c.args.files.now c.requires.judged

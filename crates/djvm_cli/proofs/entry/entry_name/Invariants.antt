@@ -1,7 +1,0 @@
-use Rattle.std.proofs.Common.{◌≡◌, take}
-use Rattle.dj_names.specs.ModifiedUtf8.{units_text}
-use Rattle.djvm_cli.specs.Entry.{with_slashes}
-use Rattle.djvm_cli.proofs.entry.entry_name.Given as goal
-
-abbrev pub invariant-loop-unit : goal.invariant-loop-unit
-invariant-loop-unit l = l.name ≡ units_text (with_slashes (take l.unit-index l.unit-items))

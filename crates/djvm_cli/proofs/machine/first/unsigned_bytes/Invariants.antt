@@ -1,6 +1,0 @@
-use Rattle.std.proofs.Common.{◌≡◌, map, take}
-use Rattle.std.specs.Int.{w8, cast_unsigned}
-use Rattle.djvm_cli.proofs.machine.first.unsigned_bytes.Given as goal
-
-abbrev pub invariant-loop-byte : goal.invariant-loop-byte
-invariant-loop-byte l = l.unsigned.items ≡ map (cast_unsigned w8) (take l.byte-index l.bytes)

@@ -1,9 +1,0 @@
-use Rattle.std.proofs.Common.{List, subst, sym}
-use Rattle.dj_class.specs.ClassFile.{AttributeInfo}
-use Rattle.djvm_cli.specs.Straight.{HasStraightCode}
-use Rattle.djvm_cli.proofs.straight.method.straight_method.Goals as goal
-
-pub returns-in-None : goal.returns-in-None
-returns-in-None c =
-    let none = rw c.in-None.is at c.in_ok-code.ensures in
-    λ y straight. none straight.code (subst (λ (attributes : List AttributeInfo). HasStraightCode c.args.pool.now attributes straight.code) (sym c.as_slice.ensures) straight.has_code)
