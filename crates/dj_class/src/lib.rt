@@ -15,6 +15,3 @@ pub use laws::{
 };
 pub use lists::{Attributes, Indexes, Members, NoMemory};
 pub use pool::{Entry, Pool, PoolError, read_pool};
-
-#[cfg(test)]
-mod tests;

@@ -18,6 +18,3 @@ pub use mem_sink::MemSink;
 pub use order::Order;
 pub use sink::{Sink, SinkError, put_all};
 pub use stored::paths_differ;
-
-#[cfg(test)]
-mod tests;

@@ -7,8 +7,6 @@ mod measure;
 mod name;
 mod read;
 mod run;
-#[cfg(test)]
-mod tests;
 mod text;
 mod unit;
 mod walk;

@@ -6,8 +6,6 @@ mod instruction;
 mod lists;
 mod read;
 mod rows;
-#[cfg(test)]
-mod tests;
 
 pub use cut::{Instrs, cut_is_straight, one_cut, read_instrs};
 pub use instruction::Instr;

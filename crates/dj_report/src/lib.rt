@@ -7,8 +7,6 @@ mod outcome;
 mod parts;
 mod put;
 mod report;
-#[cfg(test)]
-mod tests;
 
 pub use bytes::{ReportError, bytes_of, status_of};
 pub use order::{compare, in_order};

@@ -7,8 +7,6 @@ mod files;
 mod lines;
 mod members;
 mod named;
-#[cfg(test)]
-mod tests;
 mod unbuilt;
 mod whole;
 

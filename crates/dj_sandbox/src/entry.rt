@@ -2,9 +2,6 @@ ghost use Rattle.std.specs.Prelude.{◌≡◌, ◌++◌, ◌==◌, if◌then◌e
 ghost use Rattle.dj_names.specs.ModifiedUtf8.{unit_text};
 ghost use Rattle.dj_sandbox.specs.Entry.{entry_name};
 
-#[cfg(test)]
-mod tests;
-
 use dj_names::{Name, NoMemory};
 use dj_rules::{RulesError, units_of_path};
 use std::alloc::Global;

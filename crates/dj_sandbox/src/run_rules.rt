@@ -6,9 +6,6 @@ ghost use Rattle.dj_straight.specs.Methods.{code_view, method_view, program_view
 ghost use Rattle.dj_sandbox.specs.Shaped.{shape_line, AreTold, AreShaped, AreShort, IsTold, IsMethodOf};
 ghost use Rattle.dj_rules.specs.Views.{path_file_view};
 
-#[cfg(test)]
-mod tests;
-
 use dj_names::Name;
 use dj_report::{PathFile, Violation, Violations, in_order};
 use dj_rules::RulesError;

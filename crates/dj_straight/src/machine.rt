@@ -13,8 +13,6 @@ mod heap;
 mod operands;
 mod parts;
 mod pay;
-#[cfg(test)]
-mod tests;
 mod turns;
 mod values;
 

@@ -3,9 +3,6 @@ ghost use Rattle.dj_straight.specs.Instructions.{instruction_of, local_does, loc
 ghost use Rattle.dj_ops.specs.Straight.{first_byte};
 ghost use Rattle.dj_straight.specs.Methods.{action_view};
 
-#[cfg(test)]
-mod tests;
-
 use dj_names::{Kind, Name, Value};
 use dj_ops::Instr;
 

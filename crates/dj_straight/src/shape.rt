@@ -9,9 +9,6 @@ ghost use Rattle.dj_straight.specs.declared.program.Action.{Action};
 ghost use Rattle.dj_straight.specs.Methods.{action_view, code_view, straight_signature};
 ghost use Rattle.dj_straight.specs.Shaping.{room, HasRoomOf, SameRoom, SameLocals, Leaves, Takes, Answers};
 
-#[cfg(test)]
-mod tests;
-
 use crate::program::{Action, StraightMethod};
 use dj_names::{Kind, Value};
 use dj_rules::RulesError;

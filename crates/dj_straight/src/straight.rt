@@ -10,8 +10,6 @@ ghost use Rattle.dj_straight.specs.Finds.{Finds};
 
 mod code;
 mod method;
-#[cfg(test)]
-mod tests;
 
 use crate::program::StraightClass;
 use dj_class::{ClassView, read_class};

@@ -1,0 +1,15 @@
+//! Tests of the crates that read class files and report on them.
+#![tactic(auto)]
+
+#[cfg(test)]
+mod class;
+#[cfg(test)]
+mod edge;
+#[cfg(test)]
+mod names;
+#[cfg(test)]
+mod ops;
+#[cfg(test)]
+mod report;
+#[cfg(test)]
+mod rules;

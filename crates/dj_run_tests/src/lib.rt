@@ -1,0 +1,7 @@
+//! Tests of the crates that run classes.
+#![tactic(auto)]
+
+#[cfg(test)]
+mod sandbox;
+#[cfg(test)]
+mod straight;

@@ -1,0 +1,159 @@
+ghost use Rattle.std.specs.Prelude.{◌≡◌, ◌<◌, ◌^◌, length, IfOk};
+ghost use Rattle.dj_straight.specs.Methods.{program_view};
+ghost use Rattle.dj_sandbox.specs.Shaped.{AreShort};
+
+use dj_names::{Costs, Kind, Name, Outcome};
+use dj_report::{PathFile, Report, Violation};
+use dj_rules::RulesError;
+use dj_sandbox::{check, entry_name, entry_of, has_entry, run_violations, verify};
+use dj_straight::{Action, StraightClass, StraightMethod};
+use std::alloc::Global;
+
+// A class A with a static method verify from an array of bytes to one, which returns what it is given.
+const A: &[u8] =
+    b"\xca\xfe\xba\xbe\0\0\04\0\x08\x01\0\x01A\x07\0\x01\x01\0\x10java/lang/Object\x07\0\x03\x01\0\x06veri\
+    fy\x01\0\x06([B)[B\x01\0\x04Code\0\x21\0\x02\0\x04\0\0\0\0\0\x01\0\x09\0\x05\0\x06\0\x01\0\x07\0\0\0\
+    \x0e\0\x01\0\x01\0\0\0\x02\x2a\xb0\0\0\0\0\0\0";
+
+const FILES: [PathFile<'static>; 1] = [PathFile {
+    path: "A.class",
+    bytes: A,
+}];
+
+#[test]
+fn checked(rt: HostRuntime) {
+    let report = check(rt.alloc(), &FILES);
+    assert!(rt; matches!(&report, Ok(Report::Accepted(1))));
+}
+
+fn is_returned(report: &Report) -> bool {
+    match report {
+        Report::Costed {
+            outcome: Outcome::OkBytes(bytes),
+            costs,
+        } => bytes.as_slice() == [10, 11].as_slice() && *costs == NO_COSTS,
+        _ => false,
+    }
+}
+
+const NO_COSTS: Costs = Costs {
+    alloc: 0,
+    invoke: 0,
+    jump: 0,
+    throw: 0,
+};
+
+#[test]
+fn run(rt: HostRuntime) {
+    let report = verify(rt.alloc(), &FILES, b"A", &[10, 11]);
+    assert!(rt; matches!(&report, Ok(report) if is_returned(report)));
+}
+
+// JVMS 4.4.7: U+0000 takes two bytes, and U+1F600 is the units D83D and DE00.
+const ENTRIES: [(&str, &[u8]); 4] = [
+    ("a.B", b"a/B"),
+    ("\0", b"\xc0\x80"),
+    ("\u{1f600}", b"\xed\xa0\xbd\xed\xb8\x80"),
+    ("\u{e9}", b"\xc3\xa9"),
+];
+
+fn is_entry_name(alloc: Global, word: &str, wanted: &[u8]) -> Result<bool, RulesError> {
+    Ok(entry_name(alloc, word)?.as_slice() == wanted)
+}
+
+#[test]
+fn names_of_entries(rt: HostRuntime) {
+    for (word, wanted) in &ENTRIES {
+        assert!(rt; is_entry_name(rt.alloc(), word, wanted) == Ok(true));
+    }
+}
+
+// aload_0, areturn
+const SHAPED: [Action; 2] = [Action::Load(Kind::Ref, 0), Action::ReturnReference];
+
+// aload_0, pop, areturn: nothing is left that areturn could take.
+const UNSHAPED: [Action; 3] = [
+    Action::Load(Kind::Ref, 0),
+    Action::Pop,
+    Action::ReturnReference,
+];
+
+// The class A with a public static method.
+fn class_of(
+    alloc: Global,
+    name: &[u8],
+    actions: &[Action],
+) -> Result<Option<StraightClass>, RulesError>
+    requires { length actions.now < 2 ^ 32 }
+    ensures classes { IfOk result (λ class. length (program_view class) ≡ 1) }
+    ensures short { IfOk result AreShort }
+{
+    let method = StraightMethod {
+        flags: 0x0009,
+        name: Name::from_slice(alloc, name)?,
+        max_stack: 1,
+        max_locals: 1,
+        actions: Vec::from_slice(alloc, actions)?,
+    };
+    let mut methods = Vec::new(alloc);
+    methods.push(method)?;
+    Ok(Some(StraightClass {
+        name: Name::from_slice(alloc, b"A")?,
+        flags: 0x0021,
+        methods,
+    }))
+}
+
+// A path, a member, a number and a rule.
+type Line = (&'static [u8], &'static [u8], Option<u32>, u8);
+
+const LINES: [Line; 2] = [
+    (b"A.class", b"", None, 20),
+    (b"A.class", b"other([B)[B", Some(2), 19),
+];
+
+fn is_line(found: &Violation, wanted: &Line) -> bool {
+    found.path.as_slice() == wanted.0
+        && found.member.as_slice() == wanted.1
+        && found.number == wanted.2
+        && found.rule == wanted.3
+}
+
+// Whether the class A with this method has these violations, and whether it has the entry then.
+fn violates(
+    alloc: Global,
+    name: &[u8],
+    actions: &[Action],
+    wanted: &[Line],
+) -> Result<bool, RulesError>
+    requires { length actions.now < 2 ^ 32 }
+{
+    let class = class_of(alloc, name, actions)?;
+    let found = run_violations(alloc, &FILES, &class, b"A")?;
+    let lines = found.as_slice();
+    Ok(
+        lines.len() == wanted.len()
+            && lines.iter().zip(wanted).all(|(a, b)| is_line(a, b))
+            && has_entry(&class, b"A") == wanted.is_empty(),
+    )
+}
+
+#[test]
+fn lines_in_order_and_none(rt: HostRuntime) {
+    assert!(rt; violates(rt.alloc(), b"other", &UNSHAPED, &LINES) == Ok(true));
+    assert!(rt; violates(rt.alloc(), b"verify", &SHAPED, &[]) == Ok(true));
+}
+
+fn is_entry(alloc: Global, entry: &[u8]) -> Result<bool, RulesError> {
+    let class = class_of(alloc, b"verify", &SHAPED)?;
+    match entry_of(&class, entry) {
+        Some(method) => Ok(method.name.as_slice() == b"verify".as_slice()),
+        None => Ok(false),
+    }
+}
+
+#[test]
+fn entries(rt: HostRuntime) {
+    assert!(rt; is_entry(rt.alloc(), b"A") == Ok(true));
+    assert!(rt; is_entry(rt.alloc(), b"B") == Ok(false));
+}

@@ -1,0 +1,100 @@
+ghost use Rattle.std.specs.Prelude.{◌≡◌, length, ◌^◌, ◌<◌};
+
+use dj_names::{Kind, Name, Outcome, Thresholds, Value};
+use dj_report::PathFile;
+use dj_rules::RulesError;
+use dj_straight::{
+    Action, Ending, IntOperation, StraightClass, StraightMethod, StraightSet, run_method,
+    shape_fault, straight_set,
+};
+use std::alloc::Global;
+use std::test::Fail;
+
+// A class A with a static method verify from an array of bytes to one, which returns what it is given.
+const A: &[u8] =
+    b"\xca\xfe\xba\xbe\0\0\04\0\x08\x01\0\x01A\x07\0\x01\x01\0\x10java/lang/Object\x07\0\x03\x01\0\x06veri\
+    fy\x01\0\x06([B)[B\x01\0\x04Code\0\x21\0\x02\0\x04\0\0\0\0\0\x01\0\x09\0\x05\0\x06\0\x01\0\x07\0\0\0\
+    \x0e\0\x01\0\x01\0\0\0\x02\x2a\xb0\0\0\0\0\0\0";
+
+const ALOAD_0: Action = Action::Load(Kind::Ref, 0);
+
+fn is_verify(methods: &[StraightMethod]) -> bool {
+    match methods {
+        [method] => {
+            method.name.as_slice() == b"verify".as_slice()
+                && method.actions.as_slice() == [ALOAD_0, Action::ReturnReference].as_slice()
+        }
+        _ => false,
+    }
+}
+
+fn is_class_a(set: &StraightSet) -> bool {
+    match &set.class {
+        Some(class) => class.name.as_slice() == b"A".as_slice() && is_verify(&class.methods),
+        None => false,
+    }
+}
+
+#[test]
+fn one_straight_class(rt: HostRuntime) {
+    let files = [PathFile {
+        path: "A.class",
+        bytes: A,
+    }];
+    let set = straight_set(rt.alloc(), &files);
+    assert!(rt; matches!(&set, Ok(Some(set)) if is_class_a(set)));
+}
+
+// The byte at the front of the input, less -3, in an array of its own.
+const LESS: [Action; 13] = [
+    ALOAD_0,
+    Action::Push(Value::Int(0)),
+    Action::LoadByte,
+    Action::Store(Kind::Int, 1),
+    Action::Push(Value::Int(1)),
+    Action::NewByteArray,
+    Action::Dup,
+    Action::Push(Value::Int(0)),
+    Action::Load(Kind::Int, 1),
+    Action::Push(Value::Int(-3)),
+    Action::Compute(IntOperation::Subtract),
+    Action::StoreByte,
+    Action::ReturnReference,
+];
+
+// Its run on the byte -5, where it has shape.
+fn run_of_less(alloc: Global) -> Result<Option<Ending>, RulesError> {
+    let method = StraightMethod {
+        flags: 9,
+        name: Name::from_slice(alloc, b"verify")?,
+        max_stack: 5,
+        max_locals: 2,
+        actions: Vec::from_slice(alloc, &LESS)?,
+    };
+    let thresholds = Thresholds {
+        alloc: 24,
+        invoke: 0,
+        jump: 0,
+        throw: 0,
+    };
+    match shape_fault(alloc, &method)? {
+        None => Ok(Some(run_method(alloc, &method, &[251], thresholds)?)),
+        Some(_) => Ok(None),
+    }
+}
+
+fn is_minus_two(ending: &Ending) -> bool {
+    match &ending.outcome {
+        Outcome::OkBytes(bytes) => {
+            bytes.as_slice() == [254].as_slice() && ending.costs.alloc == 24
+        }
+        _ => false,
+    }
+}
+
+// A byte has a sign: -5 less -3 is -2.
+#[test]
+fn run_with_shape(rt: HostRuntime) {
+    let run = run_of_less(rt.alloc());
+    assert!(rt; matches!(&run, Ok(Some(ending)) if is_minus_two(ending)));
+}
