@@ -6,7 +6,7 @@ use Rattle.std.proofs.lemmas.List.{take_at, drop_at, take-append-drop, length-ap
 use Rattle.std.proofs.lemmas.Nat.{be_bytes_2, be_bytes_4, be_bytes_8, from_be_bytes-to_be_bytes_2, from_be_bytes-to_be_bytes_4, from_be_bytes-to_be_bytes_8}
 use Rattle.dj_bytes.specs.declared.cursor.Cut.{Cut}
 use Rattle.dj_bytes.specs.Spelling.{u1, u2, u4, u8}
-use Rattle.dj_bytes.specs.Reading.{Cursor, bytes_at, number_at, text_at, u1_at, u2_at, u4_at, u8_at}
+use Rattle.dj_bytes.specs.Reading.{Cursor, bytes_at, number_at, block_at, u1_at, u2_at, u4_at, u8_at}
 use Rattle.dj_bytes.proofs.Bytes.{IsBytes, IsBytes-before}
 use Rattle.dj_bytes.proofs.Steps.{bind_ok, bind_again, bind_err, bind_fails, cond_either, cond_true, cond_false}
 use Rattle.dj_bytes.proofs.Spans.{Spans, Reads, Reads-spelled, lifted_reads}
@@ -96,8 +96,8 @@ number_reads w limit wide = record {
 
 -- ---- the same, with what a cut is to the reader
 
-pub text_reads : {E : Type 0} (cut : ℕ → E) (n : ℕ) → Reads (text_at cut n) (λ t. t) (λ t. length t ≡ n)
-text_reads cut n = lifted_reads (λ x. cut x.0) (bytes_reads n)
+pub block_reads : {E : Type 0} (cut : ℕ → E) (n : ℕ) → Reads (block_at cut n) (λ t. t) (λ t. length t ≡ n)
+block_reads cut n = lifted_reads (λ x. cut x.0) (bytes_reads n)
 
 byte_is : (n : ℕ) → n < 2 ^ 8 → to_be_bytes w8 n ≡ u1 n
 byte_is n lt = ap (λ (k : ℕ). k ∷ []) (omega arith)

@@ -18,7 +18,12 @@ pub chosen : {A : Type 0} (b : Bool) (x y z : A) → cond b x y ≡ z → ((b �
 chosen true x y z e = inl (refl, e)
 chosen false x y z e = inr (refl, e)
 
--- a test without which there is no value
+-- a test that chose a value
+pub chose_some : {A : Type 0} (b : Bool) (x y : A) → cond b (Some x) None ≡ Some y → (b ≡ true) × (x ≡ y)
+chose_some true x y e = (refl, cc)
+chose_some false x y e = absurd cc
+
+-- a test before another step
 pub went_on : {A : Type 0} (b : Bool) (o : Option A) (y : A) → cond b o None ≡ Some y → (b ≡ true) × (o ≡ Some y)
 went_on true o y e = (refl, e)
 went_on false o y e = absurd cc

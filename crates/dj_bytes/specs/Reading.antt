@@ -1,5 +1,5 @@
 -- Reading lists of bytes from left to right: the first item that doesn't fit is told by its place.
-use Rattle.std.specs.Prelude.{ℕ, zero, suc, ◌+◌, List, [], ◌∷◌, length, take, drop, Result, Ok, Err, nat_lt, if◌then◌else◌}
+use Rattle.std.specs.Prelude.{ℕ, zero, suc, ◌+◌, ◌==◌, Bool, List, [], ◌∷◌, length, take, drop, Result, Ok, Err, nat_lt, if◌then◌else◌}
 use Rattle.std.specs.Int.{Width, w8, w16, w32, w64, byte_len, from_be_bytes}
 use Rattle.dj_bytes.specs.declared.cursor.Cut.{Cut}
 use Rattle.dj_bytes.specs.Steps.{◌>>=◌, lifted}
@@ -12,6 +12,10 @@ pub record Cursor : Type 0 where
 -- the first of the bytes
 abbrev pub start_of : List ℕ → Cursor
 start_of bytes = record { place = 0; rest = bytes }
+
+-- no bytes are left
+abbrev pub at_end : Cursor → Bool
+at_end c = length c.rest == 0
 
 -- ---- bytes and numbers
 
@@ -29,8 +33,8 @@ number_at w c = do
 
 -- ---- the same, with what a cut at a place is to the reader
 
-abbrev pub text_at : {E : Type 0} → (ℕ → E) → ℕ → Cursor → Result (List ℕ × Cursor) E
-text_at cut n c = lifted (λ x. cut x.0) (bytes_at n c)
+abbrev pub block_at : {E : Type 0} → (ℕ → E) → ℕ → Cursor → Result (List ℕ × Cursor) E
+block_at cut n c = lifted (λ x. cut x.0) (bytes_at n c)
 
 abbrev pub u1_at : {E : Type 0} → (ℕ → E) → Cursor → Result (ℕ × Cursor) E
 u1_at cut c = lifted (λ x. cut x.0) (number_at w8 c)

@@ -1,4 +1,4 @@
-ghost use Rattle.std.specs.Prelude.{◌≡◌, ◌↔◌, ℕ, ◌+◌, ◌^◌, ◌<◌, [], IsTrue, length};
+ghost use Rattle.std.specs.Prelude.{◌≡◌, ℕ, ◌+◌, ◌^◌, ◌<◌, length};
 
 /// The place of an item that doesn't fit into what is left of the bytes.
 #[derive(Clone, Copy)]
@@ -15,7 +15,7 @@ pub struct Cursor<'a> {
 impl<'a> Cursor<'a> {
     ghost use Rattle.std.specs.Int.{w8, w16, w32, w64};
     ghost use Rattle.dj_bytes.specs.Steps.{never, Gives};
-    ghost use Rattle.dj_bytes.specs.Reading.{start_of, bytes_at, number_at};
+    ghost use Rattle.dj_bytes.specs.Reading.{start_of, at_end, bytes_at, number_at};
     ghost use Rattle.dj_bytes.specs.Views.{cursor_of};
 
     /// The first of the bytes, at place 0.
@@ -31,7 +31,7 @@ impl<'a> Cursor<'a> {
 
     /// Whether no bytes are left.
     pub fn is_at_end(self) -> bool
-        ensures { IsTrue result ↔ (self.entry.rest.now ≡ []) }
+        ensures { result ≡ at_end (cursor_of self.entry) }
     {
         self.rest.is_empty()
     }

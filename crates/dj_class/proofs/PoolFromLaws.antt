@@ -3,11 +3,16 @@ use Rattle.std.proofs.Common.{◌≡◌, ℕ, List, ◌∷◌, ◌++◌, drop, R
 use Rattle.std.specs.List.{flat_map}
 use Rattle.dj_class.specs.declared.pool.PoolError.{PoolError}
 use Rattle.dj_class.specs.declared.pool.PoolError.TheVariants as pool_errors
-use Rattle.dj_class.specs.Gives.{PoolGives}
-use Rattle.dj_class.specs.ClassFile.{Constant, u2, constant_bytes}
+use Rattle.dj_bytes.specs.Steps.{Gives}
+use Rattle.dj_class.specs.Memory.{pool_is_memory}
+use Rattle.dj_bytes.specs.Spelling.{u2}
+use Rattle.dj_class.specs.ClassFile.{Constant, constant_bytes}
 use Rattle.dj_class.specs.Pools.{IsPoolAt, NoPoolAt, IsUnbuiltPoolAt, IsMalformedPoolAt, ReadsPool}
-use Rattle.dj_class.specs.Reading.{Cursor, pool_from}
-use Rattle.dj_class.proofs.Spans.{IsBytes, IsBytes-drop, Spans, Spans-then, bind_again, bind_err, bind_fails, step_takes}
+use Rattle.dj_bytes.specs.Reading.{Cursor}
+use Rattle.dj_class.specs.Reading.{pool_from}
+use Rattle.dj_bytes.proofs.Bytes.{IsBytes, IsBytes-drop}
+use Rattle.dj_bytes.proofs.Steps.{bind_again, bind_err, bind_fails}
+use Rattle.dj_bytes.proofs.Spans.{Spans, Spans-then, step_takes}
 use Rattle.dj_class.proofs.Decides.{TestsDecide}
 use Rattle.dj_class.proofs.PoolLaws.{pool_reads}
 use Rattle.dj_class.proofs.UnbuiltLaws.{PoolStops, pool_stops, pool_halts}
@@ -78,7 +83,7 @@ is_malformed d bytes at e h other = record {
   built = λ place p. let one = unbuilt_pool d bytes at place p in other place (cc);
 }
 
-pub reads_pool : TestsDecide → (bytes : List ℕ) (at : ℕ) (r : Result (List Constant × ℕ) PoolError) → IsBytes bytes → PoolGives (λ (x : List Constant × ℕ). (x.0, x.1)) r (pool_from bytes at) → ReadsPool bytes at r
+pub reads_pool : TestsDecide → (bytes : List ℕ) (at : ℕ) (r : Result (List Constant × ℕ) PoolError) → IsBytes bytes → Gives pool_is_memory (λ (x : List Constant × ℕ). (x.0, x.1)) r (pool_from bytes at) → ReadsPool bytes at r
 reads_pool d bytes at (Ok x) fits given = pool_from_takes d bytes at x fits given
 reads_pool d bytes at (Err pool_errors.Memory) fits given = tt
 reads_pool d bytes at (Err (pool_errors.Cut p)) fits given = is_malformed d bytes at _ given (λ place h. absurd cc)
