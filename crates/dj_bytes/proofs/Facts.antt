@@ -3,7 +3,7 @@ use Rattle.std.proofs.Common.{◌≡◌, ◌≢◌, ℕ, List, [], ◌∷◌, Re
 use Rattle.std.specs.Int.{w8, w16, w32, w64}
 use Rattle.dj_bytes.specs.declared.cursor.Cut.{Cut}
 use Rattle.dj_bytes.specs.Spelling.{u1, u2, u4, u8, s1, s2, s4, table_bytes}
-use Rattle.dj_bytes.specs.Reading.{Cursor, start_of, bytes_at, number_at, u2_at, many_at, table_at}
+use Rattle.dj_bytes.specs.Reading.{Cursor, start_of, cursor_at, bytes_at, number_at, u2_at, many_at, table_at}
 
 -- ---- spelling
 
@@ -49,6 +49,15 @@ found h = cc
 
 abbrev cut : {A : Type 0} → ℕ → Result A Cut
 cut place = Err (record { 0 = place })
+
+later : cursor_at 3 five ≡ after 3 (4 ∷ 5 ∷ [])
+unfolding five
+later = refl
+
+-- past the end there are no bytes
+past_end : cursor_at 7 five ≡ after 7 []
+unfolding five
+past_end = refl
 
 bytes-are : bytes_at 2 (after 7 five) ≡ Ok (1 ∷ 2 ∷ [], after 9 (3 ∷ 4 ∷ 5 ∷ []))
 unfolding five

@@ -9,7 +9,11 @@ pub record Cursor : Type 0 where
   pub place : ℕ
   pub rest : List ℕ
 
--- the first of the bytes
+-- the bytes from this place on; past the end there are none
+abbrev pub cursor_at : ℕ → List ℕ → Cursor
+cursor_at place bytes = record { place = place; rest = drop place bytes }
+
+-- all of the bytes
 abbrev pub start_of : List ℕ → Cursor
 start_of bytes = record { place = 0; rest = bytes }
 

@@ -15,10 +15,10 @@ pub struct Cursor<'a> {
 impl<'a> Cursor<'a> {
     ghost use Rattle.std.specs.Int.{w8, w16, w32, w64};
     ghost use Rattle.dj_bytes.specs.Steps.{never, Gives};
-    ghost use Rattle.dj_bytes.specs.Reading.{start_of, at_end, bytes_at, number_at};
+    ghost use Rattle.dj_bytes.specs.Reading.{start_of, cursor_at, at_end, bytes_at, number_at};
     ghost use Rattle.dj_bytes.specs.Views.{cursor_of};
 
-    /// The first of the bytes, at place 0.
+    /// All of the bytes, from place 0 on.
     pub fn start(bytes: &'a [u8]) -> Cursor<'a>
         requires { length bytes.now < 2 ^ 32 }
         ensures { cursor_of result ≡ start_of bytes.now }
@@ -26,6 +26,18 @@ impl<'a> Cursor<'a> {
         Cursor {
             rest: bytes,
             place: 0,
+        }
+    }
+
+    /// The bytes from this place on; past their end there are none.
+    pub fn at(bytes: &'a [u8], place: u32) -> Cursor<'a>
+        requires { length bytes.now < 2 ^ 32 }
+        ensures { cursor_of result ≡ cursor_at place bytes.now }
+    {
+        let start = bytes.len().min(place as usize);
+        Cursor {
+            rest: &bytes[start..],
+            place,
         }
     }
 

@@ -1,23 +1,23 @@
 -- A class file that is read is spelled so, and one that is spelled so is read.
-use Rattle.std.proofs.Common.{◌≡◌, ℕ, ◌==◌, if◌then◌else◌, List, [], ◌++◌, length, Result, Ok, Err, refl, sym, ap, subst, ◌∙◌, append_assoc, append-nil, arith}
+use Rattle.std.proofs.Common.{◌≡◌, ℕ, if◌then◌else◌, List, [], ◌++◌, length, Result, Ok, Err, refl, sym, ap, subst, ◌∙◌, append_assoc, append-nil, arith}
 use Rattle.std.proofs.lemmas.Bool.{eqb-true, eq-eqb}
 use Rattle.std.proofs.lemmas.List.{nil_from_length}
-use Rattle.dj_class.specs.declared.class.ClassError.{ClassError}
-use Rattle.dj_class.specs.declared.class.ClassError.TheVariants as class_errors
 use Rattle.dj_bytes.specs.Spelling.{u2, table_bytes}
-use Rattle.dj_class.specs.ClassFile.{ClassFile, Constant, AttributeInfo, MemberInfo, pool_bytes, attribute_bytes, member_bytes, header_bytes, class_bytes, IsPool, IsField, IsMethod, AreAttributes, IsValid, IsClassFile}
 use Rattle.dj_bytes.specs.Steps.{◌>>=◌}
 use Rattle.dj_bytes.specs.Reading.{Cursor, start_of, at_end, table_at}
-use Rattle.dj_class.specs.Reading.{attribute_at, member_at, Heading, class_file_of}
-use Rattle.dj_names.specs.Tests.{unqualified_name_test, method_name_test, field_descriptor_test, method_descriptor_test}
-use Rattle.dj_names.specs.Names.{IsUnqualifiedName, IsMethodName}
-use Rattle.dj_names.specs.Descriptors.{IsFieldDescriptor, IsMethodDescriptor}
 use Rattle.dj_bytes.proofs.Bytes.{IsBytes}
 use Rattle.dj_bytes.proofs.Steps.{bind_again, guard_ok, guard_again}
 use Rattle.dj_bytes.proofs.Spans.{Spans, Spans-then, Spans-end, Reads, step_takes, step_again, lifted_reads}
+use Rattle.dj_bytes.proofs.Parts.{AreFew, table_reads}
+use Rattle.dj_names.specs.Tests.{unqualified_name_test, method_name_test, field_descriptor_test, method_descriptor_test}
+use Rattle.dj_names.specs.Names.{IsUnqualifiedName, IsMethodName}
+use Rattle.dj_names.specs.Descriptors.{IsFieldDescriptor, IsMethodDescriptor}
+use Rattle.dj_class.specs.declared.class.ClassError.{ClassError}
+use Rattle.dj_class.specs.declared.class.ClassError.TheVariants as class_errors
+use Rattle.dj_class.specs.ClassFile.{ClassFile, Constant, AttributeInfo, MemberInfo, pool_bytes, attribute_bytes, member_bytes, header_bytes, class_bytes, IsPool, IsField, IsMethod, AreAttributes, IsValid, IsClassFile}
+use Rattle.dj_class.specs.Reading.{attribute_at, member_at, Heading, class_file_of}
 use Rattle.dj_class.proofs.Decides.{TestsDecide}
 use Rattle.dj_class.proofs.PoolLaws.{pool_reads}
-use Rattle.dj_bytes.proofs.Parts.{AreFew, table_reads}
 use Rattle.dj_class.proofs.PartLaws.{AreVersions, attributes_read, member_reads, header_reads, heading_bytes, IsHeading, heading_reads}
 
 pub fields_read : (d : TestsDecide) (pool : List Constant) → IsPool pool → Reads (table_at class_errors.Cut (member_at unqualified_name_test field_descriptor_test pool)) (table_bytes member_bytes) (AreFew (IsField pool))

@@ -3,24 +3,24 @@ use Rattle.std.proofs.Common.{◌≡◌, ℕ, ◌^◌, ◌<◌, ◌&&◌, true, 
 use Rattle.std.proofs.lemmas.Bool.{eqb-true}
 use Rattle.std.proofs.lemmas.Bool.Decides.{nat_tests}
 use Rattle.std.proofs.lemmas.List.{nil_from_length}
-use Rattle.dj_ops.specs.declared.rows.CatchRow.{CatchRow}
-use Rattle.dj_class.specs.declared.pool.PoolError.TheVariants as pool_errors
-use Rattle.dj_class.specs.declared.class.ClassError.{ClassError}
-use Rattle.dj_class.specs.declared.class.ClassError.TheVariants as class_errors
-use Rattle.dj_class.specs.declared.code.CodeView.{CodeView}
 use Rattle.dj_bytes.specs.Spelling.{u2, u4, table_bytes}
-use Rattle.dj_class.specs.ClassFile.{AttributeInfo, attribute_bytes}
-use Rattle.dj_class.specs.Code.{CodeInfo, row_bytes, code_info_bytes, IsRow, IsCodeAttribute, IsCode}
-use Rattle.dj_class.specs.CodeViews.{code_of, ReadsCode}
-use Rattle.dj_class.specs.CodeReading.{code_length_at, code_front_at, row_at, code_attribute_at, code_read}
 use Rattle.dj_bytes.specs.Steps.{Gives}
-use Rattle.dj_class.specs.Memory.{is_memory}
 use Rattle.dj_bytes.specs.Reading.{Cursor, start_of}
 use Rattle.dj_bytes.proofs.Bytes.{IsBytes}
 use Rattle.dj_bytes.proofs.Steps.{bind_again, guard_ok, guard_again}
 use Rattle.dj_bytes.proofs.Spans.{Spans, Spans-then, Spans-end, Reads, step_takes, step_again}
 use Rattle.dj_bytes.proofs.Numbers.{u2_reads, u4_reads, block_reads}
 use Rattle.dj_bytes.proofs.Parts.{table_reads}
+use Rattle.dj_ops.specs.declared.rows.CatchRow.{CatchRow}
+use Rattle.dj_class.specs.declared.pool.PoolError.TheVariants as pool_errors
+use Rattle.dj_class.specs.declared.class.ClassError.{ClassError}
+use Rattle.dj_class.specs.declared.class.ClassError.TheVariants as class_errors
+use Rattle.dj_class.specs.declared.code.CodeView.{CodeView}
+use Rattle.dj_class.specs.ClassFile.{AttributeInfo, attribute_bytes}
+use Rattle.dj_class.specs.Code.{CodeInfo, row_bytes, code_info_bytes, IsRow, IsCodeAttribute, IsCode}
+use Rattle.dj_class.specs.CodeViews.{code_of, ReadsCode}
+use Rattle.dj_class.specs.CodeReading.{code_length_at, code_front_at, row_at, code_attribute_at, code_read}
+use Rattle.dj_class.specs.Memory.{is_memory}
 
 -- ---- rows
 

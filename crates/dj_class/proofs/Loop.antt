@@ -1,15 +1,15 @@
 -- Reading constants one after the other, as a loop does.
-use Rattle.std.proofs.Common.{◌≡◌, ℕ, suc, ◌-◌, ◌+◌, ◌≤◌, ◌<◌, List, [], ◌∷◌, ◌++◌, Result, Ok, Err, refl, sym, ap, subst, ◌∙◌, append_assoc, arith}
+use Rattle.std.proofs.Common.{◌≡◌, ℕ, suc, ◌-◌, ◌+◌, ◌≤◌, ◌<◌, List, [], ◌∷◌, ◌++◌, Result, Ok, sym, ap, subst, ◌∙◌, arith}
 use Rattle.std.proofs.lemmas.List.{append-nil}
-use Rattle.dj_class.specs.declared.pool.PoolError.{PoolError}
 use Rattle.dj_bytes.proofs.Steps.{fails_then}
 use Rattle.dj_bytes.proofs.Loop.{with_front, with_front-next}
-use Rattle.dj_class.specs.ClassFile.{Constant}
-use Rattle.dj_bytes.specs.Steps.{◌>>=◌, lifted}
-use Rattle.dj_bytes.specs.Reading.{Cursor, many_at}
-use Rattle.dj_class.specs.Reading.{constant_at_cursor, constants_at}
+use Rattle.dj_bytes.specs.Steps.{◌>>=◌}
+use Rattle.dj_bytes.specs.Reading.{Cursor}
 use Rattle.dj_bytes.specs.Steps.{Fails}
-use Rattle.dj_class.specs.Memory.{pool_is_memory, is_memory}
+use Rattle.dj_class.specs.declared.pool.PoolError.{PoolError}
+use Rattle.dj_class.specs.ClassFile.{Constant}
+use Rattle.dj_class.specs.Reading.{constant_at_cursor, constants_at}
+use Rattle.dj_class.specs.Memory.{pool_is_memory}
 
 pub constants_go_on : (front : List Constant) (count i : ℕ) (c : Cursor) (n : Constant) (after : Cursor) (total : Result (List Constant × Cursor) PoolError) → i < count → constant_at_cursor (i + 1) c ≡ Ok (n, after)
     → with_front front (constants_at (count - i) (i + 1) c) ≡ total → with_front (front ++ n ∷ []) (constants_at (count - (i + 1)) (i + 1 + 1) after) ≡ total

@@ -1,23 +1,21 @@
 -- Indexes, tables, attributes, fields and methods: what is read is spelled so, and what is spelled so is read.
-use Rattle.std.proofs.Common.{◌≡◌, ℕ, zero, suc, ◌+◌, ◌^◌, ◌<◌, ◌==◌, ◌||◌, ◌⊎◌, Bool, true, eqb, List, [], ◌∷◌, ◌++◌, length, Option, Some, None, IsSomeAnd, option_and_then, Result, Ok, refl, sym, ap, subst, ◌∙◌, arith, inl, inr}
-use Rattle.std.specs.List.{flat_map, AllByRecursion}
+use Rattle.std.proofs.Common.{◌≡◌, ℕ, zero, suc, ◌+◌, ◌^◌, ◌<◌, ◌==◌, ◌||◌, ◌⊎◌, Bool, true, eqb, List, ◌++◌, length, Option, Some, None, IsSomeAnd, option_and_then, Ok, refl, sym, ap, subst, ◌∙◌, arith, inl, inr}
 use Rattle.std.specs.Prelude.{⊤}
 use Rattle.std.proofs.lemmas.Bool.{eqb-true, eq-eqb, or_cases}
 use Rattle.std.proofs.lemmas.Option.{slice_get_within}
 use Rattle.std.proofs.Math.Bool.{or-true}
-use Rattle.dj_class.specs.declared.class.ClassError.{ClassError}
-use Rattle.dj_class.specs.declared.class.ClassError.TheVariants as class_errors
 use Rattle.dj_bytes.specs.Spelling.{u2, u4, table_bytes}
-use Rattle.dj_class.specs.ClassFile.{Constant, AttributeInfo, MemberInfo, attribute_bytes, member_bytes, header_bytes, constant_at, text_at, text_of, text_index_of, class_name_at, NamesClass, IsPool, IsAttribute, AreAttributes, IsMember}
-use Rattle.dj_bytes.specs.Reading.{Cursor, many_at, table_at}
-use Rattle.dj_class.specs.Reading.{index_at, text_passes, is_class, attribute_at, member_at, versions_at, header_at, Heading, heading_at}
+use Rattle.dj_bytes.specs.Reading.{Cursor, table_at}
+use Rattle.dj_bytes.proofs.Bytes.{IsBytes}
+use Rattle.dj_bytes.proofs.Steps.{bind_again, never_ok, guard_ok, guard_again, cond_either}
+use Rattle.dj_bytes.proofs.Parts.{AreFew, table_reads}
+use Rattle.dj_bytes.proofs.Spans.{Reads-good, Spans, Spans-then, Reads, step_takes, step_again}
+use Rattle.dj_bytes.proofs.Numbers.{u2_reads, u4_reads, block_reads}
 use Rattle.dj_names.specs.Tests.{class_name_test}
 use Rattle.dj_names.specs.Names.{IsClassName}
-use Rattle.dj_bytes.proofs.Bytes.{IsBytes}
-use Rattle.dj_bytes.proofs.Steps.{bind_ok, bind_again, never_ok, guard_ok, guard_again, cond_either}
-use Rattle.dj_bytes.proofs.Parts.{AreFew, table_reads}
-use Rattle.dj_bytes.proofs.Spans.{Reads-good, Spans, Spans-none, Spans-then, Spans-stay, Reads, step_takes, step_again}
-use Rattle.dj_bytes.proofs.Numbers.{u2_reads, u4_reads, block_reads}
+use Rattle.dj_class.specs.declared.class.ClassError.TheVariants as class_errors
+use Rattle.dj_class.specs.ClassFile.{Constant, AttributeInfo, MemberInfo, attribute_bytes, member_bytes, header_bytes, constant_at, text_at, text_of, text_index_of, class_name_at, NamesClass, IsPool, IsAttribute, AreAttributes, IsMember}
+use Rattle.dj_class.specs.Reading.{index_at, text_passes, is_class, attribute_at, member_at, versions_at, header_at, Heading, heading_at}
 use Rattle.dj_class.proofs.Decides.{DecidesText, TestsDecide, passes_takes, passes_again, any_text}
 
 -- ---- indexes

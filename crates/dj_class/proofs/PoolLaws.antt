@@ -3,16 +3,16 @@ use Rattle.std.proofs.Common.{◌≡◌, ℕ, zero, suc, ◌+◌, ◌-◌, ◌<�
 use Rattle.std.specs.List.{flat_map, list_any, AllByRecursion}
 use Rattle.std.proofs.lemmas.Bool.{eqb-true}
 use Rattle.std.proofs.lemmas.Bool.Decides.{nat_tests}
-use Rattle.dj_class.specs.declared.pool.PoolError.TheVariants as pool_errors
 use Rattle.dj_bytes.specs.Spelling.{u1, u2}
-use Rattle.dj_class.specs.ClassFile.{Constant, Utf8, Class, constant_bytes, pool_bytes, text_at, AreConstants, IsClassText, IsPool}
-use Rattle.dj_class.specs.Unbuilt.{IsWhole, unbuilt_tags}
 use Rattle.dj_bytes.specs.Reading.{Cursor}
-use Rattle.dj_class.specs.Reading.{utf8_at, class_at, constant_at_cursor, constants_at, is_linked, first_unlinked, linked, linked_constants_at, pool_at, class_text_test}
 use Rattle.dj_bytes.proofs.Bytes.{IsBytes}
 use Rattle.dj_bytes.proofs.Steps.{bind_ok, bind_again, never_ok, fails_both, guard_ok, guard_again, cond_either, cond_true, cond_false}
 use Rattle.dj_bytes.proofs.Spans.{Spans, Spans-none, Spans-then, Reads, step_takes, Spans-stay, step_again}
 use Rattle.dj_bytes.proofs.Numbers.{u1_reads, u2_reads, block_reads}
+use Rattle.dj_class.specs.declared.pool.PoolError.TheVariants as pool_errors
+use Rattle.dj_class.specs.ClassFile.{Constant, Utf8, Class, constant_bytes, pool_bytes, text_at, AreConstants, IsClassText, IsPool}
+use Rattle.dj_class.specs.Unbuilt.{IsWhole, unbuilt_tags}
+use Rattle.dj_class.specs.Reading.{utf8_at, class_at, constant_at_cursor, constants_at, is_linked, first_unlinked, linked, linked_constants_at, pool_at, class_text_test}
 use Rattle.dj_class.proofs.Decides.{TestsDecide, passes_takes, passes_again, class_text}
 
 -- ---- a constant

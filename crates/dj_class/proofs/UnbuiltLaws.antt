@@ -1,29 +1,29 @@
 -- Constants that are not read yet: they are told where they stand, and told only there.
-use Rattle.std.proofs.Common.{◌≡◌, ℕ, zero, suc, ◌+◌, ◌-◌, ◌^◌, ◌<◌, ◌==◌, ◌||◌, Bool, true, false, cond, eqb, nat_eq, List, [], ◌∷◌, ◌++◌, length, Contains, Option, Some, None, Result, Ok, Err, refl, sym, ap, subst, ◌∙◌, append_assoc, arith}
+use Rattle.std.proofs.Common.{◌≡◌, ℕ, zero, suc, ◌+◌, ◌-◌, ◌^◌, ◌<◌, ◌==◌, ◌||◌, Bool, true, false, cond, eqb, nat_eq, List, [], ◌∷◌, ◌++◌, length, Contains, Option, Some, None, Result, Err, refl, sym, ap, subst, ◌∙◌, append_assoc, arith}
 use Rattle.std.specs.List.{flat_map, list_any, AllByRecursion}
 use Rattle.std.specs.Int.{w16, w32}
 use Rattle.std.proofs.lemmas.Bool.{eqb-true}
 use Rattle.std.proofs.lemmas.Bool.Decides.{nat_tests}
 use Rattle.std.proofs.lemmas.List.Elements.{All-from_recursion}
 use Rattle.std.proofs.lemmas.Map.Views.{Contains-from_any}
-use Rattle.dj_class.specs.declared.pool.PoolError.{PoolError}
-use Rattle.dj_class.specs.declared.pool.PoolError.TheVariants as pool_errors
-use Rattle.dj_class.specs.declared.class.ClassError.{ClassError}
-use Rattle.dj_class.specs.declared.class.ClassError.TheVariants as class_errors
-use Rattle.dj_bytes.specs.Spelling.{u1, u2}
-use Rattle.dj_class.specs.ClassFile.{Constant, header_bytes, constant_bytes}
-use Rattle.dj_class.specs.Unbuilt.{unbuilt_tags, IsWhole, IsUnbuiltAt}
-use Rattle.dj_bytes.specs.Steps.{◌>>=◌, lifted}
-use Rattle.dj_bytes.specs.Reading.{Cursor, start_of, number_at, bytes_at, table_at}
-use Rattle.dj_class.specs.Reading.{utf8_at, class_at, constant_at_cursor, constants_at, linked, linked_constants_at, pool_at, index_at, is_text, is_class, text_passes, attribute_at, member_at, versions_at, header_at, Heading, heading_at, class_file_of}
-use Rattle.dj_names.specs.Tests.{unqualified_name_test, method_name_test, field_descriptor_test, method_descriptor_test}
 use Rattle.std.specs.Prelude.{⊤}
+use Rattle.dj_bytes.specs.Spelling.{u1, u2}
+use Rattle.dj_bytes.specs.Steps.{lifted}
+use Rattle.dj_bytes.specs.Reading.{Cursor, start_of, number_at, bytes_at}
 use Rattle.dj_bytes.specs.declared.cursor.Cut.{Cut}
 use Rattle.dj_bytes.proofs.Faults.{Never, past, guard_never, lifted_never, table_never}
 use Rattle.dj_bytes.proofs.Bytes.{IsBytes}
 use Rattle.dj_bytes.proofs.Steps.{bind_again, bind_err, bind_fails, lifted_err, cond_either, cond_true, cond_false}
 use Rattle.dj_bytes.proofs.Spans.{IsBytes-Spans, Spans, Spans-none, Spans-then, step_again}
 use Rattle.dj_bytes.proofs.Numbers.{u1_reads, u2_reads}
+use Rattle.dj_names.specs.Tests.{unqualified_name_test, method_name_test, field_descriptor_test, method_descriptor_test}
+use Rattle.dj_class.specs.declared.pool.PoolError.{PoolError}
+use Rattle.dj_class.specs.declared.pool.PoolError.TheVariants as pool_errors
+use Rattle.dj_class.specs.declared.class.ClassError.{ClassError}
+use Rattle.dj_class.specs.declared.class.ClassError.TheVariants as class_errors
+use Rattle.dj_class.specs.ClassFile.{Constant, header_bytes, constant_bytes}
+use Rattle.dj_class.specs.Unbuilt.{unbuilt_tags, IsWhole, IsUnbuiltAt}
+use Rattle.dj_class.specs.Reading.{utf8_at, class_at, constant_at_cursor, constants_at, linked, linked_constants_at, pool_at, index_at, is_text, is_class, text_passes, attribute_at, member_at, versions_at, header_at, Heading, heading_at, class_file_of}
 use Rattle.dj_class.proofs.Decides.{TestsDecide}
 use Rattle.dj_class.proofs.PoolLaws.{constant_reads}
 use Rattle.dj_class.proofs.PartLaws.{header_reads}

@@ -1,15 +1,15 @@
 -- Reading a whole file, part by part.
-use Rattle.std.proofs.Common.{◌≡◌, ℕ, cond, nat_eq, List, length, Result, Ok, Err, refl, sym, subst, ◌∙◌}
+use Rattle.std.proofs.Common.{◌≡◌, ℕ, cond, List, Result, Ok, Err, refl, sym, subst, ◌∙◌}
+use Rattle.dj_bytes.specs.Steps.{◌>>=◌, lifted}
+use Rattle.dj_bytes.specs.Reading.{Cursor, start_of, at_end, table_at}
+use Rattle.dj_bytes.specs.Steps.{Fails}
+use Rattle.dj_bytes.proofs.Steps.{fails_then}
 use Rattle.dj_names.specs.Tests.{unqualified_name_test, method_name_test, field_descriptor_test, method_descriptor_test}
 use Rattle.dj_class.specs.declared.class.ClassError.{ClassError}
 use Rattle.dj_class.specs.declared.class.ClassError.TheVariants as class_errors
 use Rattle.dj_class.specs.ClassFile.{Constant, AttributeInfo, MemberInfo, ClassFile}
-use Rattle.dj_bytes.specs.Steps.{◌>>=◌, lifted}
-use Rattle.dj_bytes.specs.Reading.{Cursor, start_of, at_end, table_at}
 use Rattle.dj_class.specs.Reading.{Heading, attribute_at, member_at, header_at, heading_at, pool_at, class_file_of}
-use Rattle.dj_bytes.specs.Steps.{Fails}
 use Rattle.dj_class.specs.Memory.{is_memory}
-use Rattle.dj_bytes.proofs.Steps.{fails_then}
 
 -- what was read up to the interfaces
 pub record Front : Type 0 where

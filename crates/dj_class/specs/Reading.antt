@@ -1,8 +1,8 @@
 -- The reader's own: reading from left to right, with the first fault that is met.
-use Rattle.std.specs.Prelude.{ℕ, zero, suc, ◌+◌, ◌-◌, ◌==◌, ◌||◌, Bool, true, false, List, [], ◌∷◌, length, take, drop, Option, Some, None, Result, Ok, Err, nat_lt, nat_eq, if◌then◌else◌}
+use Rattle.std.specs.Prelude.{ℕ, zero, suc, ◌+◌, ◌-◌, ◌==◌, ◌||◌, Bool, true, false, List, [], ◌∷◌, Option, Some, None, Result, Ok, Err, nat_eq, if◌then◌else◌}
 use Rattle.std.specs.List.{list_any}
 use Rattle.dj_bytes.specs.Steps.{◌>>=◌, lifted}
-use Rattle.dj_bytes.specs.Reading.{Cursor, start_of, at_end, block_at, u1_at, u2_at, u4_at, table_at}
+use Rattle.dj_bytes.specs.Reading.{Cursor, start_of, cursor_at, at_end, block_at, u1_at, u2_at, u4_at, table_at}
 use Rattle.dj_names.specs.Tests.{unqualified_name_test, method_name_test, class_name_test, modified_utf8_test, field_descriptor_test, method_descriptor_test, array_descriptor_test}
 use Rattle.dj_class.specs.declared.pool.PoolError.{PoolError}
 use Rattle.dj_class.specs.declared.pool.PoolError.TheVariants as pool_errors
@@ -79,7 +79,7 @@ pool_at c = do
 -- the pool whose count stands at this place of the bytes, and the place after it
 unfoldable pub pool_from : List ℕ → ℕ → Result (List Constant × ℕ) PoolError
 pool_from bytes at = do
-  pool ← pool_at (record { place = at; rest = drop at bytes })
+  pool ← pool_at (cursor_at at bytes)
   Ok (pool.0, pool.1.place)
 
 -- an index that the test passes

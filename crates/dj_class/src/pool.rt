@@ -270,12 +270,7 @@ fn read_from<'a>(alloc: Global, file: &'a [u8], at: u32) -> Result<(Pool<'a>, u3
     requires { length file.now < 2 ^ 32 }
     ensures { Gives pool_is_memory (λ x. (x.0, x.1)) result (pool_from file.now at) }
 {
-    let start = file.len().min(at as usize);
-    let cursor = Cursor {
-        rest: &file[start..],
-        place: at,
-    };
-    match read_pool_at(alloc, cursor) {
+    match read_pool_at(alloc, Cursor::at(file, at)) {
         Ok((pool, after)) => Ok((pool, after.place)),
         Err(e) => Err(e),
     }

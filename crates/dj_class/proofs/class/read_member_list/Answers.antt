@@ -1,13 +1,13 @@
 use Rattle.std.proofs.Common.{◌≡◌, ◌++◌, ◌∷◌, [], map}
 use Rattle.std.proofs.lemmas.Result.{err_from_is_err_and}
 use Rattle.std.proofs.lemmas.List.{map_push}
+use Rattle.dj_bytes.specs.Reading.{many_at}
+use Rattle.dj_bytes.specs.Views.{cursor_of}
+use Rattle.dj_bytes.proofs.Loop.{goes_on, ends, is_done}
 use Rattle.dj_class.specs.Members.{member_of}
 use Rattle.dj_class.specs.Tests.{test_of}
-use Rattle.dj_bytes.specs.Reading.{many_at}
 use Rattle.dj_class.specs.Reading.{member_at}
-use Rattle.dj_bytes.specs.Views.{cursor_of}
 use Rattle.dj_class.specs.Memory.{is_memory}
-use Rattle.dj_bytes.proofs.Loop.{goes_on, ends, is_done}
 use Rattle.dj_class.proofs.class.read_member_list.Goals as goal
 
 pub returns-in_err-member : goal.returns-in_err-member

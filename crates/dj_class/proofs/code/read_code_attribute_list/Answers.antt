@@ -1,12 +1,12 @@
 use Rattle.std.proofs.Common.{◌≡◌, ◌++◌, ◌∷◌, [], map}
 use Rattle.std.proofs.lemmas.Result.{err_from_is_err_and}
 use Rattle.std.proofs.lemmas.List.{map_push}
-use Rattle.dj_class.specs.Parts.{attribute_of}
 use Rattle.dj_bytes.specs.Reading.{many_at}
-use Rattle.dj_class.specs.CodeReading.{code_attribute_at}
 use Rattle.dj_bytes.specs.Views.{cursor_of}
-use Rattle.dj_class.specs.Memory.{is_memory}
 use Rattle.dj_bytes.proofs.Loop.{goes_on, ends, is_done}
+use Rattle.dj_class.specs.Parts.{attribute_of}
+use Rattle.dj_class.specs.CodeReading.{code_attribute_at}
+use Rattle.dj_class.specs.Memory.{is_memory}
 use Rattle.dj_class.proofs.code.read_code_attribute_list.Goals as goal
 
 pub returns-in_err-attribute : goal.returns-in_err-attribute
