@@ -3,9 +3,8 @@ use Rattle.std.proofs.Common.{◌≡◌, ℕ, suc, ◌-◌, ◌+◌, ◌≤◌, 
 use Rattle.std.proofs.lemmas.List.{append-nil}
 use Rattle.dj_bytes.proofs.Steps.{fails_then}
 use Rattle.dj_bytes.proofs.Loop.{with_front, with_front-next}
-use Rattle.dj_bytes.specs.Steps.{◌>>=◌}
+use Rattle.dj_bytes.specs.Steps.{◌>>=◌, Fails}
 use Rattle.dj_bytes.specs.Reading.{Cursor}
-use Rattle.dj_bytes.specs.Steps.{Fails}
 use Rattle.dj_class.specs.declared.pool.PoolError.{PoolError}
 use Rattle.dj_class.specs.ClassFile.{Constant}
 use Rattle.dj_class.specs.Reading.{constant_at_cursor, constants_at}

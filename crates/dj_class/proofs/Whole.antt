@@ -1,8 +1,7 @@
 -- Reading a whole file, part by part.
 use Rattle.std.proofs.Common.{◌≡◌, ℕ, cond, List, Result, Ok, Err, refl, sym, subst, ◌∙◌}
-use Rattle.dj_bytes.specs.Steps.{◌>>=◌, lifted}
+use Rattle.dj_bytes.specs.Steps.{◌>>=◌, lifted, Fails}
 use Rattle.dj_bytes.specs.Reading.{Cursor, start_of, at_end, table_at}
-use Rattle.dj_bytes.specs.Steps.{Fails}
 use Rattle.dj_bytes.proofs.Steps.{fails_then}
 use Rattle.dj_names.specs.Tests.{unqualified_name_test, method_name_test, field_descriptor_test, method_descriptor_test}
 use Rattle.dj_class.specs.declared.class.ClassError.{ClassError}

@@ -87,7 +87,8 @@ fn read_row_list<'a>(
 
 #[tactic(auto, unfolding(dj_bytes::specs::Reading::table_at))]
 fn read_rows<'a>(alloc: Global, cursor: Cursor<'a>) -> Result<(Rows, Cursor<'a>), ClassError>
-    ensures { Gives is_memory (λ x. (x.0, cursor_of x.1)) result (table_at class_errors.Cut row_at (cursor_of cursor.entry)) }
+    ensures { Gives is_memory (λ x. (x.0, cursor_of x.1)) result
+        (table_at class_errors.Cut row_at (cursor_of cursor.entry)) }
 {
     let (count, after) = cursor.u16_at()?;
     let (rows, after) = read_row_list(alloc, count, after)?;
