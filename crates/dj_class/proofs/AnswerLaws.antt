@@ -1,5 +1,7 @@
 -- What reading a class file answers, and that no two answers are right.
 use Rattle.std.proofs.Common.{◌≡◌, ℕ, List, Result, Ok, Err}
+use Rattle.dj_bytes.specs.Steps.{Gives}
+use Rattle.dj_bytes.proofs.Bytes.{IsBytes}
 use Rattle.dj_class.specs.declared.pool.PoolError.TheVariants as pool_errors
 use Rattle.dj_class.specs.declared.class.ClassError.{ClassError}
 use Rattle.dj_class.specs.declared.class.ClassError.TheVariants as class_errors
@@ -8,8 +10,7 @@ use Rattle.dj_class.specs.ClassFile.{ClassFile, IsClassFile}
 use Rattle.dj_class.specs.Unbuilt.{IsUnbuiltAt, IsMalformed}
 use Rattle.dj_class.specs.Views.{class_of, ReadsClass}
 use Rattle.dj_class.specs.Reading.{class_file_of}
-use Rattle.dj_class.specs.Gives.{Gives}
-use Rattle.dj_class.proofs.Spans.{IsBytes}
+use Rattle.dj_class.specs.Memory.{is_memory}
 use Rattle.dj_class.proofs.Decides.{TestsDecide}
 use Rattle.dj_class.proofs.ClassLaws.{class_file_takes, class_file_again}
 use Rattle.dj_class.proofs.UnbuiltLaws.{class_file_unbuilt, unbuilt_file}
@@ -35,7 +36,7 @@ is_malformed d bytes e h other = record {
   built = λ place p. let one = unbuilt_file d bytes place p in other place (cc);
 }
 
-pub reads_class : TestsDecide → (bytes : List ℕ) (r : Result ClassView ClassError) → IsBytes bytes → Gives class_of r (class_file_of bytes) → ReadsClass bytes r
+pub reads_class : TestsDecide → (bytes : List ℕ) (r : Result ClassView ClassError) → IsBytes bytes → Gives is_memory class_of r (class_file_of bytes) → ReadsClass bytes r
 reads_class d bytes (Ok view) fits given = class_file_takes d bytes (class_of view) fits given
 reads_class d bytes (Err (class_errors.Pool (pool_errors.Unbuilt place))) fits given = class_file_unbuilt d bytes place fits given
 reads_class d bytes (Err (class_errors.Pool pool_errors.Memory)) fits given = tt

@@ -1,35 +1,38 @@
 -- A class file that is read is spelled so, and one that is spelled so is read.
-use Rattle.std.proofs.Common.{◌≡◌, ℕ, ◌==◌, if◌then◌else◌, List, [], ◌++◌, length, Result, Ok, Err, refl, sym, ap, subst, ◌∙◌, append_assoc, append-nil, arith}
+use Rattle.std.proofs.Common.{◌≡◌, ℕ, if◌then◌else◌, List, [], ◌++◌, length, Result, Ok, Err, refl, sym, ap, subst, ◌∙◌, append_assoc, append-nil, arith}
 use Rattle.std.proofs.lemmas.Bool.{eqb-true, eq-eqb}
 use Rattle.std.proofs.lemmas.List.{nil_from_length}
-use Rattle.dj_class.specs.declared.class.ClassError.{ClassError}
-use Rattle.dj_class.specs.declared.class.ClassError.TheVariants as class_errors
-use Rattle.dj_class.specs.ClassFile.{ClassFile, Constant, AttributeInfo, MemberInfo, u2, pool_bytes, table_bytes, attribute_bytes, member_bytes, header_bytes, class_bytes, IsPool, IsField, IsMethod, AreAttributes, IsValid, IsClassFile}
-use Rattle.dj_class.specs.Reading.{Cursor, ◌>>=◌, attribute_at, member_at, table_at, Heading, class_file_of}
+use Rattle.dj_bytes.specs.Spelling.{u2, table_bytes}
+use Rattle.dj_bytes.specs.Steps.{◌>>=◌}
+use Rattle.dj_bytes.specs.Reading.{Cursor, start_of, at_end, table_at}
+use Rattle.dj_bytes.proofs.Bytes.{IsBytes}
+use Rattle.dj_bytes.proofs.Steps.{bind_again, guard_ok, guard_again}
+use Rattle.dj_bytes.proofs.Spans.{Spans, Spans-then, Spans-end, Reads, step_takes, step_again, lifted_reads}
+use Rattle.dj_bytes.proofs.Parts.{AreFew, table_reads}
 use Rattle.dj_names.specs.Tests.{unqualified_name_test, method_name_test, field_descriptor_test, method_descriptor_test}
 use Rattle.dj_names.specs.Names.{IsUnqualifiedName, IsMethodName}
 use Rattle.dj_names.specs.Descriptors.{IsFieldDescriptor, IsMethodDescriptor}
-use Rattle.dj_class.proofs.Spans.{IsBytes, Spans, Spans-then, Spans-end, Reads, step_takes, step_again, bind_again, guard_ok, guard_again, lifted_reads}
+use Rattle.dj_class.specs.declared.class.ClassError.{ClassError}
+use Rattle.dj_class.specs.declared.class.ClassError.TheVariants as class_errors
+use Rattle.dj_class.specs.ClassFile.{ClassFile, Constant, AttributeInfo, MemberInfo, pool_bytes, attribute_bytes, member_bytes, header_bytes, class_bytes, IsPool, IsField, IsMethod, AreAttributes, IsValid, IsClassFile}
+use Rattle.dj_class.specs.Reading.{attribute_at, member_at, Heading, class_file_of}
 use Rattle.dj_class.proofs.Decides.{TestsDecide}
 use Rattle.dj_class.proofs.PoolLaws.{pool_reads}
-use Rattle.dj_class.proofs.PartLaws.{AreFew, AreVersions, table_reads, attributes_read, member_reads, header_reads, heading_bytes, IsHeading, heading_reads}
+use Rattle.dj_class.proofs.PartLaws.{AreVersions, attributes_read, member_reads, header_reads, heading_bytes, IsHeading, heading_reads}
 
-pub fields_read : (d : TestsDecide) (pool : List Constant) → IsPool pool → Reads (table_at (member_at unqualified_name_test field_descriptor_test pool)) (table_bytes member_bytes) (AreFew (IsField pool))
-fields_read d pool valid = table_reads (member_reads unqualified_name_test field_descriptor_test IsUnqualifiedName IsFieldDescriptor d.unqualified_name d.field_descriptor pool valid)
+pub fields_read : (d : TestsDecide) (pool : List Constant) → IsPool pool → Reads (table_at class_errors.Cut (member_at unqualified_name_test field_descriptor_test pool)) (table_bytes member_bytes) (AreFew (IsField pool))
+fields_read d pool valid = table_reads class_errors.Cut (member_reads unqualified_name_test field_descriptor_test IsUnqualifiedName IsFieldDescriptor d.unqualified_name d.field_descriptor pool valid)
 
-pub methods_read : (d : TestsDecide) (pool : List Constant) → IsPool pool → Reads (table_at (member_at method_name_test method_descriptor_test pool)) (table_bytes member_bytes) (AreFew (IsMethod pool))
-methods_read d pool valid = table_reads (member_reads method_name_test method_descriptor_test IsMethodName IsMethodDescriptor d.method_name d.method_descriptor pool valid)
-
-abbrev pub start : List ℕ → Cursor
-start bytes = record { place = 0; rest = bytes }
+pub methods_read : (d : TestsDecide) (pool : List Constant) → IsPool pool → Reads (table_at class_errors.Cut (member_at method_name_test method_descriptor_test pool)) (table_bytes member_bytes) (AreFew (IsMethod pool))
+methods_read d pool valid = table_reads class_errors.Cut (member_reads method_name_test method_descriptor_test IsMethodName IsMethodDescriptor d.method_name d.method_descriptor pool valid)
 
 -- what follows the heading, once the rest is known
 abbrev pub tail_at : List Constant → ℕ × ℕ → Heading → Cursor → Result ClassFile ClassError
 tail_at pool versions h c = do
-  fields ← table_at (member_at unqualified_name_test field_descriptor_test pool) c
-  methods ← table_at (member_at method_name_test method_descriptor_test pool) fields.1
-  attributes ← table_at (attribute_at pool) methods.1
-  if length attributes.1.rest == 0 then Ok (record {
+  fields ← table_at class_errors.Cut (member_at unqualified_name_test field_descriptor_test pool) c
+  methods ← table_at class_errors.Cut (member_at method_name_test method_descriptor_test pool) fields.1
+  attributes ← table_at class_errors.Cut (attribute_at pool) methods.1
+  if at_end attributes.1 then Ok (record {
     minor = versions.0;
     major = versions.1;
     pool = pool;
@@ -138,10 +141,10 @@ whole_takes versions pool h a b x gv gp gh s t =
 pub class_file_takes : TestsDecide → (bytes : List ℕ) (c : ClassFile) → IsBytes bytes → class_file_of bytes ≡ Ok c → IsClassFile bytes c
 unfolding class_file_of
 class_file_takes d bytes c fits e =
-    let header = step_takes header_reads (start bytes) fits e in
+    let header = step_takes header_reads (start_of bytes) fits e in
     let pool = step_takes (lifted_reads class_errors.Pool (pool_reads d)) header.next header.fits header.rest in
     let heading = step_takes (heading_reads d pool.value pool.good) pool.next pool.fits pool.rest in
-    whole_takes header.value pool.value heading.value (start bytes) heading.next c header.good pool.good heading.good
+    whole_takes header.value pool.value heading.value (start_of bytes) heading.next c header.good pool.good heading.good
     (Spans-then header.spans (Spans-then pool.spans heading.spans))
     (tail_takes d pool.value pool.good header.value heading.value heading.next c heading.fits heading.rest)
 
@@ -160,8 +163,8 @@ class_file_again d bytes c file =
     let t2 : List ℕ = heading_bytes (heading_of c) ++ t3 in
     let text : List ℕ = header_bytes c.minor c.major ++ (pool_bytes c.pool ++ t2) in
     let spelled : bytes ≡ text = file.spelled ∙ sym (parts_are (c.minor, c.major) c.pool (heading_of c) c.fields c.methods c.attributes) in
-    let whole : Spans (start bytes) text end = record { parts = spelled ∙ sym (append-nil text); place = omega (arith, ap length spelled) } in
-    let header = step_again header_reads (start bytes) (c.minor, c.major) (pool_bytes c.pool ++ t2) end (v.minor, v.major) whole in
+    let whole : Spans (start_of bytes) text end = record { parts = spelled ∙ sym (append-nil text); place = omega (arith, ap length spelled) } in
+    let header = step_again header_reads (start_of bytes) (c.minor, c.major) (pool_bytes c.pool ++ t2) end (v.minor, v.major) whole in
     let pool = step_again (lifted_reads class_errors.Pool (pool_reads d)) header.0 c.pool t2 end v.pool header.2 in
     let heading = step_again (heading_reads d c.pool v.pool) pool.0 (heading_of c) t3 end (heading_valid c v) pool.2 in
     bind_again _ header.1 (bind_again _ pool.1 (bind_again _ heading.1

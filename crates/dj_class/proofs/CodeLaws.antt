@@ -3,19 +3,24 @@ use Rattle.std.proofs.Common.{◌≡◌, ℕ, ◌^◌, ◌<◌, ◌&&◌, true, 
 use Rattle.std.proofs.lemmas.Bool.{eqb-true}
 use Rattle.std.proofs.lemmas.Bool.Decides.{nat_tests}
 use Rattle.std.proofs.lemmas.List.{nil_from_length}
+use Rattle.dj_bytes.specs.Spelling.{u2, u4, table_bytes}
+use Rattle.dj_bytes.specs.Steps.{Gives}
+use Rattle.dj_bytes.specs.Reading.{Cursor, start_of}
+use Rattle.dj_bytes.proofs.Bytes.{IsBytes}
+use Rattle.dj_bytes.proofs.Steps.{bind_again, guard_ok, guard_again}
+use Rattle.dj_bytes.proofs.Spans.{Spans, Spans-then, Spans-end, Reads, step_takes, step_again}
+use Rattle.dj_bytes.proofs.Numbers.{u2_reads, u4_reads, block_reads}
+use Rattle.dj_bytes.proofs.Parts.{table_reads}
 use Rattle.dj_ops.specs.declared.rows.CatchRow.{CatchRow}
 use Rattle.dj_class.specs.declared.pool.PoolError.TheVariants as pool_errors
 use Rattle.dj_class.specs.declared.class.ClassError.{ClassError}
 use Rattle.dj_class.specs.declared.class.ClassError.TheVariants as class_errors
 use Rattle.dj_class.specs.declared.code.CodeView.{CodeView}
-use Rattle.dj_class.specs.ClassFile.{AttributeInfo, u2, u4, table_bytes, attribute_bytes}
+use Rattle.dj_class.specs.ClassFile.{AttributeInfo, attribute_bytes}
 use Rattle.dj_class.specs.Code.{CodeInfo, row_bytes, code_info_bytes, IsRow, IsCodeAttribute, IsCode}
 use Rattle.dj_class.specs.CodeViews.{code_of, ReadsCode}
 use Rattle.dj_class.specs.CodeReading.{code_length_at, code_front_at, row_at, code_attribute_at, code_read}
-use Rattle.dj_class.specs.Gives.{Gives}
-use Rattle.dj_class.specs.Reading.{Cursor}
-use Rattle.dj_class.proofs.Spans.{IsBytes, Spans, Spans-then, Spans-end, Reads, step_takes, step_again, bind_again, guard_ok, guard_again, u2_reads, u4_reads, text_reads}
-use Rattle.dj_class.proofs.PartLaws.{table_reads}
+use Rattle.dj_class.specs.Memory.{is_memory}
 
 -- ---- rows
 
@@ -49,7 +54,7 @@ unfolding code_attribute_at
 code_attribute_takes c x fits e =
     let name = step_takes (u2_reads class_errors.Cut) c fits e in
     let len = step_takes (u4_reads class_errors.Cut) name.next name.fits name.rest in
-    let body = step_takes (text_reads class_errors.Cut len.value) len.next len.fits len.rest in
+    let body = step_takes (block_reads class_errors.Cut len.value) len.next len.fits len.rest in
     let made : (record { name = name.value; body = body.value }, body.next) ≡ x = cc (body.rest) in
     let whole : Spans c (u2 name.value ++ (u4 len.value ++ body.value)) body.next = Spans-then name.spans (Spans-then len.spans body.spans) in
     let spelled : Spans c (u2 name.value ++ (u4 (length body.value) ++ body.value)) body.next = subst (λ (k : ℕ). Spans c (u2 name.value ++ (u4 k ++ body.value)) body.next) (sym body.good) whole in
@@ -60,7 +65,7 @@ unfolding code_attribute_at
 code_attribute_again c x next good s =
     let name = step_again (u2_reads class_errors.Cut) c x.name (u4 (length x.body) ++ x.body) next good.name s in
     let len = step_again (u4_reads class_errors.Cut) name.0 (length x.body) x.body next good.body name.2 in
-    bind_again _ name.1 (bind_again _ len.1 (bind_again _ ((text_reads class_errors.Cut (length x.body)).again len.0 x.body next refl len.2) refl))
+    bind_again _ name.1 (bind_again _ len.1 (bind_again _ ((block_reads class_errors.Cut (length x.body)).again len.0 x.body next refl len.2) refl))
 
 pub code_attribute_reads : Reads code_attribute_at attribute_bytes IsCodeAttribute
 code_attribute_reads = record { takes = code_attribute_takes; again = code_attribute_again }
@@ -101,7 +106,7 @@ front_takes c x fits e =
     let max_stack = step_takes (u2_reads class_errors.Cut) c fits e in
     let max_locals = step_takes (u2_reads class_errors.Cut) max_stack.next max_stack.fits max_stack.rest in
     let len = step_takes length_reads max_locals.next max_locals.fits max_locals.rest in
-    let code = step_takes (text_reads class_errors.Cut len.value) len.next len.fits len.rest in
+    let code = step_takes (block_reads class_errors.Cut len.value) len.next len.fits len.rest in
     let made : ((max_stack.value, max_locals.value, code.value), code.next) ≡ x = cc (code.rest) in
     let whole : Spans c (u2 max_stack.value ++ (u2 max_locals.value ++ (u4 len.value ++ code.value))) code.next = Spans-then max_stack.spans (Spans-then max_locals.spans (Spans-then len.spans code.spans)) in
     let spelled : Spans c (front_bytes (max_stack.value, max_locals.value, code.value)) code.next = subst (λ (k : ℕ). Spans c (u2 max_stack.value ++ (u2 max_locals.value ++ (u4 k ++ code.value))) code.next) (sym code.good) whole in
@@ -114,15 +119,12 @@ front_again c f next good s =
     let max_stack = step_again (u2_reads class_errors.Cut) c f.0 (u2 f.1 ++ (u4 (length f.2) ++ f.2)) next good.max_stack s in
     let max_locals = step_again (u2_reads class_errors.Cut) max_stack.0 f.1 (u4 (length f.2) ++ f.2) next good.max_locals max_stack.2 in
     let len = step_again length_reads max_locals.0 (length f.2) f.2 next good.code max_locals.2 in
-    bind_again _ max_stack.1 (bind_again _ max_locals.1 (bind_again _ len.1 (bind_again _ ((text_reads class_errors.Cut (length f.2)).again len.0 f.2 next refl len.2) refl)))
+    bind_again _ max_stack.1 (bind_again _ max_locals.1 (bind_again _ len.1 (bind_again _ ((block_reads class_errors.Cut (length f.2)).again len.0 f.2 next refl len.2) refl)))
 
 front_reads : Reads code_front_at front_bytes IsFront
 front_reads = record { takes = front_takes; again = front_again }
 
 -- ---- the whole body
-
-abbrev start : List ℕ → Cursor
-start bytes = record { place = 0; rest = bytes }
 
 abbrev front_of : CodeInfo → ℕ × ℕ × List ℕ
 front_of c = (c.max_stack, c.max_locals, c.code)
@@ -141,14 +143,14 @@ parts_are f table attributes = regroup (u2 f.0) (u2 f.1) (u4 (length f.2)) f.2 (
 code_takes : (body : List ℕ) (c : CodeInfo) → IsBytes body → code_read body ≡ Ok c → IsCode body c
 unfolding code_read
 code_takes body c fits e =
-    let front = step_takes front_reads (start body) fits e in
-    let table = step_takes (table_reads row_reads) front.next front.fits front.rest in
-    let attributes = step_takes (table_reads code_attribute_reads) table.next table.fits table.rest in
+    let front = step_takes front_reads (start_of body) fits e in
+    let table = step_takes (table_reads class_errors.Cut row_reads) front.next front.fits front.rest in
+    let attributes = step_takes (table_reads class_errors.Cut code_attribute_reads) table.next table.fits table.rest in
     let g = guard_ok _ attributes.rest in
     let nothing : attributes.next.rest ≡ [] = nil_from_length attributes.next.rest (eqb-true _ _ g.0) in
-    let spans : Spans (start body) (front_bytes front.value ++ (table_bytes row_bytes table.value ++ table_bytes attribute_bytes attributes.value)) attributes.next = Spans-then front.spans (Spans-then table.spans attributes.spans) in
+    let spans : Spans (start_of body) (front_bytes front.value ++ (table_bytes row_bytes table.value ++ table_bytes attribute_bytes attributes.value)) attributes.next = Spans-then front.spans (Spans-then table.spans attributes.spans) in
     subst (IsCode body) g.1 (record {
-      spelled = Spans-end (start body) _ attributes.next spans nothing ∙ parts_are front.value table.value attributes.value;
+      spelled = Spans-end (start_of body) _ attributes.next spans nothing ∙ parts_are front.value table.value attributes.value;
       valid = record {
         max_stack = front.good.max_stack;
         max_locals = front.good.max_locals;
@@ -168,10 +170,10 @@ code_again body c is =
     let end : Cursor = record { place = length body; rest = [] } in
     let tail : List ℕ = table_bytes row_bytes c.table ++ table_bytes attribute_bytes c.attributes in
     let spelled : body ≡ front_bytes (front_of c) ++ tail = is.spelled ∙ sym (parts_are (front_of c) c.table c.attributes) in
-    let whole : Spans (start body) (front_bytes (front_of c) ++ tail) end = record { parts = spelled ∙ sym (append-nil _); place = omega (arith, ap length spelled) } in
-    let front = step_again front_reads (start body) (front_of c) tail end (record { max_stack = v.max_stack; max_locals = v.max_locals; code = (v.some_code, v.few_code) }) whole in
-    let table = step_again (table_reads row_reads) front.0 c.table (table_bytes attribute_bytes c.attributes) end (v.row_count, v.rows) front.2 in
-    let attributes = (table_reads code_attribute_reads).again table.0 c.attributes end (v.attribute_count, v.attributes) table.2 in
+    let whole : Spans (start_of body) (front_bytes (front_of c) ++ tail) end = record { parts = spelled ∙ sym (append-nil _); place = omega (arith, ap length spelled) } in
+    let front = step_again front_reads (start_of body) (front_of c) tail end (record { max_stack = v.max_stack; max_locals = v.max_locals; code = (v.some_code, v.few_code) }) whole in
+    let table = step_again (table_reads class_errors.Cut row_reads) front.0 c.table (table_bytes attribute_bytes c.attributes) end (v.row_count, v.rows) front.2 in
+    let attributes = (table_reads class_errors.Cut code_attribute_reads).again table.0 c.attributes end (v.attribute_count, v.attributes) table.2 in
     bind_again _ front.1 (bind_again _ table.1 (bind_again _ attributes (guard_again (class_errors.Trailing (length body)) refl)))
 
 -- a body is one Code attribute's at most
@@ -185,7 +187,7 @@ one_code body c d p q =
 no_code : (body : List ℕ) (e : ClassError) → code_read body ≡ Err e → (c : CodeInfo) → IsCode body c → ⊥
 no_code body e h c is = let read = code_again body c is in absurd cc
 
-pub reads_code : (body : List ℕ) (r : Result CodeView ClassError) → IsBytes body → Gives code_of r (code_read body) → ReadsCode body r
+pub reads_code : (body : List ℕ) (r : Result CodeView ClassError) → IsBytes body → Gives is_memory code_of r (code_read body) → ReadsCode body r
 reads_code body (Ok view) fits given = code_takes body (code_of view) fits given
 reads_code body (Err (class_errors.Pool pool_errors.Memory)) fits given = tt
 reads_code body (Err (class_errors.Pool (pool_errors.Cut p))) fits given = no_code body _ given

@@ -1,7 +1,6 @@
 pub mod Entries
 pub mod Loop
 pub mod Whole
-pub mod Spans
 pub mod Decides
 pub mod PoolLaws
 pub mod PartLaws

@@ -1,26 +1,22 @@
 -- Indexes, tables, attributes, fields and methods: what is read is spelled so, and what is spelled so is read.
-use Rattle.std.proofs.Common.{◌≡◌, ℕ, zero, suc, ◌+◌, ◌^◌, ◌<◌, ◌==◌, ◌||◌, ◌⊎◌, Bool, true, eqb, List, [], ◌∷◌, ◌++◌, length, Option, Some, None, IsSomeAnd, option_and_then, Result, Ok, refl, sym, ap, subst, ◌∙◌, arith, inl, inr}
-use Rattle.std.specs.List.{flat_map, AllByRecursion}
+use Rattle.std.proofs.Common.{◌≡◌, ℕ, zero, suc, ◌+◌, ◌^◌, ◌<◌, ◌==◌, ◌||◌, ◌⊎◌, Bool, true, eqb, List, ◌++◌, length, Option, Some, None, IsSomeAnd, option_and_then, Ok, refl, sym, ap, subst, ◌∙◌, arith, inl, inr}
 use Rattle.std.specs.Prelude.{⊤}
 use Rattle.std.proofs.lemmas.Bool.{eqb-true, eq-eqb, or_cases}
 use Rattle.std.proofs.lemmas.Option.{slice_get_within}
 use Rattle.std.proofs.Math.Bool.{or-true}
-use Rattle.dj_class.specs.declared.class.ClassError.{ClassError}
-use Rattle.dj_class.specs.declared.class.ClassError.TheVariants as class_errors
-use Rattle.dj_class.specs.ClassFile.{Constant, AttributeInfo, MemberInfo, u2, u4, table_bytes, attribute_bytes, member_bytes, header_bytes, constant_at, text_at, text_of, text_index_of, class_name_at, NamesClass, IsPool, IsAttribute, AreAttributes, IsMember}
-use Rattle.dj_class.specs.Reading.{Cursor, index_at, many_at, table_at, text_passes, is_class, attribute_at, member_at, versions_at, header_at, Heading, heading_at}
+use Rattle.dj_bytes.specs.Spelling.{u2, u4, table_bytes}
+use Rattle.dj_bytes.specs.Reading.{Cursor, table_at}
+use Rattle.dj_bytes.proofs.Bytes.{IsBytes}
+use Rattle.dj_bytes.proofs.Steps.{bind_again, never_ok, guard_ok, guard_again, cond_either}
+use Rattle.dj_bytes.proofs.Parts.{AreFew, table_reads}
+use Rattle.dj_bytes.proofs.Spans.{Reads-good, Spans, Spans-then, Reads, step_takes, step_again}
+use Rattle.dj_bytes.proofs.Numbers.{u2_reads, u4_reads, block_reads}
 use Rattle.dj_names.specs.Tests.{class_name_test}
 use Rattle.dj_names.specs.Names.{IsClassName}
-use Rattle.dj_class.proofs.Spans.{IsBytes, Spans, Spans-none, Spans-then, Spans-stay, Reads, step_takes, step_again, bind_ok, bind_again, never_ok, guard_ok, guard_again, cond_either, u2_reads, u4_reads, text_reads}
+use Rattle.dj_class.specs.declared.class.ClassError.TheVariants as class_errors
+use Rattle.dj_class.specs.ClassFile.{Constant, AttributeInfo, MemberInfo, attribute_bytes, member_bytes, header_bytes, constant_at, text_at, text_of, text_index_of, class_name_at, NamesClass, IsPool, IsAttribute, AreAttributes, IsMember}
+use Rattle.dj_class.specs.Reading.{index_at, text_passes, is_class, attribute_at, member_at, versions_at, header_at, Heading, heading_at}
 use Rattle.dj_class.proofs.Decides.{DecidesText, TestsDecide, passes_takes, passes_again, any_text}
-
--- the same law, with what is good said in other words
-pub Reads-good : {A E : Type 0} {part : Cursor → Result (A × Cursor) E} {bytes_of : A → List ℕ} {P Q : A → Type 0}
-    → Reads part bytes_of P → ((x : A) → P x → Q x) → ((x : A) → Q x → P x) → Reads part bytes_of Q
-Reads-good reads to from = record {
-  takes = λ c x fits e. let t = reads.takes c x fits e in (t.0, to x.0 t.1);
-  again = λ c x next good s. reads.again c x next (from x good) s;
-}
 
 -- ---- indexes
 
@@ -93,58 +89,6 @@ super_index_reads d pool valid = Reads-good (index_reads (λ index. index == 0 |
       | inr n ↦ (class_below pool i valid n, ap (λ b. eqb i 0 || b) (passes_again class_name_test IsClassName d.class_name (class_name_at pool i) n) ∙ or-true (eqb i 0))
     ])
 
--- ---- many parts, and tables
-
-abbrev pub AreMany : {A : Type 0} → (A → Type 0) → ℕ → List A → Type 0
-AreMany P n xs = (length xs ≡ n) × AllByRecursion P xs
-
-many_take : {A : Type 0} (part : Cursor → Result (A × Cursor) ClassError) (bytes_of : A → List ℕ) (P : A → Type 0) → Reads part bytes_of P → (n : ℕ) (c : Cursor) (x : List A × Cursor)
-    → IsBytes c.rest → many_at part n c ≡ Ok x → Spans c (flat_map bytes_of x.0) x.1 × AreMany P n x.0
-unfolding many_at
-many_take part bytes_of P reads zero c x fits e =
-    let made : ([], c) ≡ x = cc in
-    subst (λ (y : List _ × Cursor). Spans c (flat_map bytes_of y.0) y.1 × AreMany P 0 y.0) made (Spans-none c, (refl, tt))
-many_take part bytes_of P reads (suc n) c x fits e =
-    let a = step_takes reads c fits e in
-    let b = bind_ok a.rest in
-    let t = many_take part bytes_of P reads n a.next b.0 a.fits b.1 in
-    let made : (a.value ∷ b.0.0, b.0.1) ≡ x = cc (b.2) in
-    subst (λ (y : List _ × Cursor). Spans c (flat_map bytes_of y.0) y.1 × AreMany P (suc n) y.0) made (Spans-then a.spans t.0, (ap suc t.1.0, (a.good, t.1.1)))
-
-many_again : {A : Type 0} (part : Cursor → Result (A × Cursor) ClassError) (bytes_of : A → List ℕ) (P : A → Type 0) → Reads part bytes_of P → (n : ℕ) (c : Cursor) (xs : List A) (next : Cursor)
-    → AreMany P n xs → Spans c (flat_map bytes_of xs) next → many_at part n c ≡ Ok (xs, next)
-unfolding many_at
-many_again part bytes_of P reads zero c [] next good s = ap (λ (m : Cursor). Ok ([], m)) (Spans-stay s)
-many_again part bytes_of P reads zero c (x ∷ xs) next good s = absurd (omega (arith, good.0))
-many_again part bytes_of P reads (suc n) c [] next good s = absurd (omega (arith, good.0))
-many_again part bytes_of P reads (suc n) c (x ∷ xs) next good s =
-    let a = step_again reads c x (flat_map bytes_of xs) next good.1.0 s in
-    bind_again _ a.1 (bind_again _ (many_again part bytes_of P reads n a.0 xs next (omega (arith, good.0), good.1.1) a.2) refl)
-
-pub many_read : {A : Type 0} {part : Cursor → Result (A × Cursor) ClassError} {bytes_of : A → List ℕ} {P : A → Type 0} → Reads part bytes_of P → (n : ℕ) → Reads (many_at part n) (flat_map bytes_of) (AreMany P n)
-many_read {part} {bytes_of} {P} reads n = record { takes = many_take part bytes_of P reads n; again = many_again part bytes_of P reads n }
-
-abbrev pub AreFew : {A : Type 0} → (A → Type 0) → List A → Type 0
-AreFew P xs = (length xs < 2 ^ 16) × AllByRecursion P xs
-
-table_takes : {A : Type 0} (part : Cursor → Result (A × Cursor) ClassError) (bytes_of : A → List ℕ) (P : A → Type 0) → Reads part bytes_of P → (c : Cursor) (x : List A × Cursor)
-    → IsBytes c.rest → table_at part c ≡ Ok x → Spans c (table_bytes bytes_of x.0) x.1 × AreFew P x.0
-unfolding table_at
-table_takes part bytes_of P reads c x fits e =
-    let n = step_takes (u2_reads class_errors.Cut) c fits e in
-    let t = (many_read reads n.value).takes n.next x n.fits n.rest in
-    (subst (λ (k : ℕ). Spans c (u2 k ++ flat_map bytes_of x.0) x.1) (sym t.1.0) (Spans-then n.spans t.0), (omega (arith, t.1.0, n.good), t.1.1))
-
-table_again : {A : Type 0} (part : Cursor → Result (A × Cursor) ClassError) (bytes_of : A → List ℕ) (P : A → Type 0) → Reads part bytes_of P → (c : Cursor) (x : List A) (next : Cursor)
-    → AreFew P x → Spans c (table_bytes bytes_of x) next → table_at part c ≡ Ok (x, next)
-unfolding table_at
-table_again part bytes_of P reads c x next good s =
-    let n = step_again (u2_reads class_errors.Cut) c (length x) (flat_map bytes_of x) next good.0 s in
-    bind_again _ n.1 ((many_read reads (length x)).again n.0 x next (refl, good.1) n.2)
-
-pub table_reads : {A : Type 0} {part : Cursor → Result (A × Cursor) ClassError} {bytes_of : A → List ℕ} {P : A → Type 0} → Reads part bytes_of P → Reads (table_at part) (table_bytes bytes_of) (AreFew P)
-table_reads {part} {bytes_of} {P} reads = record { takes = table_takes part bytes_of P reads; again = table_again part bytes_of P reads }
-
 -- ---- attributes
 
 attribute_takes : (pool : List Constant) → IsPool pool → (c : Cursor) (x : AttributeInfo × Cursor) → IsBytes c.rest → attribute_at pool c ≡ Ok x → Spans c (attribute_bytes x.0) x.1 × IsAttribute pool x.0
@@ -152,7 +96,7 @@ unfolding attribute_at
 attribute_takes pool valid c x fits e =
     let name = step_takes (text_index_reads pool (λ _. true) (λ _. ⊤) valid any_text) c fits e in
     let len = step_takes (u4_reads class_errors.Cut) name.next name.fits name.rest in
-    let body = step_takes (text_reads class_errors.Cut len.value) len.next len.fits len.rest in
+    let body = step_takes (block_reads class_errors.Cut len.value) len.next len.fits len.rest in
     let made : (record { name = name.value; body = body.value }, body.next) ≡ x = cc (body.rest) in
     let whole : Spans c (u2 name.value ++ (u4 len.value ++ body.value)) body.next = Spans-then name.spans (Spans-then len.spans body.spans) in
     let spelled : Spans c (u2 name.value ++ (u4 (length body.value) ++ body.value)) body.next = subst (λ (k : ℕ). Spans c (u2 name.value ++ (u4 k ++ body.value)) body.next) (sym body.good) whole in
@@ -163,13 +107,13 @@ unfolding attribute_at
 attribute_again pool valid c x next good s =
     let name = step_again (text_index_reads pool (λ _. true) (λ _. ⊤) valid any_text) c x.name (u4 (length x.body) ++ x.body) next good.name s in
     let len = step_again (u4_reads class_errors.Cut) name.0 (length x.body) x.body next good.body name.2 in
-    bind_again _ name.1 (bind_again _ len.1 (bind_again _ ((text_reads class_errors.Cut (length x.body)).again len.0 x.body next refl len.2) refl))
+    bind_again _ name.1 (bind_again _ len.1 (bind_again _ ((block_reads class_errors.Cut (length x.body)).again len.0 x.body next refl len.2) refl))
 
 pub attribute_reads : (pool : List Constant) → IsPool pool → Reads (attribute_at pool) attribute_bytes (IsAttribute pool)
 attribute_reads pool valid = record { takes = attribute_takes pool valid; again = attribute_again pool valid }
 
-pub attributes_read : (pool : List Constant) → IsPool pool → Reads (table_at (attribute_at pool)) (table_bytes attribute_bytes) (AreAttributes pool)
-attributes_read pool valid = Reads-good (table_reads (attribute_reads pool valid)) (λ xs h. record { count = h.0; each = h.1 }) (λ xs h. (h.count, h.each))
+pub attributes_read : (pool : List Constant) → IsPool pool → Reads (table_at class_errors.Cut (attribute_at pool)) (table_bytes attribute_bytes) (AreAttributes pool)
+attributes_read pool valid = Reads-good (table_reads class_errors.Cut (attribute_reads pool valid)) (λ xs h. record { count = h.0; each = h.1 }) (λ xs h. (h.count, h.each))
 
 -- ---- fields and methods
 
@@ -256,7 +200,7 @@ heading_takes d pool valid c x fits e =
     let flags = step_takes (u2_reads class_errors.Cut) c fits e in
     let this_class = step_takes (class_index_reads d pool valid) flags.next flags.fits flags.rest in
     let super_class = step_takes (super_index_reads d pool valid) this_class.next this_class.fits this_class.rest in
-    let interfaces = step_takes (table_reads (class_index_reads d pool valid)) super_class.next super_class.fits super_class.rest in
+    let interfaces = step_takes (table_reads class_errors.Cut (class_index_reads d pool valid)) super_class.next super_class.fits super_class.rest in
     let made : (record { flags = flags.value; this_class = this_class.value; super_class = super_class.value; interfaces = interfaces.value }, interfaces.next) ≡ x = cc (interfaces.rest) in
     let spelled : Spans c (u2 flags.value ++ (u2 this_class.value ++ (u2 super_class.value ++ table_bytes u2 interfaces.value))) interfaces.next = Spans-then flags.spans (Spans-then this_class.spans (Spans-then super_class.spans interfaces.spans)) in
     subst (λ (y : Heading × Cursor). Spans c (heading_bytes y.0) y.1 × IsHeading pool y.0) made
@@ -268,7 +212,7 @@ heading_again d pool valid c x next good s =
     let flags = step_again (u2_reads class_errors.Cut) c x.flags (u2 x.this_class ++ (u2 x.super_class ++ table_bytes u2 x.interfaces)) next good.flags s in
     let this_class = step_again (class_index_reads d pool valid) flags.0 x.this_class (u2 x.super_class ++ table_bytes u2 x.interfaces) next good.this_class flags.2 in
     let super_class = step_again (super_index_reads d pool valid) this_class.0 x.super_class (table_bytes u2 x.interfaces) next good.super_class this_class.2 in
-    bind_again _ flags.1 (bind_again _ this_class.1 (bind_again _ super_class.1 (bind_again _ ((table_reads (class_index_reads d pool valid)).again super_class.0 x.interfaces next good.interfaces super_class.2) refl)))
+    bind_again _ flags.1 (bind_again _ this_class.1 (bind_again _ super_class.1 (bind_again _ ((table_reads class_errors.Cut (class_index_reads d pool valid)).again super_class.0 x.interfaces next good.interfaces super_class.2) refl)))
 
 pub heading_reads : (d : TestsDecide) (pool : List Constant) → IsPool pool → Reads (heading_at pool) heading_bytes (IsHeading pool)
 heading_reads d pool valid = record { takes = heading_takes d pool valid; again = heading_again d pool valid }

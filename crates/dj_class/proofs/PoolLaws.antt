@@ -1,14 +1,18 @@
 -- The constants and the pool: what is read is spelled so, and what is spelled so is read.
 use Rattle.std.proofs.Common.{◌≡◌, ℕ, zero, suc, ◌+◌, ◌-◌, ◌<◌, false, eqb, nat_eq, List, [], ◌∷◌, ◌++◌, length, Option, Some, None, Ok, refl, sym, ap, subst, ◌∙◌, arith}
 use Rattle.std.specs.List.{flat_map, list_any, AllByRecursion}
-use Rattle.std.specs.Int.{w8, to_be_bytes}
 use Rattle.std.proofs.lemmas.Bool.{eqb-true}
 use Rattle.std.proofs.lemmas.Bool.Decides.{nat_tests}
+use Rattle.dj_bytes.specs.Spelling.{u1, u2}
+use Rattle.dj_bytes.specs.Reading.{Cursor}
+use Rattle.dj_bytes.proofs.Bytes.{IsBytes}
+use Rattle.dj_bytes.proofs.Steps.{bind_ok, bind_again, never_ok, fails_both, guard_ok, guard_again, cond_either, cond_true, cond_false}
+use Rattle.dj_bytes.proofs.Spans.{Spans, Spans-none, Spans-then, Reads, step_takes, Spans-stay, step_again}
+use Rattle.dj_bytes.proofs.Numbers.{u1_reads, u2_reads, block_reads}
 use Rattle.dj_class.specs.declared.pool.PoolError.TheVariants as pool_errors
-use Rattle.dj_class.specs.ClassFile.{Constant, Utf8, Class, u2, constant_bytes, pool_bytes, text_at, AreConstants, IsClassText, IsPool}
+use Rattle.dj_class.specs.ClassFile.{Constant, Utf8, Class, constant_bytes, pool_bytes, text_at, AreConstants, IsClassText, IsPool}
 use Rattle.dj_class.specs.Unbuilt.{IsWhole, unbuilt_tags}
-use Rattle.dj_class.specs.Reading.{Cursor, utf8_at, class_at, constant_at_cursor, constants_at, is_linked, first_unlinked, linked, linked_constants_at, pool_at, class_text_test}
-use Rattle.dj_class.proofs.Spans.{IsBytes, Spans, Spans-none, Spans-then, Reads, step_takes, Spans-stay, step_again, bind_ok, bind_again, never_ok, fails_both, guard_ok, guard_again, cond_either, cond_true, cond_false, byte_reads, u2_reads, text_reads}
+use Rattle.dj_class.specs.Reading.{utf8_at, class_at, constant_at_cursor, constants_at, is_linked, first_unlinked, linked, linked_constants_at, pool_at, class_text_test}
 use Rattle.dj_class.proofs.Decides.{TestsDecide, passes_takes, passes_again, class_text}
 
 -- ---- a constant
@@ -29,7 +33,7 @@ utf8_takes : (d : TestsDecide) (index : ℕ) (c : Cursor) (x : Constant × Curso
 unfolding utf8_at tag_of untagged
 utf8_takes d index c x fits e =
     let n = step_takes (u2_reads pool_errors.Cut) c fits e in
-    let t = step_takes (text_reads pool_errors.Cut n.value) n.next n.fits n.rest in
+    let t = step_takes (block_reads pool_errors.Cut n.value) n.next n.fits n.rest in
     let g = guard_ok _ t.rest in
     let both : Spans c (u2 n.value ++ t.value) t.next = Spans-then n.spans t.spans in
     let whole : Spans c (u2 (length t.value) ++ t.value) t.next = subst (λ (k : ℕ). Spans c (u2 k ++ t.value) t.next) (sym t.good) both in
@@ -39,7 +43,7 @@ utf8_again : (d : TestsDecide) (index : ℕ) (c : Cursor) (x : Constant) (next :
 unfolding utf8_at tag_of untagged
 utf8_again d index c (Utf8 text) next good s =
     let n = step_again (u2_reads pool_errors.Cut) c (length text) text next good.1.0 s in
-    bind_again _ n.1 (bind_again _ ((text_reads pool_errors.Cut (length text)).again n.0 text next refl n.2) (guard_again _ ((d.modified_utf8 text).1 good.1.1)))
+    bind_again _ n.1 (bind_again _ ((block_reads pool_errors.Cut (length text)).again n.0 text next refl n.2) (guard_again _ ((d.modified_utf8 text).1 good.1.1)))
 utf8_again d index c (Class i) next good s = absurd (omega (arith, good.0))
 
 utf8_reads : (d : TestsDecide) (index : ℕ) → Reads (utf8_at index) untagged (HasTag 1)
@@ -60,15 +64,15 @@ class_again c (Class i) next good s = bind_again _ ((u2_reads pool_errors.Cut).a
 class_reads : Reads class_at untagged (HasTag 7)
 class_reads = record { takes = class_takes; again = class_again }
 
-tagged : (k : Constant) (n : ℕ) → tag_of k ≡ n → to_be_bytes w8 n ++ untagged k ≡ constant_bytes k
+tagged : (k : Constant) (n : ℕ) → tag_of k ≡ n → u1 n ++ untagged k ≡ constant_bytes k
 unfolding tag_of untagged
-tagged (Utf8 text) n h = ap (λ (n : ℕ). to_be_bytes w8 n ++ (u2 (length text) ++ text)) (sym h)
-tagged (Class i) n h = ap (λ (n : ℕ). to_be_bytes w8 n ++ u2 i) (sym h)
+tagged (Utf8 text) n h = ap (λ (n : ℕ). u1 n ++ (u2 (length text) ++ text)) (sym h)
+tagged (Class i) n h = ap (λ (n : ℕ). u1 n ++ u2 i) (sym h)
 
 constant_takes : (d : TestsDecide) (index : ℕ) (c : Cursor) (x : Constant × Cursor) → IsBytes c.rest → constant_at_cursor index c ≡ Ok x → Spans c (constant_bytes x.0) x.1 × IsWhole x.0
 unfolding constant_at_cursor
 constant_takes d index c x fits e =
-    let t = step_takes (byte_reads pool_errors.Cut) c fits e in
+    let t = step_takes (u1_reads pool_errors.Cut) c fits e in
     let found : Spans t.next (untagged x.0) x.1 → HasTag t.value x.0 → Spans c (constant_bytes x.0) x.1 × IsWhole x.0 = λ s h. (subst (λ (b : List ℕ). Spans c b x.1) (tagged x.0 t.value h.0) (Spans-then t.spans s), h.1) in
     cond_either (eqb t.value 1) _ _ t.rest
     (λ h r. let y = (utf8_reads d index).takes t.next x t.fits r in found y.0 (y.1.0 ∙ sym (eqb-true _ _ h), y.1.1))
@@ -79,10 +83,10 @@ constant_takes d index c x fits e =
 constant_again : (d : TestsDecide) (index : ℕ) (c : Cursor) (x : Constant) (next : Cursor) → IsWhole x → Spans c (constant_bytes x) next → constant_at_cursor index c ≡ Ok (x, next)
 unfolding constant_at_cursor tag_of untagged
 constant_again d index c (Utf8 text) next good s =
-    let t = step_again (byte_reads pool_errors.Cut) c 1 (u2 (length text) ++ text) next (omega arith) s in
+    let t = step_again (u1_reads pool_errors.Cut) c 1 (u2 (length text) ++ text) next (omega arith) s in
     bind_again _ t.1 ((utf8_reads d index).again t.0 (Utf8 text) next (refl, good) t.2)
 constant_again d index c (Class i) next good s =
-    let t = step_again (byte_reads pool_errors.Cut) c 7 (u2 i) next (omega arith) s in
+    let t = step_again (u1_reads pool_errors.Cut) c 7 (u2 i) next (omega arith) s in
     bind_again _ t.1 (class_reads.again t.0 (Class i) next (refl, good) t.2)
 
 pub constant_reads : (d : TestsDecide) (index : ℕ) → Reads (constant_at_cursor index) constant_bytes IsWhole

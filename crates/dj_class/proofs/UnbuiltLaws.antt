@@ -1,25 +1,33 @@
 -- Constants that are not read yet: they are told where they stand, and told only there.
-use Rattle.std.proofs.Common.{◌≡◌, ℕ, zero, suc, ◌+◌, ◌-◌, ◌^◌, ◌<◌, ◌==◌, ◌||◌, Bool, true, false, cond, eqb, nat_eq, List, [], ◌∷◌, ◌++◌, length, Contains, Option, Some, None, Result, Ok, Err, refl, sym, ap, subst, ◌∙◌, append_assoc, arith}
+use Rattle.std.proofs.Common.{◌≡◌, ℕ, zero, suc, ◌+◌, ◌-◌, ◌^◌, ◌<◌, ◌==◌, ◌||◌, Bool, true, false, cond, eqb, nat_eq, List, [], ◌∷◌, ◌++◌, length, Contains, Option, Some, None, Result, Err, refl, sym, ap, subst, ◌∙◌, append_assoc, arith}
 use Rattle.std.specs.List.{flat_map, list_any, AllByRecursion}
-use Rattle.std.specs.Int.{w8, w16, w32, to_be_bytes}
+use Rattle.std.specs.Int.{w16, w32}
 use Rattle.std.proofs.lemmas.Bool.{eqb-true}
 use Rattle.std.proofs.lemmas.Bool.Decides.{nat_tests}
 use Rattle.std.proofs.lemmas.List.Elements.{All-from_recursion}
 use Rattle.std.proofs.lemmas.Map.Views.{Contains-from_any}
+use Rattle.std.specs.Prelude.{⊤}
+use Rattle.dj_bytes.specs.Spelling.{u1, u2}
+use Rattle.dj_bytes.specs.Steps.{lifted}
+use Rattle.dj_bytes.specs.Reading.{Cursor, start_of, number_at, bytes_at}
+use Rattle.dj_bytes.specs.declared.cursor.Cut.{Cut}
+use Rattle.dj_bytes.proofs.Faults.{Never, past, guard_never, lifted_never, table_never}
+use Rattle.dj_bytes.proofs.Bytes.{IsBytes}
+use Rattle.dj_bytes.proofs.Steps.{bind_again, bind_err, bind_fails, lifted_err, cond_either, cond_true, cond_false}
+use Rattle.dj_bytes.proofs.Spans.{IsBytes-Spans, Spans, Spans-none, Spans-then, step_again}
+use Rattle.dj_bytes.proofs.Numbers.{u1_reads, u2_reads}
+use Rattle.dj_names.specs.Tests.{unqualified_name_test, method_name_test, field_descriptor_test, method_descriptor_test}
 use Rattle.dj_class.specs.declared.pool.PoolError.{PoolError}
 use Rattle.dj_class.specs.declared.pool.PoolError.TheVariants as pool_errors
 use Rattle.dj_class.specs.declared.class.ClassError.{ClassError}
 use Rattle.dj_class.specs.declared.class.ClassError.TheVariants as class_errors
-use Rattle.dj_class.specs.ClassFile.{Constant, u2, header_bytes, constant_bytes}
+use Rattle.dj_class.specs.ClassFile.{Constant, header_bytes, constant_bytes}
 use Rattle.dj_class.specs.Unbuilt.{unbuilt_tags, IsWhole, IsUnbuiltAt}
-use Rattle.dj_class.specs.Reading.{Cursor, ◌>>=◌, lifted, number_at, bytes_at, utf8_at, class_at, constant_at_cursor, constants_at, linked, linked_constants_at, pool_at, index_at, many_at, table_at, is_text, is_class, text_passes, attribute_at, member_at, versions_at, header_at, Heading, heading_at, class_file_of}
-use Rattle.dj_names.specs.Tests.{unqualified_name_test, method_name_test, field_descriptor_test, method_descriptor_test}
-use Rattle.std.specs.Prelude.{⊤}
-use Rattle.dj_class.proofs.Spans.{IsBytes, IsBytes-Spans, Spans, Spans-none, Spans-then, step_again, bind_again, bind_err, bind_fails, lifted_err, cond_either, cond_true, cond_false, guard_err, byte_reads, u2_reads}
+use Rattle.dj_class.specs.Reading.{utf8_at, class_at, constant_at_cursor, constants_at, linked, linked_constants_at, pool_at, index_at, is_text, is_class, text_passes, attribute_at, member_at, versions_at, header_at, Heading, heading_at, class_file_of}
 use Rattle.dj_class.proofs.Decides.{TestsDecide}
 use Rattle.dj_class.proofs.PoolLaws.{constant_reads}
 use Rattle.dj_class.proofs.PartLaws.{header_reads}
-use Rattle.dj_class.proofs.ClassLaws.{start, tail_at}
+use Rattle.dj_class.proofs.ClassLaws.{tail_at}
 
 -- ---- which tags these are
 
@@ -49,28 +57,12 @@ pub record Stops (n : ℕ) (c : Cursor) (place : ℕ) : Type 0 where
   pub whole : AllByRecursion IsWhole front
   pub unbuilt : Contains unbuilt_tags tag
 
--- an error of another kind, if any
-record Never {A E : Type 0} (Bad : E → Type 0) (r : Result A E) : Type 0 where
-  never : (e : E) → r ≡ Err e → Bad e → ⊥
-
--- the step before was no such error, so it gave a value
-past : {A B E : Type 0} {r : Result A E} {f : A → Result B E} {e : E} (Bad : E → Type 0) → (r >>= f) ≡ Err e → Bad e → Never Bad r → (x : A) × (r ≡ Ok x) × (f x ≡ Err e)
-past {r = Ok x} Bad h bad one = (x, refl, h)
-past {r = Err d} {e} Bad h bad one = absurd (one.never e (cc) bad)
-
-guard_never : {A E : Type 0} {e : E} (Bad : E → Type 0) (b : Bool) (x : A) (d : E) → cond b (Ok x) (Err d) ≡ Err e → Bad e → Bad d
-guard_never Bad b x d h bad = subst Bad (sym (guard_err b x h)) bad
-
-never_lifted : {A D E : Type 0} {Bad : E → Type 0} (up : D → E) (r : Result A D) → ((d : D) → Bad (up d) → ⊥) → Never Bad (lifted up r)
-never_lifted up (Ok x) fine = record { never = λ e h bad. absurd cc }
-never_lifted {Bad} up (Err d) fine = record { never = λ e h bad. let same : up d ≡ e = cc in fine d (subst Bad (sym same) bad) }
-
 abbrev IsUnbuiltError : PoolError → Type 0
 IsUnbuiltError (pool_errors.Unbuilt place) = ⊤
 IsUnbuiltError e = ⊥
 
-cut_never : {A : Type 0} (r : Result A ℕ) → Never IsUnbuiltError (lifted pool_errors.Cut r)
-cut_never r = never_lifted pool_errors.Cut r (λ d h. h)
+cut_never : {A : Type 0} (r : Result A Cut) → Never IsUnbuiltError (lifted (λ x. pool_errors.Cut x.0) r)
+cut_never r = lifted_never (λ (x : Cut). pool_errors.Cut x.0) r (λ d h. h)
 
 utf8_never : (index : ℕ) (c : Cursor) → Never IsUnbuiltError (utf8_at index c)
 unfolding utf8_at
@@ -105,20 +97,15 @@ record StopsHere (c : Cursor) (place : ℕ) : Type 0 where
   stands : c.rest ≡ tag ∷ rest
   unbuilt : Contains unbuilt_tags tag
 
-byte_first : (tag : ℕ) (c next : Cursor) → tag < 2 ^ 8 → Spans c (to_be_bytes w8 tag) next → c.rest ≡ tag ∷ next.rest
-byte_first tag c next lt s =
-    let same : to_be_bytes w8 tag ≡ tag ∷ [] = ap (λ (n : ℕ). n ∷ []) (omega arith) in
-    s.parts ∙ ap (λ (l : List ℕ). l ++ next.rest) same
-
 constant_stops : (index : ℕ) (c : Cursor) (place : ℕ) → IsBytes c.rest → constant_at_cursor index c ≡ Err (pool_errors.Unbuilt place) → StopsHere c place
 unfolding constant_at_cursor
 constant_stops index c place fits e =
     bind_err e (λ r. absurd ((cut_never _).never _ r tt)) (λ tag r e.
-    let t = (byte_reads pool_errors.Cut).takes c tag fits r in
+    let t = (u1_reads pool_errors.Cut).takes c tag fits r in
     cond_either (eqb tag.0 1) _ _ e (λ h e. absurd ((utf8_never index tag.1).never _ e tt)) (λ h e.
     cond_either (eqb tag.0 7) _ _ e (λ h e. absurd ((class_never tag.1).never _ e tt)) (λ h e.
     let u = unbuilt_or_tag (list_any (nat_eq tag.0) unbuilt_tags) c.place place e in
-    record { tag = tag.0; rest = tag.1.rest; place_is = u.1; stands = byte_first tag.0 c tag.1 t.1 t.0; unbuilt = Contains-from_any eqb-true tag.0 unbuilt_tags u.0 })))
+    record { tag = tag.0; rest = tag.1.rest; place_is = u.1; stands = t.0.parts; unbuilt = Contains-from_any eqb-true tag.0 unbuilt_tags u.0 })))
 
 constants_stop : (d : TestsDecide) (n index : ℕ) (c : Cursor) (place : ℕ) → IsBytes c.rest → constants_at n index c ≡ Err (pool_errors.Unbuilt place) → Stops n c place
 unfolding constants_at
@@ -162,9 +149,8 @@ unfolding constant_at_cursor
 constant_halts index c tag rest stands unbuilt =
     let is = tag_is tag unbuilt in
     let next : Cursor = record { place = c.place + 1; rest = rest } in
-    let same : tag ∷ [] ≡ to_be_bytes w8 tag = ap (λ (n : ℕ). n ∷ []) (omega (arith, is.0)) in
-    let s : Spans c (to_be_bytes w8 tag) next = record { parts = stands ∙ ap (λ (l : List ℕ). l ++ rest) same; place = refl } in
-    bind_again _ ((byte_reads pool_errors.Cut).again c tag next is.0 s) (cond_false _ is.1 (cond_false _ is.2 (cond_true _ is.3 refl)))
+    let s : Spans c (u1 tag) next = record { parts = stands; place = refl } in
+    bind_again _ ((u1_reads pool_errors.Cut).again c tag next is.0 s) (cond_false _ is.1 (cond_false _ is.2 (cond_true _ is.3 refl)))
 
 constants_halt : (d : TestsDecide) (n index : ℕ) (c mid : Cursor) (front : List Constant) (tag : ℕ) (rest : List ℕ)
     → length front < n → AllByRecursion IsWhole front → Spans c (flat_map constant_bytes front) mid → mid.rest ≡ tag ∷ rest → Contains unbuilt_tags tag → constants_at n index c ≡ Err (pool_errors.Unbuilt mid.place)
@@ -192,8 +178,11 @@ abbrev IsPoolError : ClassError → Type 0
 IsPoolError (class_errors.Pool e) = ⊤
 IsPoolError e = ⊥
 
-number_never : {A : Type 0} (r : Result A ℕ) → Never IsPoolError (lifted class_errors.Cut r)
-number_never r = never_lifted class_errors.Cut r (λ d h. h)
+number_never : {A : Type 0} (r : Result A Cut) → Never IsPoolError (lifted (λ x. class_errors.Cut x.0) r)
+number_never r = lifted_never (λ (x : Cut). class_errors.Cut x.0) r (λ d h. h)
+
+no_pool_error : (place : ℕ) → IsPoolError (class_errors.Cut place) → ⊥
+no_pool_error place h = h
 
 index_never : (test : ℕ → Bool) (c : Cursor) → Never IsPoolError (index_at test c)
 unfolding index_at
@@ -201,24 +190,6 @@ index_never test c = record {
   never = λ e h bad.
       let index = past IsPoolError h bad (number_never (number_at w16 c)) in
       guard_never IsPoolError _ _ (class_errors.Index c.place) index.2 bad;
-}
-
-many_never : {A : Type 0} (part : Cursor → Result (A × Cursor) ClassError) → ((c : Cursor) → Never IsPoolError (part c)) → (n : ℕ) (c : Cursor) → Never IsPoolError (many_at part n c)
-unfolding many_at
-many_never part never zero c = record { never = λ e h bad. absurd cc }
-many_never part never (suc n) c = record {
-  never = λ e h bad.
-      let first = past IsPoolError h bad (never c) in
-      let others = past IsPoolError first.2 bad (many_never part never n first.0.1) in
-      absurd (cc (others.2));
-}
-
-table_never : {A : Type 0} (part : Cursor → Result (A × Cursor) ClassError) → ((c : Cursor) → Never IsPoolError (part c)) → (c : Cursor) → Never IsPoolError (table_at part c)
-unfolding table_at
-table_never part never c = record {
-  never = λ e h bad.
-      let count = past IsPoolError h bad (number_never (number_at w16 c)) in
-      (many_never part never count.0.0 count.0.1).never e count.2 bad;
 }
 
 attribute_never : (pool : List Constant) (c : Cursor) → Never IsPoolError (attribute_at pool c)
@@ -238,7 +209,7 @@ member_never name_test desc_test pool c = record {
       let flags = past IsPoolError h bad (number_never (number_at w16 c)) in
       let name = past IsPoolError flags.2 bad (index_never (text_passes name_test pool) flags.0.1) in
       let desc = past IsPoolError name.2 bad (index_never (text_passes desc_test pool) name.0.1) in
-      let attributes = past IsPoolError desc.2 bad (table_never (attribute_at pool) (attribute_never pool) desc.0.1) in
+      let attributes = past IsPoolError desc.2 bad (table_never IsPoolError class_errors.Cut (attribute_at pool) no_pool_error (attribute_never pool) desc.0.1) in
       absurd (cc (attributes.2));
 }
 
@@ -268,16 +239,16 @@ heading_never pool c = record {
       let flags = past IsPoolError h bad (number_never (number_at w16 c)) in
       let this_class = past IsPoolError flags.2 bad (index_never (is_class pool) flags.0.1) in
       let super_class = past IsPoolError this_class.2 bad (index_never (λ index. index == 0 || is_class pool index) this_class.0.1) in
-      let interfaces = past IsPoolError super_class.2 bad (table_never (index_at (is_class pool)) (index_never (is_class pool)) super_class.0.1) in
+      let interfaces = past IsPoolError super_class.2 bad (table_never IsPoolError class_errors.Cut (index_at (is_class pool)) no_pool_error (index_never (is_class pool)) super_class.0.1) in
       absurd (cc (interfaces.2));
 }
 
 tail_never : (pool : List Constant) (versions : ℕ × ℕ) (g : Heading) (c : Cursor) → Never IsPoolError (tail_at pool versions g c)
 tail_never pool versions g c = record {
   never = λ e h bad.
-      let fields = past IsPoolError h bad (table_never (member_at unqualified_name_test field_descriptor_test pool) (member_never unqualified_name_test field_descriptor_test pool) c) in
-      let methods = past IsPoolError fields.2 bad (table_never (member_at method_name_test method_descriptor_test pool) (member_never method_name_test method_descriptor_test pool) fields.0.1) in
-      let attributes = past IsPoolError methods.2 bad (table_never (attribute_at pool) (attribute_never pool) methods.0.1) in
+      let fields = past IsPoolError h bad (table_never IsPoolError class_errors.Cut (member_at unqualified_name_test field_descriptor_test pool) no_pool_error (member_never unqualified_name_test field_descriptor_test pool) c) in
+      let methods = past IsPoolError fields.2 bad (table_never IsPoolError class_errors.Cut (member_at method_name_test method_descriptor_test pool) no_pool_error (member_never method_name_test method_descriptor_test pool) fields.0.1) in
+      let attributes = past IsPoolError methods.2 bad (table_never IsPoolError class_errors.Cut (attribute_at pool) no_pool_error (attribute_never pool) methods.0.1) in
       guard_never IsPoolError _ _ (class_errors.Trailing attributes.0.1.place) attributes.2 bad;
 }
 
@@ -286,10 +257,10 @@ tail_never pool versions g c = record {
 regroup_three : (a b c d : List ℕ) → ((a ++ b) ++ c) ++ d ≡ (a ++ (b ++ c)) ++ d
 regroup_three a b c d = simp append_assoc
 
-unbuilt_parts : (minor major : ℕ) (bytes : List ℕ) (next : Cursor) (place : ℕ) → minor < 2 ^ 16 → major < 2 ^ 16 → Spans (start bytes) (header_bytes minor major) next → PoolStops next place → IsUnbuiltAt bytes place
+unbuilt_parts : (minor major : ℕ) (bytes : List ℕ) (next : Cursor) (place : ℕ) → minor < 2 ^ 16 → major < 2 ^ 16 → Spans (start_of bytes) (header_bytes minor major) next → PoolStops next place → IsUnbuiltAt bytes place
 unbuilt_parts minor major bytes next place minor_fits major_fits s p =
     let t = p.stops in
-    let all : Spans (start bytes) (header_bytes minor major ++ (u2 p.count ++ flat_map constant_bytes t.front)) t.mid = Spans-then s (Spans-then p.count_spans t.spans) in
+    let all : Spans (start_of bytes) (header_bytes minor major ++ (u2 p.count ++ flat_map constant_bytes t.front)) t.mid = Spans-then s (Spans-then p.count_spans t.spans) in
     record {
       minor = minor;
       major = major;
@@ -313,8 +284,8 @@ pool_is d e h = cc
 pub class_file_unbuilt : TestsDecide → (bytes : List ℕ) (place : ℕ) → IsBytes bytes → class_file_of bytes ≡ Err (class_errors.Pool (pool_errors.Unbuilt place)) → IsUnbuiltAt bytes place
 unfolding class_file_of
 class_file_unbuilt d bytes place fits e =
-    let header = past IsPoolError e tt (header_never (start bytes)) in
-    let t = header_reads.takes (start bytes) header.0 fits header.1 in
+    let header = past IsPoolError e tt (header_never (start_of bytes)) in
+    let t = header_reads.takes (start_of bytes) header.0 fits header.1 in
     bind_err header.2
     (λ r. let l = lifted_err r in
     let q : pool_at header.0.1 ≡ Err (pool_errors.Unbuilt place) = l.1 ∙ ap (λ (x : PoolError). Err x) (pool_is l.0 (pool_errors.Unbuilt place) l.2) in
@@ -328,6 +299,6 @@ unfolding class_file_of
 unbuilt_file d bytes place u =
     let mid : Cursor = record { place = place; rest = u.tag ∷ u.rest } in
     let front : List ℕ = flat_map constant_bytes u.front in
-    let whole : Spans (start bytes) (header_bytes u.minor u.major ++ (u2 u.count ++ front)) mid = record { parts = u.parts ∙ regroup_three (header_bytes u.minor u.major) (u2 u.count) front (u.tag ∷ u.rest); place = u.place_is ∙ omega arith } in
-    let header = step_again header_reads (start bytes) (u.minor, u.major) (u2 u.count ++ front) mid (u.minor_fits, u.major_fits) whole in
+    let whole : Spans (start_of bytes) (header_bytes u.minor u.major ++ (u2 u.count ++ front)) mid = record { parts = u.parts ∙ regroup_three (header_bytes u.minor u.major) (u2 u.count) front (u.tag ∷ u.rest); place = u.place_is ∙ omega arith } in
+    let header = step_again header_reads (start_of bytes) (u.minor, u.major) (u2 u.count ++ front) mid (u.minor_fits, u.major_fits) whole in
     bind_again _ header.1 (bind_fails _ (ap (lifted class_errors.Pool) (pool_halts d header.0 mid u.count u.front u.tag u.rest u.count_fits u.within u.whole header.2 refl u.unbuilt)))

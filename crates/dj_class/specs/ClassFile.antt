@@ -1,7 +1,7 @@
 -- Class files (JVMS 4.1 to 4.7): the parts, the bytes that spell them, and which of them are valid.
 use Rattle.std.specs.Prelude.{◌≡◌, ℕ, zero, suc, ◌+◌, ◌^◌, ◌<◌, ◌⊎◌, ⊤, List, [], ◌∷◌, ◌++◌, length, Option, Some, None, IsSomeAnd, slice_get, option_and_then}
 use Rattle.std.specs.List.{flat_map, AllByRecursion}
-use Rattle.std.specs.Int.{w16, w32, to_be_bytes}
+use Rattle.dj_bytes.specs.Spelling.{u1, u2, u4, table_bytes}
 use Rattle.dj_names.specs.ModifiedUtf8.{IsModifiedUtf8}
 use Rattle.dj_names.specs.Names.{IsUnqualifiedName, IsMethodName, IsClassName}
 use Rattle.dj_names.specs.Descriptors.{IsFieldDescriptor, IsMethodDescriptor, IsArrayDescriptor}
@@ -42,20 +42,10 @@ pub record ClassFile : Type 0 where
 
 -- ---- the bytes
 
-abbrev pub u2 : ℕ → List ℕ
-u2 n = to_be_bytes w16 n
-
-abbrev pub u4 : ℕ → List ℕ
-u4 n = to_be_bytes w32 n
-
--- a count, and then so many parts
-abbrev pub table_bytes : {A : Type 0} → (A → List ℕ) → List A → List ℕ
-table_bytes part parts = u2 (length parts) ++ flat_map part parts
-
 -- JVMS table 4.4-B: a tag, and what it announces
 abbrev pub constant_bytes : Constant → List ℕ
-constant_bytes (Utf8 text) = (1 ∷ []) ++ u2 (length text) ++ text
-constant_bytes (Class index) = (7 ∷ []) ++ u2 index
+constant_bytes (Utf8 text) = u1 1 ++ u2 (length text) ++ text
+constant_bytes (Class index) = u1 7 ++ u2 index
 
 -- the count of the pool is one more than its constants are
 abbrev pub pool_bytes : List Constant → List ℕ

@@ -1,8 +1,9 @@
 -- The Code attribute (JVMS 4.7.3): its parts, the bytes that spell them, and which of them are valid.
 use Rattle.std.specs.Prelude.{◌≡◌, ℕ, ◌^◌, ◌<◌, List, ◌++◌, length}
 use Rattle.std.specs.List.{AllByRecursion}
+use Rattle.dj_bytes.specs.Spelling.{u2, u4, table_bytes}
 use Rattle.dj_ops.specs.declared.rows.CatchRow.{CatchRow}
-use Rattle.dj_class.specs.ClassFile.{AttributeInfo, u2, u4, table_bytes, attribute_bytes}
+use Rattle.dj_class.specs.ClassFile.{AttributeInfo, attribute_bytes}
 
 -- JVMS 4.7.3: what the body of a Code attribute is
 pub record CodeInfo : Type 0 where

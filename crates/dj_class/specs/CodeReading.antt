@@ -1,50 +1,50 @@
 -- The reader's own: reading the body of a Code attribute from left to right, with the first fault that is met.
-use Rattle.std.specs.Prelude.{ℕ, ◌==◌, ◌&&◌, List, length, Result, Ok, Err, nat_lt, if◌then◌else◌}
-use Rattle.std.specs.Int.{w16, w32}
+use Rattle.std.specs.Prelude.{ℕ, ◌&&◌, List, Result, Ok, Err, nat_lt, if◌then◌else◌}
+use Rattle.dj_bytes.specs.Steps.{◌>>=◌}
+use Rattle.dj_bytes.specs.Reading.{Cursor, start_of, at_end, block_at, u2_at, u4_at, table_at}
 use Rattle.dj_ops.specs.declared.rows.CatchRow.{CatchRow}
 use Rattle.dj_class.specs.declared.class.ClassError.{ClassError}
 use Rattle.dj_class.specs.declared.class.ClassError.TheVariants as class_errors
 use Rattle.dj_class.specs.ClassFile.{AttributeInfo}
 use Rattle.dj_class.specs.Code.{CodeInfo}
-use Rattle.dj_class.specs.Reading.{Cursor, ◌>>=◌, lifted, bytes_at, number_at, table_at}
 
 -- a length that code may have
 unfoldable pub code_length_at : Cursor → Result (ℕ × Cursor) ClassError
 code_length_at c = do
-  len ← lifted class_errors.Cut (number_at w32 c)
+  len ← u4_at class_errors.Cut c
   if nat_lt 0 len.0 && nat_lt len.0 65536 then Ok len else Err (class_errors.Index c.place)
 
 -- what stands before the exception table: max_stack, max_locals and the code
 unfoldable pub code_front_at : Cursor → Result ((ℕ × ℕ × List ℕ) × Cursor) ClassError
 code_front_at c = do
-  max_stack ← lifted class_errors.Cut (number_at w16 c)
-  max_locals ← lifted class_errors.Cut (number_at w16 max_stack.1)
+  max_stack ← u2_at class_errors.Cut c
+  max_locals ← u2_at class_errors.Cut max_stack.1
   len ← code_length_at max_locals.1
-  code ← lifted class_errors.Cut (bytes_at len.0 len.1)
+  code ← block_at class_errors.Cut len.0 len.1
   Ok ((max_stack.0, max_locals.0, code.0), code.1)
 
 unfoldable pub row_at : Cursor → Result (CatchRow × Cursor) ClassError
 row_at c = do
-  start ← lifted class_errors.Cut (number_at w16 c)
-  end ← lifted class_errors.Cut (number_at w16 start.1)
-  handler ← lifted class_errors.Cut (number_at w16 end.1)
-  catch_type ← lifted class_errors.Cut (number_at w16 handler.1)
+  start ← u2_at class_errors.Cut c
+  end ← u2_at class_errors.Cut start.1
+  handler ← u2_at class_errors.Cut end.1
+  catch_type ← u2_at class_errors.Cut handler.1
   Ok (record { start = start.0; end = end.0; handler = handler.0; catch_type = catch_type.0 }, catch_type.1)
 
 unfoldable pub code_attribute_at : Cursor → Result (AttributeInfo × Cursor) ClassError
 code_attribute_at c = do
-  name ← lifted class_errors.Cut (number_at w16 c)
-  len ← lifted class_errors.Cut (number_at w32 name.1)
-  body ← lifted class_errors.Cut (bytes_at len.0 len.1)
+  name ← u2_at class_errors.Cut c
+  len ← u4_at class_errors.Cut name.1
+  body ← block_at class_errors.Cut len.0 len.1
   Ok (record { name = name.0; body = body.0 }, body.1)
 
 -- all of the bytes
 unfoldable pub code_read : List ℕ → Result CodeInfo ClassError
 code_read bytes = do
-  front ← code_front_at (record { place = 0; rest = bytes })
-  table ← table_at row_at front.1
-  attributes ← table_at code_attribute_at table.1
-  if length attributes.1.rest == 0 then Ok (record {
+  front ← code_front_at (start_of bytes)
+  table ← table_at class_errors.Cut row_at front.1
+  attributes ← table_at class_errors.Cut code_attribute_at table.1
+  if at_end attributes.1 then Ok (record {
     max_stack = front.0.0;
     max_locals = front.0.1;
     code = front.0.2;

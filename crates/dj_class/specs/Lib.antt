@@ -4,7 +4,7 @@ pub mod Parts
 pub mod Members
 pub mod Views
 pub mod Reading
-pub mod Gives
+pub mod Memory
 pub mod Tests
 pub mod Laws
 pub mod Pools

@@ -1,9 +1,10 @@
 -- Pools where they stand in a file.
 use Rattle.std.specs.Prelude.{◌≡◌, ℕ, ◌+◌, ◌^◌, ◌<◌, List, ◌∷◌, ◌++◌, length, drop, Contains, ⊤, Result, Ok, Err}
 use Rattle.std.specs.List.{flat_map, AllByRecursion}
+use Rattle.dj_bytes.specs.Spelling.{u2}
 use Rattle.dj_class.specs.declared.pool.PoolError.{PoolError}
 use Rattle.dj_class.specs.declared.pool.PoolError.TheVariants as pool_errors
-use Rattle.dj_class.specs.ClassFile.{Constant, u2, constant_bytes, pool_bytes, IsPool}
+use Rattle.dj_class.specs.ClassFile.{Constant, constant_bytes, pool_bytes, IsPool}
 use Rattle.dj_class.specs.Unbuilt.{unbuilt_tags, IsWhole}
 
 -- the count of the pool stands at this place of the bytes, and its last constant ends before the next

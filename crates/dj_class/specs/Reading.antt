@@ -1,7 +1,8 @@
 -- The reader's own: reading from left to right, with the first fault that is met.
-use Rattle.std.specs.Prelude.{ℕ, zero, suc, ◌+◌, ◌-◌, ◌==◌, ◌||◌, Bool, true, false, List, [], ◌∷◌, length, take, drop, Option, Some, None, Result, Ok, Err, nat_lt, nat_eq, if◌then◌else◌}
+use Rattle.std.specs.Prelude.{ℕ, zero, suc, ◌+◌, ◌-◌, ◌==◌, ◌||◌, Bool, true, false, List, [], ◌∷◌, Option, Some, None, Result, Ok, Err, nat_eq, if◌then◌else◌}
 use Rattle.std.specs.List.{list_any}
-use Rattle.std.specs.Int.{Width, w8, w16, w32, byte_len, from_be_bytes}
+use Rattle.dj_bytes.specs.Steps.{◌>>=◌, lifted}
+use Rattle.dj_bytes.specs.Reading.{Cursor, start_of, cursor_at, at_end, block_at, u1_at, u2_at, u4_at, table_at}
 use Rattle.dj_names.specs.Tests.{unqualified_name_test, method_name_test, class_name_test, modified_utf8_test, field_descriptor_test, method_descriptor_test, array_descriptor_test}
 use Rattle.dj_class.specs.declared.pool.PoolError.{PoolError}
 use Rattle.dj_class.specs.declared.pool.PoolError.TheVariants as pool_errors
@@ -10,49 +11,23 @@ use Rattle.dj_class.specs.declared.class.ClassError.TheVariants as class_errors
 use Rattle.dj_class.specs.ClassFile.{Constant, Utf8, Class, AttributeInfo, MemberInfo, ClassFile, text_at, class_name_at}
 use Rattle.dj_class.specs.Unbuilt.{unbuilt_tags}
 
--- where the reader stands: a place in the file, and the bytes from there on
-pub record Cursor : Type 0 where
-  pub place : ℕ
-  pub rest : List ℕ
-
-infixl 10 ◌>>=◌
-abbrev pub ◌>>=◌ : {A B E : Type 0} → Result A E → (A → Result B E) → Result B E
-(Ok x) >>= f = f x
-(Err e) >>= f = Err e
-
--- an error of a part, as one of the whole
-abbrev pub lifted : {A D E : Type 0} → (D → E) → Result A D → Result A E
-lifted up (Ok x) = Ok x
-lifted up (Err e) = Err (up e)
-
--- so many bytes, or the place of the item that doesn't fit
-abbrev pub bytes_at : ℕ → Cursor → Result (List ℕ × Cursor) ℕ
-bytes_at n c =
-    if nat_lt (length c.rest) n then Err c.place
-    else Ok (take n c.rest, record { place = c.place + n; rest = drop n c.rest })
-
-abbrev pub number_at : Width → Cursor → Result (ℕ × Cursor) ℕ
-number_at w c = do
-  bytes ← bytes_at (byte_len w) c
-  Ok (from_be_bytes w bytes.0, bytes.1)
-
 -- what follows the tag of a text, whose index is this
 unfoldable pub utf8_at : ℕ → Cursor → Result (Constant × Cursor) PoolError
 utf8_at index c = do
-  len ← lifted pool_errors.Cut (number_at w16 c)
-  text ← lifted pool_errors.Cut (bytes_at len.0 len.1)
+  len ← u2_at pool_errors.Cut c
+  text ← block_at pool_errors.Cut len.0 len.1
   if modified_utf8_test text.0 then Ok (Utf8 text.0, text.1) else Err (pool_errors.Text index)
 
 -- what follows the tag of a class
 unfoldable pub class_at : Cursor → Result (Constant × Cursor) PoolError
 class_at c = do
-  name ← lifted pool_errors.Cut (number_at w16 c)
+  name ← u2_at pool_errors.Cut c
   Ok (Class name.0, name.1)
 
 -- one constant of the pool, whose index is this
 unfoldable pub constant_at_cursor : ℕ → Cursor → Result (Constant × Cursor) PoolError
 constant_at_cursor index c = do
-  tag ← lifted pool_errors.Cut (number_at w8 c)
+  tag ← u1_at pool_errors.Cut c
   if tag.0 == 1 then utf8_at index tag.1
       else (if tag.0 == 7 then class_at tag.1
       else (if list_any (nat_eq tag.0) unbuilt_tags then Err (pool_errors.Unbuilt c.place)
@@ -98,34 +73,20 @@ linked_constants_at n c = do
 
 unfoldable pub pool_at : Cursor → Result (List Constant × Cursor) PoolError
 pool_at c = do
-  count ← lifted pool_errors.Cut (number_at w16 c)
+  count ← u2_at pool_errors.Cut c
   if count.0 == 0 then Err (pool_errors.Tag c.place) else linked_constants_at (count.0 - 1) count.1
 
 -- the pool whose count stands at this place of the bytes, and the place after it
 unfoldable pub pool_from : List ℕ → ℕ → Result (List Constant × ℕ) PoolError
 pool_from bytes at = do
-  pool ← pool_at (record { place = at; rest = drop at bytes })
+  pool ← pool_at (cursor_at at bytes)
   Ok (pool.0, pool.1.place)
 
 -- an index that the test passes
 unfoldable pub index_at : (ℕ → Bool) → Cursor → Result (ℕ × Cursor) ClassError
 index_at test c = do
-  index ← lifted class_errors.Cut (number_at w16 c)
+  index ← u2_at class_errors.Cut c
   if test index.0 then Ok index else Err (class_errors.Index c.place)
-
--- so many parts, one after the other
-unfoldable pub many_at : {A : Type 0} → (Cursor → Result (A × Cursor) ClassError) → ℕ → Cursor → Result (List A × Cursor) ClassError
-many_at part zero c = Ok ([], c)
-many_at part (suc n) c = do
-  first ← part c
-  others ← many_at part n first.1
-  Ok (first.0 ∷ others.0, others.1)
-
--- a count, and so many parts
-unfoldable pub table_at : {A : Type 0} → (Cursor → Result (A × Cursor) ClassError) → Cursor → Result (List A × Cursor) ClassError
-table_at part c = do
-  count ← lifted class_errors.Cut (number_at w16 c)
-  many_at part count.0 count.1
 
 -- the text at the index passes the test
 abbrev pub text_passes : (List ℕ → Bool) → List Constant → ℕ → Bool
@@ -142,29 +103,29 @@ is_class pool index = passes class_name_test (class_name_at pool index)
 unfoldable pub attribute_at : List Constant → Cursor → Result (AttributeInfo × Cursor) ClassError
 attribute_at pool c = do
   name ← index_at (is_text pool) c
-  len ← lifted class_errors.Cut (number_at w32 name.1)
-  body ← lifted class_errors.Cut (bytes_at len.0 len.1)
+  len ← u4_at class_errors.Cut name.1
+  body ← block_at class_errors.Cut len.0 len.1
   Ok (record { name = name.0; body = body.0 }, body.1)
 
 unfoldable pub member_at : (List ℕ → Bool) → (List ℕ → Bool) → List Constant → Cursor → Result (MemberInfo × Cursor) ClassError
 member_at name_test desc_test pool c = do
-  flags ← lifted class_errors.Cut (number_at w16 c)
+  flags ← u2_at class_errors.Cut c
   name ← index_at (text_passes name_test pool) flags.1
   desc ← index_at (text_passes desc_test pool) name.1
-  attributes ← table_at (attribute_at pool) desc.1
+  attributes ← table_at class_errors.Cut (attribute_at pool) desc.1
   Ok (record { flags = flags.0; name = name.0; desc = desc.0; attributes = attributes.0 }, attributes.1)
 
 -- the versions, minor first
 unfoldable pub versions_at : Cursor → Result ((ℕ × ℕ) × Cursor) ClassError
 versions_at c = do
-  minor ← lifted class_errors.Cut (number_at w16 c)
-  major ← lifted class_errors.Cut (number_at w16 minor.1)
+  minor ← u2_at class_errors.Cut c
+  major ← u2_at class_errors.Cut minor.1
   Ok ((minor.0, major.0), major.1)
 
 -- CA FE BA BE, and then the versions
 unfoldable pub header_at : Cursor → Result ((ℕ × ℕ) × Cursor) ClassError
 header_at c = do
-  magic ← lifted class_errors.Cut (number_at w32 c)
+  magic ← u4_at class_errors.Cut c
   if magic.0 == 3405691582 then versions_at magic.1 else Err class_errors.Magic
 
 -- the flags, the class, its superclass and its interfaces
@@ -176,22 +137,22 @@ pub record Heading : Type 0 where
 
 unfoldable pub heading_at : List Constant → Cursor → Result (Heading × Cursor) ClassError
 heading_at pool c = do
-  flags ← lifted class_errors.Cut (number_at w16 c)
+  flags ← u2_at class_errors.Cut c
   this_class ← index_at (is_class pool) flags.1
   super_class ← index_at (λ index. index == 0 || is_class pool index) this_class.1
-  interfaces ← table_at (index_at (is_class pool)) super_class.1
+  interfaces ← table_at class_errors.Cut (index_at (is_class pool)) super_class.1
   Ok (record { flags = flags.0; this_class = this_class.0; super_class = super_class.0; interfaces = interfaces.0 }, interfaces.1)
 
 -- all of the bytes
 unfoldable pub class_file_of : List ℕ → Result ClassFile ClassError
 class_file_of bytes = do
-  header ← header_at (record { place = 0; rest = bytes })
+  header ← header_at (start_of bytes)
   pool ← lifted class_errors.Pool (pool_at header.1)
   heading ← heading_at pool.0 pool.1
-  fields ← table_at (member_at unqualified_name_test field_descriptor_test pool.0) heading.1
-  methods ← table_at (member_at method_name_test method_descriptor_test pool.0) fields.1
-  attributes ← table_at (attribute_at pool.0) methods.1
-  if length attributes.1.rest == 0 then Ok (record {
+  fields ← table_at class_errors.Cut (member_at unqualified_name_test field_descriptor_test pool.0) heading.1
+  methods ← table_at class_errors.Cut (member_at method_name_test method_descriptor_test pool.0) fields.1
+  attributes ← table_at class_errors.Cut (attribute_at pool.0) methods.1
+  if at_end attributes.1 then Ok (record {
     minor = header.0.0;
     major = header.0.1;
     pool = pool.0;

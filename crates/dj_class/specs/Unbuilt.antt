@@ -1,8 +1,9 @@
 -- Files whose pools have constants that are not read yet, and files that are no class files.
 use Rattle.std.specs.Prelude.{◌≡◌, ℕ, ◌+◌, ◌^◌, ◌<◌, List, ◌∷◌, ◌++◌, length, Contains, []}
 use Rattle.std.specs.List.{flat_map, AllByRecursion}
+use Rattle.dj_bytes.specs.Spelling.{u2}
 use Rattle.dj_names.specs.ModifiedUtf8.{IsModifiedUtf8}
-use Rattle.dj_class.specs.ClassFile.{Constant, Utf8, Class, ClassFile, IsClassFile, u2, header_bytes, constant_bytes}
+use Rattle.dj_class.specs.ClassFile.{Constant, Utf8, Class, ClassFile, IsClassFile, header_bytes, constant_bytes}
 
 -- JVMS table 4.4-B, without Utf8 and Class
 abbrev pub unbuilt_tags : List ℕ

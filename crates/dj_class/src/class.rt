@@ -1,16 +1,19 @@
 ghost use Rattle.std.specs.Prelude.{◌≡◌, ◌+◌, ◌^◌, ◌<◌, ◌==◌, ◌||◌, ℕ, length, map};
+ghost use Rattle.dj_bytes.specs.Steps.{Gives};
+ghost use Rattle.dj_bytes.specs.Reading.{many_at, table_at};
+ghost use Rattle.dj_bytes.specs.Views.{cursor_of};
 ghost use Rattle.dj_names.specs.Tests.{unqualified_name_test, method_name_test, field_descriptor_test, method_descriptor_test};
 ghost use Rattle.dj_class.specs.Parts.{attribute_of};
 ghost use Rattle.dj_class.specs.Members.{member_of};
 ghost use Rattle.dj_class.specs.Views.{class_of, ReadsClass};
-ghost use Rattle.dj_class.specs.Reading.{index_at, many_at, table_at, text_passes, is_class, attribute_at, member_at, versions_at, header_at, heading_at, class_file_of};
-ghost use Rattle.dj_class.specs.Gives.{cursor_of, Gives};
+ghost use Rattle.dj_class.specs.Reading.{index_at, text_passes, is_class, attribute_at, member_at, versions_at, header_at, heading_at, class_file_of};
+ghost use Rattle.dj_class.specs.Memory.{is_memory};
 ghost use Rattle.dj_class.specs.Tests.{test_of, heading_of};
 ghost use Rattle.dj_class.specs.declared.class.ClassError.TheVariants as class_errors;
 
-use crate::cursor::{Cursor, Cut};
 use crate::lists::{Attributes, Indexes, Members};
 use crate::pool::{Pool, PoolError, read_pool_at};
+use dj_bytes::{Cursor, Cut};
 use dj_names::{
     is_class_name, is_field_descriptor, is_method_descriptor, is_method_name, is_unqualified_name,
 };
@@ -161,7 +164,7 @@ fn read_text<'a>(
     pool: &Pool<'_>,
     cursor: Cursor<'a>,
 ) -> Result<(u16, Cursor<'a>), ClassError>
-    ensures { Gives (λ x. (x.0, cursor_of x.1)) result
+    ensures { Gives is_memory (λ x. (x.0, cursor_of x.1)) result
         (index_at (text_passes (test_of test) pool.now) (cursor_of cursor.entry)) }
 {
     let (index, after) = cursor.u16_at()?;
@@ -176,7 +179,7 @@ fn read_class_index<'a>(
     pool: &Pool<'_>,
     cursor: Cursor<'a>,
 ) -> Result<(u16, Cursor<'a>), ClassError>
-    ensures { Gives (λ x. (x.0, cursor_of x.1)) result
+    ensures { Gives is_memory (λ x. (x.0, cursor_of x.1)) result
         (index_at (is_class pool.now) (cursor_of cursor.entry)) }
 {
     let (index, after) = cursor.u16_at()?;
@@ -191,7 +194,7 @@ fn read_super_class<'a>(
     pool: &Pool<'_>,
     cursor: Cursor<'a>,
 ) -> Result<(u16, Cursor<'a>), ClassError>
-    ensures { Gives (λ x. (x.0, cursor_of x.1)) result
+    ensures { Gives is_memory (λ x. (x.0, cursor_of x.1)) result
         (index_at (λ index. index == 0 || is_class pool.now index) (cursor_of cursor.entry)) }
 {
     let (index, after) = cursor.u16_at()?;
@@ -206,7 +209,7 @@ fn read_attribute<'a>(
     pool: &Pool<'_>,
     cursor: Cursor<'a>,
 ) -> Result<(Attribute<'a>, Cursor<'a>), ClassError>
-    ensures { Gives (λ x. (attribute_of x.0, cursor_of x.1)) result
+    ensures { Gives is_memory (λ x. (attribute_of x.0, cursor_of x.1)) result
         (attribute_at pool.now (cursor_of cursor.entry)) }
 {
     let (name, after) = read_text(TextTest::Any, pool, cursor)?;
@@ -221,7 +224,7 @@ fn read_attribute_list<'a>(
     count: u16,
     cursor: Cursor<'a>,
 ) -> Result<(Vec<Attribute<'a>>, Cursor<'a>), ClassError>
-    ensures { Gives (λ x. (map attribute_of x.0.items, cursor_of x.1)) result
+    ensures { Gives is_memory (λ x. (map attribute_of x.0.items, cursor_of x.1)) result
         (many_at (attribute_at pool.now) count (cursor_of cursor.entry)) }
 {
     let mut attributes = Vec::with_capacity(alloc, count as usize)?;
@@ -234,14 +237,14 @@ fn read_attribute_list<'a>(
     Ok((attributes, after))
 }
 
-#[tactic(auto, unfolding(crate::specs::Reading::table_at))]
+#[tactic(auto, unfolding(dj_bytes::specs::Reading::table_at))]
 fn read_attributes<'a>(
     alloc: Global,
     pool: &Pool<'_>,
     cursor: Cursor<'a>,
 ) -> Result<(Attributes<'a>, Cursor<'a>), ClassError>
-    ensures { Gives (λ x. (x.0, cursor_of x.1)) result
-        (table_at (attribute_at pool.now) (cursor_of cursor.entry)) }
+    ensures { Gives is_memory (λ x. (x.0, cursor_of x.1)) result
+        (table_at class_errors.Cut (attribute_at pool.now) (cursor_of cursor.entry)) }
 {
     let (count, after) = cursor.u16_at()?;
     let (attributes, after) = read_attribute_list(alloc, pool, count, after)?;
@@ -256,7 +259,7 @@ fn read_member<'a>(
     pool: &Pool<'_>,
     cursor: Cursor<'a>,
 ) -> Result<(MemberView<'a>, Cursor<'a>), ClassError>
-    ensures { Gives (λ x. (member_of x.0, cursor_of x.1)) result
+    ensures { Gives is_memory (λ x. (member_of x.0, cursor_of x.1)) result
         (member_at (test_of name_test) (test_of desc_test) pool.now (cursor_of cursor.entry)) }
 {
     let (flags, after) = cursor.u16_at()?;
@@ -282,7 +285,7 @@ fn read_member_list<'a>(
     count: u16,
     cursor: Cursor<'a>,
 ) -> Result<(Vec<MemberView<'a>>, Cursor<'a>), ClassError>
-    ensures { Gives (λ x. (map member_of x.0.items, cursor_of x.1)) result
+    ensures { Gives is_memory (λ x. (map member_of x.0.items, cursor_of x.1)) result
         (many_at (member_at (test_of name_test) (test_of desc_test) pool.now) count (cursor_of cursor.entry)) }
 {
     let mut members = Vec::with_capacity(alloc, count as usize)?;
@@ -295,7 +298,7 @@ fn read_member_list<'a>(
     Ok((members, after))
 }
 
-#[tactic(auto, unfolding(crate::specs::Reading::table_at))]
+#[tactic(auto, unfolding(dj_bytes::specs::Reading::table_at))]
 fn read_members<'a>(
     alloc: Global,
     name_test: TextTest,
@@ -303,8 +306,8 @@ fn read_members<'a>(
     pool: &Pool<'_>,
     cursor: Cursor<'a>,
 ) -> Result<(Members<'a>, Cursor<'a>), ClassError>
-    ensures { Gives (λ x. (x.0, cursor_of x.1)) result
-        (table_at (member_at (test_of name_test) (test_of desc_test) pool.now) (cursor_of cursor.entry)) }
+    ensures { Gives is_memory (λ x. (x.0, cursor_of x.1)) result
+        (table_at class_errors.Cut (member_at (test_of name_test) (test_of desc_test) pool.now) (cursor_of cursor.entry)) }
 {
     let (count, after) = cursor.u16_at()?;
     let (members, after) = read_member_list(alloc, name_test, desc_test, pool, count, after)?;
@@ -317,7 +320,7 @@ fn read_interface_list<'a>(
     count: u16,
     cursor: Cursor<'a>,
 ) -> Result<(Vec<u16>, Cursor<'a>), ClassError>
-    ensures { Gives (λ x. (x.0.items, cursor_of x.1)) result
+    ensures { Gives is_memory (λ x. (x.0.items, cursor_of x.1)) result
         (many_at (index_at (is_class pool.now)) count (cursor_of cursor.entry)) }
 {
     let mut interfaces = Vec::with_capacity(alloc, count as usize)?;
@@ -330,14 +333,14 @@ fn read_interface_list<'a>(
     Ok((interfaces, after))
 }
 
-#[tactic(auto, unfolding(crate::specs::Reading::table_at))]
+#[tactic(auto, unfolding(dj_bytes::specs::Reading::table_at))]
 fn read_interfaces<'a>(
     alloc: Global,
     pool: &Pool<'_>,
     cursor: Cursor<'a>,
 ) -> Result<(Indexes, Cursor<'a>), ClassError>
-    ensures { Gives (λ x. (x.0, cursor_of x.1)) result
-        (table_at (index_at (is_class pool.now)) (cursor_of cursor.entry)) }
+    ensures { Gives is_memory (λ x. (x.0, cursor_of x.1)) result
+        (table_at class_errors.Cut (index_at (is_class pool.now)) (cursor_of cursor.entry)) }
 {
     let (count, after) = cursor.u16_at()?;
     let (interfaces, after) = read_interface_list(alloc, pool, count, after)?;
@@ -346,7 +349,7 @@ fn read_interfaces<'a>(
 
 #[tactic(auto, unfolding(crate::specs::Reading::versions_at))]
 fn read_versions<'a>(cursor: Cursor<'a>) -> Result<((u16, u16), Cursor<'a>), ClassError>
-    ensures { Gives (λ x. ((x.0.0, x.0.1), cursor_of x.1)) result
+    ensures { Gives is_memory (λ x. ((x.0.0, x.0.1), cursor_of x.1)) result
         (versions_at (cursor_of cursor.entry)) }
 {
     let (minor, after) = cursor.u16_at()?;
@@ -359,7 +362,7 @@ const MAGIC: u32 = 0xcafe_babe;
 
 #[tactic(auto, unfolding(crate::specs::Reading::header_at))]
 fn read_header<'a>(cursor: Cursor<'a>) -> Result<((u16, u16), Cursor<'a>), ClassError>
-    ensures { Gives (λ x. ((x.0.0, x.0.1), cursor_of x.1)) result
+    ensures { Gives is_memory (λ x. ((x.0.0, x.0.1), cursor_of x.1)) result
         (header_at (cursor_of cursor.entry)) }
 {
     let (magic, after) = cursor.u32_at()?;
@@ -375,7 +378,7 @@ fn read_opening<'a>(
     pool: &Pool<'_>,
     cursor: Cursor<'a>,
 ) -> Result<(Opening, Cursor<'a>), ClassError>
-    ensures { Gives (λ x. (heading_of x.0, cursor_of x.1)) result
+    ensures { Gives is_memory (λ x. (heading_of x.0, cursor_of x.1)) result
         (heading_at pool.now (cursor_of cursor.entry)) }
 {
     let (flags, after) = cursor.u16_at()?;
@@ -393,15 +396,12 @@ fn read_opening<'a>(
     ))
 }
 
-#[tactic(auto, using(crate::proofs::Loop::lifted_fails), unfolding(crate::specs::Reading::class_file_of))]
+#[tactic(auto, using(dj_bytes::proofs::Steps::lifted_fails), unfolding(crate::specs::Reading::class_file_of))]
 fn read_all<'a>(alloc: Global, file: &'a [u8]) -> Result<ClassView<'a>, ClassError>
     requires { length file.now < 2 ^ 32 }
-    ensures { Gives class_of result (class_file_of file.now) }
+    ensures { Gives is_memory class_of result (class_file_of file.now) }
 {
-    let start = Cursor {
-        rest: file,
-        place: 0,
-    };
+    let start = Cursor::start(file);
     let (versions, after) = read_header(start)?;
     let (pool, after) = read_pool_at(alloc, after)?;
     let (opening, after) = read_opening(alloc, &pool, after)?;
@@ -420,7 +420,7 @@ fn read_all<'a>(alloc: Global, file: &'a [u8]) -> Result<ClassView<'a>, ClassErr
         after,
     )?;
     let (attributes, after) = read_attributes(alloc, &pool, after)?;
-    if !after.rest.is_empty() {
+    if !after.is_at_end() {
         return Err(ClassError::Trailing(after.place));
     }
     Ok(ClassView {
@@ -442,7 +442,7 @@ pub fn read_class<'a>(alloc: Global, file: &'a [u8]) -> Result<ClassView<'a>, Cl
     requires { length file.now < 2 ^ 32 }
     ensures means { ReadsClass file.now result }
     // Which fault it is.
-    ensures exact { Gives class_of result (class_file_of file.now) }
+    ensures exact { Gives is_memory class_of result (class_file_of file.now) }
 {
     read_all(alloc, file)
 }

@@ -1,13 +1,16 @@
 ghost use Rattle.std.specs.Prelude.{ℕ, ◌^◌, ◌<◌, length, map};
+ghost use Rattle.dj_bytes.specs.Steps.{Gives};
+ghost use Rattle.dj_bytes.specs.Reading.{many_at, table_at};
+ghost use Rattle.dj_bytes.specs.Views.{cursor_of};
 ghost use Rattle.dj_class.specs.Parts.{attribute_of};
-ghost use Rattle.dj_class.specs.Reading.{many_at, table_at};
 ghost use Rattle.dj_class.specs.CodeReading.{code_length_at, code_front_at, row_at, code_attribute_at, code_read};
 ghost use Rattle.dj_class.specs.CodeViews.{code_of, ReadsCode};
-ghost use Rattle.dj_class.specs.Gives.{cursor_of, Gives};
+ghost use Rattle.dj_class.specs.Memory.{is_memory};
+ghost use Rattle.dj_class.specs.declared.class.ClassError.TheVariants as class_errors;
 
 use crate::class::{Attribute, ClassError};
-use crate::cursor::Cursor;
 use crate::lists::Attributes;
+use dj_bytes::Cursor;
 use dj_ops::{CatchRow, Rows};
 use std::alloc::Global;
 
@@ -23,7 +26,7 @@ pub struct CodeView<'a> {
 
 #[tactic(auto, unfolding(crate::specs::CodeReading::code_length_at))]
 fn read_code_length<'a>(cursor: Cursor<'a>) -> Result<(u32, Cursor<'a>), ClassError>
-    ensures { Gives (λ x. (x.0, cursor_of x.1)) result (code_length_at (cursor_of cursor.entry)) }
+    ensures { Gives is_memory (λ x. (x.0, cursor_of x.1)) result (code_length_at (cursor_of cursor.entry)) }
 {
     let (len, after) = cursor.u32_at()?;
     if 0 < len && len < 65_536 {
@@ -35,7 +38,7 @@ fn read_code_length<'a>(cursor: Cursor<'a>) -> Result<(u32, Cursor<'a>), ClassEr
 
 #[tactic(auto, unfolding(crate::specs::CodeReading::code_front_at))]
 fn read_code_front<'a>(cursor: Cursor<'a>) -> Result<((u16, u16, &'a [u8]), Cursor<'a>), ClassError>
-    ensures { Gives (λ x. ((x.0.0, x.0.1, x.0.2.now), cursor_of x.1)) result
+    ensures { Gives is_memory (λ x. ((x.0.0, x.0.1, x.0.2.now), cursor_of x.1)) result
         (code_front_at (cursor_of cursor.entry)) }
 {
     let (max_stack, after) = cursor.u16_at()?;
@@ -47,7 +50,7 @@ fn read_code_front<'a>(cursor: Cursor<'a>) -> Result<((u16, u16, &'a [u8]), Curs
 
 #[tactic(auto, unfolding(crate::specs::CodeReading::row_at))]
 fn read_row<'a>(cursor: Cursor<'a>) -> Result<(CatchRow, Cursor<'a>), ClassError>
-    ensures { Gives (λ x. (x.0, cursor_of x.1)) result (row_at (cursor_of cursor.entry)) }
+    ensures { Gives is_memory (λ x. (x.0, cursor_of x.1)) result (row_at (cursor_of cursor.entry)) }
 {
     let (start, after) = cursor.u16_at()?;
     let (end, after) = after.u16_at()?;
@@ -69,7 +72,7 @@ fn read_row_list<'a>(
     count: u16,
     cursor: Cursor<'a>,
 ) -> Result<(Vec<CatchRow>, Cursor<'a>), ClassError>
-    ensures { Gives (λ x. (x.0.items, cursor_of x.1)) result
+    ensures { Gives is_memory (λ x. (x.0.items, cursor_of x.1)) result
         (many_at row_at count (cursor_of cursor.entry)) }
 {
     let mut rows = Vec::with_capacity(alloc, count as usize)?;
@@ -82,9 +85,10 @@ fn read_row_list<'a>(
     Ok((rows, after))
 }
 
-#[tactic(auto, unfolding(crate::specs::Reading::table_at))]
+#[tactic(auto, unfolding(dj_bytes::specs::Reading::table_at))]
 fn read_rows<'a>(alloc: Global, cursor: Cursor<'a>) -> Result<(Rows, Cursor<'a>), ClassError>
-    ensures { Gives (λ x. (x.0, cursor_of x.1)) result (table_at row_at (cursor_of cursor.entry)) }
+    ensures { Gives is_memory (λ x. (x.0, cursor_of x.1)) result
+        (table_at class_errors.Cut row_at (cursor_of cursor.entry)) }
 {
     let (count, after) = cursor.u16_at()?;
     let (rows, after) = read_row_list(alloc, count, after)?;
@@ -93,7 +97,7 @@ fn read_rows<'a>(alloc: Global, cursor: Cursor<'a>) -> Result<(Rows, Cursor<'a>)
 
 #[tactic(auto, unfolding(crate::specs::CodeReading::code_attribute_at))]
 fn read_code_attribute<'a>(cursor: Cursor<'a>) -> Result<(Attribute<'a>, Cursor<'a>), ClassError>
-    ensures { Gives (λ x. (attribute_of x.0, cursor_of x.1)) result
+    ensures { Gives is_memory (λ x. (attribute_of x.0, cursor_of x.1)) result
         (code_attribute_at (cursor_of cursor.entry)) }
 {
     let (name, after) = cursor.u16_at()?;
@@ -107,7 +111,7 @@ fn read_code_attribute_list<'a>(
     count: u16,
     cursor: Cursor<'a>,
 ) -> Result<(Vec<Attribute<'a>>, Cursor<'a>), ClassError>
-    ensures { Gives (λ x. (map attribute_of x.0.items, cursor_of x.1)) result
+    ensures { Gives is_memory (λ x. (map attribute_of x.0.items, cursor_of x.1)) result
         (many_at code_attribute_at count (cursor_of cursor.entry)) }
 {
     let mut attributes = Vec::with_capacity(alloc, count as usize)?;
@@ -120,13 +124,13 @@ fn read_code_attribute_list<'a>(
     Ok((attributes, after))
 }
 
-#[tactic(auto, unfolding(crate::specs::Reading::table_at))]
+#[tactic(auto, unfolding(dj_bytes::specs::Reading::table_at))]
 fn read_code_attributes<'a>(
     alloc: Global,
     cursor: Cursor<'a>,
 ) -> Result<(Attributes<'a>, Cursor<'a>), ClassError>
-    ensures { Gives (λ x. (x.0, cursor_of x.1)) result
-        (table_at code_attribute_at (cursor_of cursor.entry)) }
+    ensures { Gives is_memory (λ x. (x.0, cursor_of x.1)) result
+        (table_at class_errors.Cut code_attribute_at (cursor_of cursor.entry)) }
 {
     let (count, after) = cursor.u16_at()?;
     let (attributes, after) = read_code_attribute_list(alloc, count, after)?;
@@ -136,16 +140,13 @@ fn read_code_attributes<'a>(
 #[tactic(auto, unfolding(crate::specs::CodeReading::code_read))]
 fn read_whole_code<'a>(alloc: Global, body: &'a [u8]) -> Result<CodeView<'a>, ClassError>
     requires { length body.now < 2 ^ 32 }
-    ensures { Gives code_of result (code_read body.now) }
+    ensures { Gives is_memory code_of result (code_read body.now) }
 {
-    let start = Cursor {
-        rest: body,
-        place: 0,
-    };
+    let start = Cursor::start(body);
     let ((max_stack, max_locals, code), after) = read_code_front(start)?;
     let (table, after) = read_rows(alloc, after)?;
     let (attributes, after) = read_code_attributes(alloc, after)?;
-    if !after.rest.is_empty() {
+    if !after.is_at_end() {
         return Err(ClassError::Trailing(after.place));
     }
     Ok(CodeView {
@@ -162,7 +163,7 @@ pub fn read_code<'a>(alloc: Global, body: &'a [u8]) -> Result<CodeView<'a>, Clas
     requires { length body.now < 2 ^ 32 }
     ensures means { ReadsCode body.now result }
     // Which fault it is.
-    ensures exact { Gives code_of result (code_read body.now) }
+    ensures exact { Gives is_memory code_of result (code_read body.now) }
 {
     read_whole_code(alloc, body)
 }

@@ -3,7 +3,6 @@
 
 mod class;
 mod code;
-mod cursor;
 mod laws;
 mod lists;
 mod pool;

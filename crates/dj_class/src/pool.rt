@@ -1,14 +1,16 @@
 ghost use Rattle.std.specs.Prelude.{◌≡◌, ◌+◌, ◌≤◌, ◌<◌, ◌^◌, ℕ, Bool, List, length, map, drop, nat_eq, Option, IfOk, vec_len, option_map, option_copied};
 ghost use Rattle.std.specs.List.{list_any};
+ghost use Rattle.dj_bytes.specs.Steps.{Gives};
+ghost use Rattle.dj_bytes.specs.Views.{cursor_of};
 ghost use Rattle.dj_class.specs.ClassFile.{constant_at, text_at, class_name_at};
 ghost use Rattle.dj_class.specs.Unbuilt.{unbuilt_tags};
 ghost use Rattle.dj_class.specs.Parts.{constant_of};
 ghost use Rattle.dj_class.specs.Reading.{utf8_at, class_at, constant_at_cursor, constants_at, is_linked, first_unlinked, linked_constants_at, pool_at, pool_from};
 ghost use Rattle.dj_class.specs.Pools.{ReadsPool};
-ghost use Rattle.dj_class.specs.Gives.{cursor_of, PoolGives};
+ghost use Rattle.dj_class.specs.Memory.{pool_is_memory};
 ghost use Rattle.dj_class.specs.declared.pool.PoolError.TheVariants as pool_errors;
 
-use crate::cursor::{Cursor, Cut};
+use dj_bytes::{Cursor, Cut};
 use dj_names::{is_array_descriptor, is_class_name, is_modified_utf8};
 use std::alloc::{AllocError, AllocFailed, Global};
 use std::marker::Model;
@@ -145,7 +147,7 @@ fn text_of_entries<'a>(entries: &[Entry<'a>], index: u16) -> Option<&'a [u8]>
 // What follows the tag of a text.
 #[tactic(auto, unfolding(crate::specs::Reading::utf8_at))]
 fn read_utf8<'a>(index: u16, cursor: Cursor<'a>) -> Result<(Entry<'a>, Cursor<'a>), PoolError>
-    ensures { PoolGives (λ x. (constant_of x.0, cursor_of x.1)) result
+    ensures { Gives pool_is_memory (λ x. (constant_of x.0, cursor_of x.1)) result
         (utf8_at index (cursor_of cursor.entry)) }
 {
     let (len, after) = cursor.u16_at()?;
@@ -159,7 +161,7 @@ fn read_utf8<'a>(index: u16, cursor: Cursor<'a>) -> Result<(Entry<'a>, Cursor<'a
 // What follows the tag of a class.
 #[tactic(auto, unfolding(crate::specs::Reading::class_at))]
 fn read_class_entry<'a>(cursor: Cursor<'a>) -> Result<(Entry<'a>, Cursor<'a>), PoolError>
-    ensures { PoolGives (λ x. (constant_of x.0, cursor_of x.1)) result
+    ensures { Gives pool_is_memory (λ x. (constant_of x.0, cursor_of x.1)) result
         (class_at (cursor_of cursor.entry)) }
 {
     let (name, after) = cursor.u16_at()?;
@@ -174,7 +176,7 @@ fn is_unbuilt(tag: u8) -> bool
 
 #[tactic(auto, unfolding(crate::specs::Reading::constant_at_cursor))]
 fn read_entry<'a>(index: u16, cursor: Cursor<'a>) -> Result<(Entry<'a>, Cursor<'a>), PoolError>
-    ensures { PoolGives (λ x. (constant_of x.0, cursor_of x.1)) result
+    ensures { Gives pool_is_memory (λ x. (constant_of x.0, cursor_of x.1)) result
         (constant_at_cursor index (cursor_of cursor.entry)) }
 {
     let (tag, after) = cursor.u8_at()?;
@@ -196,7 +198,7 @@ fn read_entries<'a>(
     cursor: Cursor<'a>,
 ) -> Result<(Vec<Entry<'a>>, Cursor<'a>), PoolError>
     ensures few { IfOk result (λ x. vec_len x.0 ≤ count) }
-    ensures exact { PoolGives (λ x. (map constant_of x.0.items, cursor_of x.1)) result
+    ensures exact { Gives pool_is_memory (λ x. (map constant_of x.0.items, cursor_of x.1)) result
         (constants_at count 1 (cursor_of cursor.entry)) }
 {
     let mut entries = Vec::with_capacity(alloc, count as usize)?;
@@ -239,7 +241,7 @@ fn read_linked<'a>(
     count: u16,
     cursor: Cursor<'a>,
 ) -> Result<(Pool<'a>, Cursor<'a>), PoolError>
-    ensures { PoolGives (λ x. (x.0, cursor_of x.1)) result
+    ensures { Gives pool_is_memory (λ x. (x.0, cursor_of x.1)) result
         (linked_constants_at count (cursor_of cursor.entry)) }
 {
     let (entries, after) = read_entries(alloc, count, cursor)?;
@@ -254,7 +256,7 @@ pub(crate) fn read_pool_at<'a>(
     alloc: Global,
     cursor: Cursor<'a>,
 ) -> Result<(Pool<'a>, Cursor<'a>), PoolError>
-    ensures { PoolGives (λ x. (x.0, cursor_of x.1)) result (pool_at (cursor_of cursor.entry)) }
+    ensures { Gives pool_is_memory (λ x. (x.0, cursor_of x.1)) result (pool_at (cursor_of cursor.entry)) }
 {
     let (count, after) = cursor.u16_at()?;
     if count == 0 {
@@ -266,14 +268,9 @@ pub(crate) fn read_pool_at<'a>(
 #[tactic(auto, unfolding(crate::specs::Reading::pool_from))]
 fn read_from<'a>(alloc: Global, file: &'a [u8], at: u32) -> Result<(Pool<'a>, u32), PoolError>
     requires { length file.now < 2 ^ 32 }
-    ensures { PoolGives (λ x. (x.0, x.1)) result (pool_from file.now at) }
+    ensures { Gives pool_is_memory (λ x. (x.0, x.1)) result (pool_from file.now at) }
 {
-    let start = file.len().min(at as usize);
-    let cursor = Cursor {
-        rest: &file[start..],
-        place: at,
-    };
-    match read_pool_at(alloc, cursor) {
+    match read_pool_at(alloc, Cursor::at(file, at)) {
         Ok((pool, after)) => Ok((pool, after.place)),
         Err(e) => Err(e),
     }
@@ -284,7 +281,7 @@ pub fn read_pool<'a>(alloc: Global, file: &'a [u8], at: u32) -> Result<(Pool<'a>
     requires { length file.now < 2 ^ 32 }
     ensures means { ReadsPool file.now at result }
     // Which fault it is.
-    ensures exact { PoolGives (λ x. (x.0, x.1)) result (pool_from file.now at) }
+    ensures exact { Gives pool_is_memory (λ x. (x.0, x.1)) result (pool_from file.now at) }
 {
     read_from(alloc, file, at)
 }

@@ -7,17 +7,18 @@ use Rattle.std.proofs.lemmas.Bool.{leb-true, le-leb, eqb-false, ne_eqb, not-true
 use Rattle.std.proofs.lemmas.Bool.Decides.{Decides-and, Decides-or}
 use Rattle.std.proofs.lemmas.List.{length-append}
 use Rattle.std.proofs.lemmas.Slice.Eq.{bytes_eq-Decides}
+use Rattle.dj_bytes.specs.Options.{◌>>=◌}
+use Rattle.dj_bytes.proofs.Options.{bind_some, some_is}
 use Rattle.dj_names.specs.declared.descriptor.Ty.{Ty}
 use Rattle.dj_names.specs.Names.{IsNameByte, IsUnqualifiedName, IsMethodName, IsClassName, HasNoAngle}
 use Rattle.dj_names.specs.ModifiedUtf8.{unit_text, units_text, Spells, IsModifiedUtf8}
 use Rattle.dj_names.specs.Descriptors.{IsFieldDescriptor, IsMethodDescriptor, IsArrayDescriptor}
 use Rattle.dj_names.specs.UnitReading.{unit_read}
 use Rattle.dj_names.specs.NameReading.{is_stop}
-use Rattle.dj_names.specs.DescReading.{◌>>=◌, field_read}
+use Rattle.dj_names.specs.DescReading.{field_read}
 use Rattle.dj_names.specs.Tests.{name_byte_test, no_angle_test, unqualified_name_test, method_name_test, class_name_test, units_read, modified_utf8_test, field_descriptor_test, method_descriptor_test, array_test, array_descriptor_test}
 use Rattle.dj_names.proofs.UnitLaws.{unit_takes, unit_again, unit_some}
 use Rattle.dj_names.proofs.NameLaws.{is_name_byte, is_no_stop, class_name_read, reads_class}
-use Rattle.dj_names.proofs.TypeLaws.{bind_some, some_is}
 use Rattle.dj_names.proofs.DescLaws.{some_there, field_takes, field_again, field_from_test, test_from_field, method_from_test, test_from_method}
 
 -- ---- names

@@ -1,21 +1,12 @@
 -- A unit that is read is spelled so, and a unit that is spelled so is read.
-use Rattle.std.proofs.Common.{◌≡◌, ◌≢◌, ℕ, ◌+◌, ◌-◌, ◌/◌, ◌%◌, ◌^◌, ◌<◌, ◌≤◌, Bool, true, false, cond, leb, ltb, eqb, List, [], ◌∷◌, ◌++◌, length, Option, Some, None, refl, sym, ap, subst, ◌∙◌, append_assoc, arith, inl, inr, ◌⊎◌, ◌&&◌, ◌||◌}
+use Rattle.std.proofs.Common.{◌≡◌, ◌≢◌, ℕ, ◌+◌, ◌-◌, ◌/◌, ◌%◌, ◌^◌, ◌<◌, ◌≤◌, Bool, false, cond, leb, ltb, eqb, List, [], ◌∷◌, ◌++◌, length, Option, Some, None, refl, sym, ap, subst, ◌∙◌, append_assoc, arith, inl, inr, ◌⊎◌, ◌&&◌, ◌||◌}
 use Rattle.std.proofs.lemmas.Bool.{cases_lt, cases_eq, cases_Bool, ltb-true, leb-true, le-ltb, lt-ltb, and_parts, or_cases, eqb-true}
 use Rattle.std.proofs.lemmas.Bool.Decides.{nat_tests}
 use Rattle.std.proofs.lemmas.List.{append-nil, length-append}
 use Rattle.std.specs.List.{AllByRecursion}
+use Rattle.dj_bytes.proofs.Options.{chose_some, went_on}
 use Rattle.dj_names.specs.ModifiedUtf8.{unit_text, units_text, Spells, IsModifiedUtf8, BeginsNoUnit, BreaksAt}
 use Rattle.dj_names.specs.UnitReading.{two_unit_of, three_unit_of, two_read, three_read, long_read, unit_read}
-
--- a test that chose a value
-pub chose_some : {A : Type 0} (b : Bool) (x y : A) → cond b (Some x) None ≡ Some y → (b ≡ true) × (x ≡ y)
-chose_some true x y e = (refl, cc)
-chose_some false x y e = absurd cc
-
--- a test before another step
-pub went_on : {A : Type 0} (b : Bool) (o : Option A) (y : A) → cond b o None ≡ Some y → (b ≡ true) × (o ≡ Some y)
-went_on true o y e = (refl, e)
-went_on false o y e = absurd cc
 
 one_text : (u : ℕ) → 1 ≤ u → u < 128 → unit_text u ≡ u ∷ []
 one_text u low high = grind (arith, nat_tests)

@@ -1,5 +1,6 @@
 -- The reader's own: a type at the front of bytes, and the bytes after it. Public clauses cite it only through Tests.
-use Rattle.std.specs.Prelude.{◌≡◌, ℕ, zero, suc, ◌+◌, ◌++◌, Bool, true, false, nat_eq, nat_lt, nat_le, if◌then◌else◌, List, [], ◌∷◌, length, Option, Some, None, Result, Ok, Err}
+use Rattle.std.specs.Prelude.{ℕ, zero, suc, ◌+◌, ◌++◌, Bool, true, false, nat_eq, nat_lt, nat_le, if◌then◌else◌, List, [], ◌∷◌, length, Option, Some, None}
+use Rattle.dj_bytes.specs.Options.{◌>>=◌}
 use Rattle.dj_names.specs.declared.descriptor.Base.{Base}
 use Rattle.dj_names.specs.declared.descriptor.Base.TheVariants as bases
 use Rattle.dj_names.specs.declared.descriptor.Of.{Of}
@@ -13,11 +14,6 @@ use Rattle.dj_names.specs.declared.read.DescError.{DescError}
 use Rattle.dj_names.specs.declared.read.DescError.TheVariants as errors
 use Rattle.dj_names.specs.NameReading.{reads_class_name}
 use Rattle.dj_names.specs.Descriptors.{type_slots}
-
-infixl 10 ◌>>=◌
-abbrev pub ◌>>=◌ : {A B : Type 0} → Option A → (A → Option B) → Option B
-(Some x) >>= f = f x
-None >>= f = None
 
 -- an element without where its name lies
 abbrev pub element_of : Element → Of
@@ -92,11 +88,7 @@ unfoldable pub desc_read : List ℕ → Option Desc
 desc_read text =
     if opens text then (method_read text >>= λ m. Some (descs.Method m.0 m.1)) else (field_read text >>= λ ty. Some (descs.Field ty))
 
--- What a function returned, seen by view, is what reading gives, unless memory ran out.
-abbrev pub Fails : {Y : Type 0} → DescError → Option Y → Type 0
-Fails errors.Memory read = Unit {0}
-Fails errors.NotADescriptor read = read ≡ None
-
-abbrev pub Gives : {X Y : Type 0} → (X → Y) → Result X DescError → Option Y → Type 0
-Gives view (Ok x) read = read ≡ Some (view x)
-Gives view (Err e) read = Fails e read
+-- the error that says nothing of the text
+abbrev pub is_memory : DescError → Bool
+is_memory errors.Memory = true
+is_memory errors.NotADescriptor = false

@@ -2,10 +2,11 @@
 -- proofs/TestLaws says that each decides what its name says.
 use Rattle.std.specs.Prelude.{ℕ, zero, suc, Bool, true, false, not, ◌&&◌, ◌||◌, nat_eq, nat_le, List, [], ◌∷◌, length, Option, Some, None, is_some, bytes_eq, codes}
 use Rattle.std.specs.List.{list_all}
+use Rattle.dj_bytes.specs.Options.{◌>>=◌}
 use Rattle.dj_names.specs.declared.descriptor.Ty.{Ty}
 use Rattle.dj_names.specs.UnitReading.{unit_read}
 use Rattle.dj_names.specs.NameReading.{is_stop, reads_class_name}
-use Rattle.dj_names.specs.DescReading.{◌>>=◌, field_read, method_read}
+use Rattle.dj_names.specs.DescReading.{field_read, method_read}
 
 -- none of  .  ;  [  /
 abbrev pub name_byte_test : ℕ → Bool

@@ -1,7 +1,8 @@
 ghost use Rattle.std.specs.Prelude.{◌≡◌, ◌≢◌, ◌∷◌, ℕ, List, length, slice_index, IfSome, IfNone, IfOk, IsErrOf};
+ghost use Rattle.dj_bytes.specs.Options.{Gives};
 ghost use Rattle.dj_names.specs.declared.descriptor.Desc.{Desc};
 ghost use Rattle.dj_names.specs.Descriptors.{Describes};
-ghost use Rattle.dj_names.specs.DescReading.{Gives, element_of, type_read, params_read, field_read, return_read, method_read, opens, desc_read};
+ghost use Rattle.dj_names.specs.DescReading.{is_memory, element_of, type_read, params_read, field_read, return_read, method_read, opens, desc_read};
 
 use crate::descriptor::{Desc, Of, Ty, Tys};
 use crate::lists::{Name, NoMemory};
@@ -44,7 +45,7 @@ pub fn one_descriptor()
 
 #[tactic(auto, unfolding(crate::specs::DescReading::desc_read))]
 fn desc_of(alloc: Global, text: &[u8]) -> Result<Desc, DescError>
-    ensures { Gives (λ d. d) result (desc_read text.now) }
+    ensures { Gives is_memory (λ d. d) result (desc_read text.now) }
 {
     if opens_method(text) {
         let (params, ret) = method_of(alloc, text)?;
@@ -66,7 +67,7 @@ fn opens_method(text: &[u8]) -> bool
 
 #[tactic(auto, unfolding(crate::specs::DescReading::field_read))]
 fn field_of(alloc: Global, text: &[u8]) -> Result<Ty, DescError>
-    ensures { Gives (λ ty. ty) result (field_read text.now) }
+    ensures { Gives is_memory (λ ty. ty) result (field_read text.now) }
 {
     let (ty, rest) = type_of(alloc, text)?;
     if rest.is_empty() {
@@ -78,7 +79,7 @@ fn field_of(alloc: Global, text: &[u8]) -> Result<Ty, DescError>
 
 #[tactic(auto, unfolding(crate::specs::DescReading::method_read))]
 fn method_of(alloc: Global, text: &[u8]) -> Result<(Tys, Option<Ty>), DescError>
-    ensures { Gives (λ m. m) result (method_read text.now) }
+    ensures { Gives is_memory (λ m. m) result (method_read text.now) }
 {
     match text {
         [] => Err(DescError::NotADescriptor),
@@ -95,7 +96,7 @@ fn method_of(alloc: Global, text: &[u8]) -> Result<(Tys, Option<Ty>), DescError>
 
 #[tactic(auto, unfolding(crate::specs::DescReading::return_read))]
 fn return_of(alloc: Global, text: &[u8]) -> Result<Option<Ty>, DescError>
-    ensures { Gives (λ ret. ret) result (return_read text.now) }
+    ensures { Gives is_memory (λ ret. ret) result (return_read text.now) }
 {
     match text {
         [] => Err(DescError::NotADescriptor),
@@ -115,7 +116,7 @@ fn return_of(alloc: Global, text: &[u8]) -> Result<Option<Ty>, DescError>
 /// The parameters up to their closing parenthesis, and the bytes after it.
 #[tactic(auto, unfolding(crate::specs::DescReading::params_read))]
 fn params_of(alloc: Global, bytes: &[u8]) -> Result<(Tys, &[u8]), DescError>
-    ensures { Gives (λ x. (x.0, x.1.now)) result (params_read (length bytes.now) 0 bytes.now) }
+    ensures { Gives is_memory (λ x. (x.0, x.1.now)) result (params_read (length bytes.now) 0 bytes.now) }
 {
     let mut params = Tys::new(alloc);
     let mut slots: u16 = 0;
@@ -148,7 +149,7 @@ fn after_close(bytes: &[u8]) -> Option<&[u8]>
 
 /// The type at the front, and the bytes after it.
 fn type_of(alloc: Global, bytes: &[u8]) -> Result<(Ty, &[u8]), DescError>
-    ensures { Gives (λ x. (x.0, x.1.now)) result (type_read bytes.now) }
+    ensures { Gives is_memory (λ x. (x.0, x.1.now)) result (type_read bytes.now) }
 {
     match type_at(bytes) {
         None => Err(DescError::NotADescriptor),

@@ -1,27 +1,21 @@
 -- What is read at the front of bytes is spelled so, and what is spelled so is read.
-use Rattle.std.proofs.Common.{◌≡◌, ℕ, ◌^◌, ◌<◌, ◌⊎◌, Bool, true, false, cond, ltb, eqb, ◌||◌, ℤ, List, [], ◌∷◌, ◌++◌, length, get_or, Result, Ok, FitsSigned, refl, sym, ap, subst, ◌∙◌, arith, inl, inr}
-use Rattle.std.specs.Int.{w8, w16, from_be_bytes, to_be_bytes, cast_signed, cast_unsigned}
-use Rattle.std.proofs.lemmas.Bool.{cond-true, cond-false, cases_lt, eqb-true, true≢false}
-use Rattle.std.proofs.lemmas.Int.{of_z-to_z, to_z-of_z, ints}
-use Rattle.std.proofs.lemmas.List.{get_or_past}
+use Rattle.std.proofs.Common.{◌≡◌, ℕ, ◌^◌, ◌<◌, ◌⊎◌, Bool, true, false, ltb, eqb, ◌||◌, ℤ, List, [], ◌∷◌, ◌++◌, length, Result, Ok, FitsSigned, refl, sym, ap, subst, ◌∙◌, arith, inl, inr}
+use Rattle.std.specs.Int.{w8, w16, from_be_bytes, cast_signed}
+use Rattle.std.proofs.lemmas.Bool.{cond-true, cond-false, eqb-true, true≢false}
+use Rattle.std.proofs.lemmas.Int.{to_z-of_z}
 use Rattle.std.proofs.Math.Facts.{sfits_to_z}
-use Rattle.std.proofs.lemmas.Nat.{be_bytes_2, from_be_bytes-to_be_bytes_2}
 use Rattle.dj_ops.specs.declared.instruction.Instr.{Instr}
 use Rattle.dj_ops.specs.declared.instruction.Instr.TheVariants as instrs
 use Rattle.dj_ops.specs.declared.read.OpError.{OpError}
 use Rattle.dj_ops.specs.Forms.{Form, Bare, SignedByte, SignedShort, ShortLiteral, LongLiteral, Slot, ShortOffset, LongOffset, MemberIndex, ClassIndex, form_of}
-use Rattle.dj_ops.specs.Instructions.{s1, s2, signed_bytes, IsPushed, IsLiteral, IsProper, Spells}
+use Rattle.dj_bytes.specs.Spelling.{s1, s2}
+use Rattle.dj_bytes.proofs.Bytes.{IsBytes, IsBytes-before, IsBytes-after}
+use Rattle.dj_bytes.proofs.Steps.{cond_either}
+use Rattle.dj_bytes.proofs.Signed.{s1-cast_signed, s2-cast_signed, cast_signed-s2}
+use Rattle.dj_ops.specs.Instructions.{signed_bytes, IsPushed, IsLiteral, IsProper, Spells}
 use Rattle.dj_ops.specs.Straight.{is_straight_op, first_byte, IsStraight}
 use Rattle.dj_ops.specs.Reading.{push_byte_read, push_short_read, local_read, array_read, form_read, front_read}
 use Rattle.dj_ops.proofs.Tables.{is_straight_form, straight_form, straight_below, straight_low, straight_other, switches_not_straight, calls_not_straight, arrays_not_straight, increments_not_straight}
-
--- each element is below 256
-abbrev pub IsBytes : List ℕ → Type 0
-IsBytes bytes = (i : ℕ) → get_or bytes i 0 < 256
-
-pub cond_either : {A P : Type 0} (b : Bool) (x y : A) {z : A} → cond b x y ≡ z → (b ≡ true → x ≡ z → P) → (b ≡ false → y ≡ z → P) → P
-cond_either true x y h one other = one refl h
-cond_either false x y h one other = other refl h
 
 abbrev found : Instr × ℕ → Result (Instr × ℕ) OpError
 found x = Ok x
@@ -54,28 +48,11 @@ pub record Front (bytes : List ℕ) (x : Instr × ℕ) : Type 0 where
   pub proper : IsProper x.0
   pub straight : IsStraight x.0
 
--- a byte, as a signed number
-byte_is : (b : ℕ) → b < 256 → b ∷ [] ≡ s1 (cast_signed w8 b)
-byte_is b lt = ap (λ (n : ℕ). n ∷ []) (sym (of_z-to_z w8 b lt))
-
 short_below : (h l : ℕ) → h < 256 → l < 256 → from_be_bytes w16 (h ∷ l ∷ []) < 2 ^ 16
 short_below h l a b = omega arith
 
--- two bytes, as a signed number
-short_is : (h l : ℕ) → IsBytes (h ∷ l ∷ []) → h ∷ l ∷ [] ≡ s2 (cast_signed w16 (from_be_bytes w16 (h ∷ l ∷ [])))
-short_is h l fits =
-    sym (ap (to_be_bytes w16) (of_z-to_z w16 (from_be_bytes w16 (h ∷ l ∷ [])) (short_below h l (fits 0) (fits 1)))
-    ∙ be_bytes_2 (h ∷ l ∷ []) _ refl fits refl)
-
 two_bytes : (op h l : ℕ) (more : List ℕ) → IsBytes (op ∷ (h ∷ (l ∷ more))) → IsBytes (h ∷ l ∷ [])
-two_bytes op h l more fits i =
-    elim (cases_lt i 2) [
-      | inl lt ↦ elim (cases_lt i 1) [
-        | inl first ↦ let e : i ≡ 0 = omega arith in subst (λ (k : ℕ). get_or (h ∷ l ∷ []) k 0 < 256) (sym e) (fits 1)
-        | inr le ↦ let e : i ≡ 1 = omega arith in subst (λ (k : ℕ). get_or (h ∷ l ∷ []) k 0 < 256) (sym e) (fits 2)
-      ]
-      | inr le ↦ rw (get_or_past (h ∷ l ∷ []) i 0 le) (omega arith)
-    ]
+two_bytes op h l more fits = IsBytes-after (op ∷ []) (h ∷ l ∷ []) (IsBytes-before (op ∷ h ∷ l ∷ []) more fits)
 
 pub form_takes : (f : Form) (op : ℕ) (rest : List ℕ) (x : Instr × ℕ) → form_of op ≡ f → is_straight_op op ≡ true → is_straight_form f ≡ true → IsBytes (op ∷ rest)
     → form_read f op rest ≡ Ok x → Front (op ∷ rest) x
@@ -103,7 +80,7 @@ form_takes SignedByte op (b ∷ more) x f s known fits e =
       parts = refl;
       len = refl;
       some = omega arith;
-      spelled = λ at. ap (λ (t : List ℕ). op ∷ t) (byte_is b lt) ∙ ap (λ (g : Form). op ∷ signed_bytes g value) (sym f);
+      spelled = λ at. ap (λ (t : List ℕ). op ∷ t) (sym (s1-cast_signed b lt)) ∙ ap (λ (g : Form). op ∷ signed_bytes g value) (sym f);
       proper = subst (λ (g : Form). IsPushed g value) (sym f) (sfits_to_z (omega arith));
       straight = inl s;
     })
@@ -119,7 +96,7 @@ form_takes SignedShort op (h ∷ (l ∷ more)) x f s known fits e =
       parts = refl;
       len = refl;
       some = omega arith;
-      spelled = λ at. ap (λ (t : List ℕ). op ∷ t) (short_is h l two) ∙ ap (λ (g : Form). op ∷ signed_bytes g value) (sym f);
+      spelled = λ at. ap (λ (t : List ℕ). op ∷ t) (sym (s2-cast_signed (h ∷ l ∷ []) refl two)) ∙ ap (λ (g : Form). op ∷ signed_bytes g value) (sym f);
       proper = subst (λ (g : Form). IsPushed g value) (sym f) (sfits_to_z (omega (arith, short_below h l (two 0) (two 1))));
       straight = inl s;
     })
@@ -206,14 +183,9 @@ byte_back : (op : ℕ) (value : ℤ) (more : List ℕ) → FitsSigned w8 value �
 unfolding push_byte_read
 byte_back op value more fits = ap (λ (z : ℤ). Ok (instrs.Push op z, 2)) (to_z-of_z w8 value fits)
 
-unsigned_below : (value : ℤ) → FitsSigned w16 value → cast_unsigned w16 value < 2 ^ 16
-unsigned_below value fits = omega (arith, ints, fits)
-
 short_back : (op : ℕ) (value : ℤ) (more : List ℕ) → FitsSigned w16 value → form_read SignedShort op (s2 value ++ more) ≡ Ok (instrs.Push op value, 3)
 unfolding push_short_read
-short_back op value more fits =
-    ap (λ (n : ℕ). Ok (instrs.Push op (cast_signed w16 n), 3)) (from_be_bytes-to_be_bytes_2 (cast_unsigned w16 value) (unsigned_below value fits))
-    ∙ ap (λ (z : ℤ). Ok (instrs.Push op z, 3)) (to_z-of_z w16 value fits)
+short_back op value more fits = ap (λ (z : ℤ). Ok (instrs.Push op z, 3)) (cast_signed-s2 value fits)
 
 push_again : (op : ℕ) (value : ℤ) (more : List ℕ) → op < 256 → is_straight_op op ≡ true → IsPushed (form_of op) value → ReadsBack (instrs.Push op value) (op ∷ signed_bytes (form_of op) value) more
 push_again op value more lt s proper =

@@ -9,7 +9,8 @@ use Rattle.dj_ops.specs.Instructions.{IsArrayType}
 use Rattle.dj_ops.specs.Straight.{is_straight_op, IsKnown, IsArrayAt, IsCut, Refuses}
 use Rattle.dj_ops.specs.Reading.{push_byte_read, push_short_read, local_read, array_read, form_read, front_read}
 use Rattle.dj_ops.proofs.Tables.{is_straight_form, straight_form, array_form}
-use Rattle.dj_ops.proofs.Laws.{cond_either, straight_reads}
+use Rattle.dj_bytes.proofs.Steps.{cond_either}
+use Rattle.dj_ops.proofs.Laws.{straight_reads}
 
 -- ---- the cause of a refusal
 

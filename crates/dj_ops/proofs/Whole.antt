@@ -9,11 +9,9 @@ use Rattle.dj_ops.specs.Forms.{form_of, operand_count}
 use Rattle.dj_ops.specs.Instructions.{IsArrayType, Spells}
 use Rattle.dj_ops.specs.Straight.{IsKnown, IsUnbuilt, IsStraightAt, Refuses, IsRefused, Yields}
 use Rattle.dj_ops.specs.Reading.{front_read, placed}
-use Rattle.dj_ops.proofs.Laws.{IsBytes, Front, front_takes, front_again}
+use Rattle.dj_bytes.proofs.Bytes.{IsBytes, IsBytes-drop}
+use Rattle.dj_ops.proofs.Laws.{Front, front_takes, front_again}
 use Rattle.dj_ops.proofs.Refusals.{front_fails, front_refuses}
-
-IsBytes-drop : (n : ℕ) (bytes : List ℕ) → IsBytes bytes → IsBytes (drop n bytes)
-IsBytes-drop n bytes h i = rw get_or-drop (h (n + i))
 
 -- ---- what is read
 

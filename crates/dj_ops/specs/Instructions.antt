@@ -1,24 +1,11 @@
 -- Instructions and the bytes that spell them (JVMS chapter 6).
 use Rattle.std.specs.Prelude.{◌≡◌, ℕ, ◌+◌, ◌^◌, ◌<◌, ◌≤◌, ◌%◌, ◌⊎◌, Bool, true, false, ℤ, pos, ◌+ℤ◌, ◌-ℤ◌, ◌<ℤ◌, FitsSigned, List, [], ◌∷◌, ◌++◌, length, slice_range, AllPairs}
 use Rattle.std.specs.List.{flat_map, AllByRecursion}
-use Rattle.std.specs.Int.{w8, w16, w32, to_be_bytes, cast_unsigned}
+use Rattle.std.specs.Int.{w8, w16, w32}
+use Rattle.dj_bytes.specs.Spelling.{u2, s1, s2, s4}
 use Rattle.dj_ops.specs.declared.instruction.Instr.{Instr}
 use Rattle.dj_ops.specs.declared.instruction.Instr.TheVariants as instrs
 use Rattle.dj_ops.specs.Forms.{Form, Bare, SignedByte, SignedShort, ShortLiteral, LongLiteral, Slot, ShortOffset, LongOffset, MemberIndex, ClassIndex, form_of}
-
--- ---- numbers, the high byte first
-
-abbrev pub u2 : ℕ → List ℕ
-u2 n = to_be_bytes w16 n
-
-abbrev pub s1 : ℤ → List ℕ
-s1 z = cast_unsigned w8 z ∷ []
-
-abbrev pub s2 : ℤ → List ℕ
-s2 z = to_be_bytes w16 (cast_unsigned w16 z)
-
-abbrev pub s4 : ℤ → List ℕ
-s4 z = to_be_bytes w32 (cast_unsigned w32 z)
 
 -- ---- operands, by the form of the opcode
 

@@ -1,9 +1,10 @@
 use Rattle.std.proofs.Common.{◌≡◌, ◌-◌, map}
+use Rattle.dj_bytes.specs.Reading.{many_at}
+use Rattle.dj_bytes.specs.Views.{cursor_of}
+use Rattle.dj_bytes.proofs.Loop.{with_front}
 use Rattle.dj_class.specs.Members.{member_of}
 use Rattle.dj_class.specs.Tests.{test_of}
-use Rattle.dj_class.specs.Reading.{many_at, member_at}
-use Rattle.dj_class.specs.Gives.{cursor_of}
-use Rattle.dj_class.proofs.Loop.{with_front}
+use Rattle.dj_class.specs.Reading.{member_at}
 use Rattle.dj_class.proofs.class.read_member_list.Given as goal
 
 abbrev pub invariant-loop-i : goal.invariant-loop-i

@@ -1,9 +1,9 @@
 use Rattle.std.proofs.Common.{◌≡◌, ◌-◌, map}
+use Rattle.dj_bytes.specs.Reading.{many_at}
+use Rattle.dj_bytes.specs.Views.{cursor_of}
+use Rattle.dj_bytes.proofs.Loop.{with_front}
 use Rattle.dj_class.specs.Parts.{attribute_of}
-use Rattle.dj_class.specs.Reading.{many_at}
 use Rattle.dj_class.specs.CodeReading.{code_attribute_at}
-use Rattle.dj_class.specs.Gives.{cursor_of}
-use Rattle.dj_class.proofs.Loop.{with_front}
 use Rattle.dj_class.proofs.code.read_code_attribute_list.Given as goal
 
 abbrev pub invariant-loop : goal.invariant-loop

@@ -1,9 +1,9 @@
 use Rattle.std.proofs.Common.{◌≡◌, ◌+◌, ◌++◌, ◌∷◌, [], map, arith}
 use Rattle.std.proofs.lemmas.Result.{err_from_is_err_and}
 use Rattle.std.proofs.lemmas.List.{map_push}
+use Rattle.dj_bytes.specs.Views.{cursor_of}
 use Rattle.dj_class.specs.Parts.{constant_of}
 use Rattle.dj_class.specs.Reading.{constants_at}
-use Rattle.dj_class.specs.Gives.{cursor_of}
 use Rattle.dj_class.proofs.Loop.{constants_go_on, constants_end, constants_done}
 use Rattle.dj_class.proofs.pool.read_entries.Goals as goal
 

@@ -1,8 +1,8 @@
 use Rattle.std.proofs.Common.{◌≡◌, ◌+◌, ◌-◌, map, vec_len}
+use Rattle.dj_bytes.specs.Views.{cursor_of}
+use Rattle.dj_bytes.proofs.Loop.{with_front}
 use Rattle.dj_class.specs.Parts.{constant_of}
 use Rattle.dj_class.specs.Reading.{constants_at}
-use Rattle.dj_class.specs.Gives.{cursor_of}
-use Rattle.dj_class.proofs.Loop.{with_front}
 use Rattle.dj_class.proofs.pool.read_entries.Given as goal
 
 abbrev pub invariant-loop-i : goal.invariant-loop-i

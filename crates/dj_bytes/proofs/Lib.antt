@@ -1,0 +1,10 @@
+pub mod Bytes
+pub mod Steps
+pub mod Options
+pub mod Spans
+pub mod Numbers
+pub mod Signed
+pub mod Parts
+pub mod Loop
+pub mod Faults
+mod Facts

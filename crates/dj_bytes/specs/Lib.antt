@@ -1,0 +1,5 @@
+pub mod Spelling
+pub mod Steps
+pub mod Options
+pub mod Reading
+pub mod Views

@@ -1,0 +1,6 @@
+//! Bytes that are read from left to right: where a reader stands, the numbers there, and the words that tie what is read to its spelling.
+#![tactic(auto)]
+
+mod cursor;
+
+pub use cursor::{Cursor, Cut};
