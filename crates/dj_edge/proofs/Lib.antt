@@ -3,3 +3,5 @@ pub mod Pairs
 pub mod Sorting
 pub mod Listings
 mod Lookup
+mod Taken
+mod Walking
