@@ -6,14 +6,13 @@ use Rattle.std.proofs.KnownBytes.{Appends-trans}
 use Rattle.dj_edge.specs.Counts.{Rose, IsFront, GrowsByFront}
 
 pub Rose-after_le : (before mid now : ℕ) → before ≤ mid → Rose mid now → Rose before now
-Rose-after_le before mid now below rose = omega arith
+Rose-after_le before mid now below rose = (omega arith, omega arith)
 
 pub Rose-then_le : (before mid now : ℕ) → Rose before mid → mid ≤ now → Rose before now
-Rose-then_le before mid now rose above = omega arith
+Rose-then_le before mid now rose above = (omega arith, omega arith)
 
--- a count that its type holds is no less after it rose
-pub le_from_rose : (before now : ℕ) → before < 2 ^ 64 → Rose before now → before ≤ now
-le_from_rose before now small rose = omega arith
+pub le_from_rose : (before now : ℕ) → Rose before now → before ≤ now
+le_from_rose before now rose = rose.0
 
 module _ {A : Type 0} where
   pub IsFront-nil : (all : List A) → IsFront [] all

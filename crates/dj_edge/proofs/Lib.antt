@@ -4,3 +4,5 @@ pub mod Sorting
 pub mod Listings
 pub mod Lists
 mod Lookup
+mod Taken
+mod Walking

@@ -11,7 +11,7 @@ use Rattle.dj_edge.specs.declared.sink.SinkError.TheVariants as sink_errors
 use Rattle.dj_edge.specs.declared.host.HostError.{HostError}
 use Rattle.dj_edge.specs.declared.host.HostAnswer.{HostAnswer}
 use Rattle.dj_edge.specs.Held.{Held, File, bytes_at, is_class_path, class_files}
-use Rattle.dj_edge.specs.Counts.{Rose, IsFront, AllDiffer}
+use Rattle.dj_edge.specs.Counts.{Rose, IsFront, AllDiffer, one_more}
 
 -- the paths are those of the class files, or any most of them where there are more
 abbrev pub AreAmong : List (List ℕ) → ℕ → List File → Type 0
@@ -38,6 +38,11 @@ abbrev pub ListCounts : {T : Type 0} → ℕ → ℕ → Result T ListError → 
 ListCounts before now (Err list_errors.Failed) = Rose before now
 ListCounts before now _ = before ≤ now
 
+-- the count goes up by one exactly where a listing failed, and at any other answer it stays
+abbrev pub CountsListing : {T : Type 0} → ℕ → ℕ → Result T ListError → Type 0
+CountsListing before now (Err list_errors.Failed) = now ≡ one_more before
+CountsListing before now _ = now ≡ before
+
 -- a read is asked of the path, but where memory ran out
 abbrev pub ReadAsks : {T : Type 0} → List (List ℕ) → List (List ℕ) → List ℕ → Result T ReadError → Type 0
 ReadAsks old new path (Err read_errors.Memory) = new ≡ old
@@ -46,6 +51,11 @@ ReadAsks old new path _ = new ≡ old ++ path ∷ []
 abbrev pub ReadCounts : {T : Type 0} → ℕ → ℕ → Result T ReadError → Type 0
 ReadCounts before now (Err read_errors.Failed) = Rose before now
 ReadCounts before now _ = before ≤ now
+
+-- the count goes up by one exactly where a read failed, and at any other answer it stays
+abbrev pub CountsRead : {T : Type 0} → ℕ → ℕ → Result T ReadError → Type 0
+CountsRead before now (Err read_errors.Failed) = now ≡ one_more before
+CountsRead before now _ = now ≡ before
 
 -- what a read of a path tells of the bytes held there, where bytes_of gives the bytes of what was read
 abbrev pub ReadTells : {T : Type 0} → (T → List ℕ) → Option Held → List ℕ → ℕ → Result T ReadError → Type 0
@@ -73,3 +83,8 @@ Puts old new bytes (Err e) = (front : List ℕ) × IsFront front bytes × Append
 abbrev pub WriteCounts : {T : Type 0} → ℕ → ℕ → Result T SinkError → Type 0
 WriteCounts before now (Err sink_errors.Failed) = Rose before now
 WriteCounts before now _ = before ≤ now
+
+-- the count goes up by one exactly where a write failed, and at any other answer it stays
+abbrev pub CountsWrite : {T : Type 0} → ℕ → ℕ → Result T SinkError → Type 0
+CountsWrite before now (Err sink_errors.Failed) = now ≡ one_more before
+CountsWrite before now _ = now ≡ before

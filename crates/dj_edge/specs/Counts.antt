@@ -1,9 +1,9 @@
 -- Counts of faults, and lists that grow.
 use Rattle.std.specs.Prelude.{◌≡◌, ◌≢◌, ℕ, ◌+◌, ◌-◌, ◌^◌, ◌≤◌, min, List, ◌++◌, AllPairs}
 
--- a count that stands still at 2 ^ 64 - 1, its last value, went up
+-- a count that stands still at 2 ^ 64 - 1, its last value, went up, and in no case did it fall
 abbrev pub Rose : ℕ → ℕ → Type 0
-Rose before now = min (before + 1) (2 ^ 64 - 1) ≤ now
+Rose before now = (before ≤ now) × (min (before + 1) (2 ^ 64 - 1) ≤ now)
 
 -- one more, but 2 ^ 64 - 1 stands still
 abbrev pub one_more : ℕ → ℕ

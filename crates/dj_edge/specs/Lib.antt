@@ -5,3 +5,5 @@ pub mod InMemory
 pub mod Stores
 pub mod Hosts
 pub mod Sinks
+pub mod Streams
+pub mod Walks

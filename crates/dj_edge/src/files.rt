@@ -1,4 +1,4 @@
-ghost use Rattle.std.specs.Prelude.{◌≡◌, ℕ, List, Option, Result, IfOk, map, string_bytes};
+ghost use Rattle.std.specs.Prelude.{◌≡◌, ◌≤◌, ℕ, List, Option, Result, IfOk, map, string_bytes};
 ghost use Rattle.dj_edge.specs.Held.{Held};
 
 use std::alloc::Global;
@@ -39,7 +39,7 @@ pub trait Files {
     /// What is held, where the store tells it. No call changes it.
     ghost held: { Self → Option Held };
 
-    /// How many calls failed. The count stands still at 2^64 - 1.
+    /// How many calls failed. The count stands still at 2^64 - 1, and no call makes it less.
     ghost faults: { Self → ℕ };
 
     /// The folders and paths that were asked, in order.
@@ -49,6 +49,7 @@ pub trait Files {
     fn list(&mut self, alloc: Global, folder: &str, most: u32) -> Result<Vec<String>, ListError>
         ensures unchanged { held self.new ≡ held self.old }
         ensures asks { ListAsks (asked self.old) (asked self.new) folder.now result }
+        ensures never_falls { faults self.old ≤ faults self.new }
         ensures counts { ListCounts (faults self.old) (faults self.new) result }
         ensures lists { IfOk result (λ paths.
             IsListing (held self.old) folder.now most (map string_bytes paths.items)) };
@@ -57,6 +58,7 @@ pub trait Files {
     fn read(&mut self, alloc: Global, path: &str, most: u64) -> Result<Vec<u8>, ReadError>
         ensures unchanged { held self.new ≡ held self.old }
         ensures asks { ReadAsks (asked self.old) (asked self.new) path.now result }
+        ensures never_falls { faults self.old ≤ faults self.new }
         ensures counts { ReadCounts (faults self.old) (faults self.new) result }
         ensures tells { ReadTells (λ bytes. bytes.items) (held self.old) path.now most result };
 }

@@ -9,6 +9,8 @@ mod mem_sink;
 mod order;
 mod sink;
 mod stored;
+mod streams;
+mod walk;
 
 pub use files::{Files, ListError, ReadError};
 pub use host::{Host, HostAnswer, HostError};
@@ -18,3 +20,5 @@ pub use mem_sink::MemSink;
 pub use order::Order;
 pub use sink::{Sink, SinkError, put_all};
 pub use stored::paths_differ;
+pub use streams::{read_bounded, read_error, write_piece};
+pub use walk::{Entry, EntryKind, Folders, files_below};

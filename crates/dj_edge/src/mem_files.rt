@@ -60,9 +60,9 @@ impl MemFiles {
 }
 
 impl Files for MemFiles {
-    ghost use Rattle.std.specs.Prelude.{◌≡◌, Some, List, ℕ, Option, Result, IfOk, map, string_bytes};
+    ghost use Rattle.std.specs.Prelude.{◌≡◌, ◌≤◌, Some, List, ℕ, Option, Result, IfOk, map, string_bytes};
     ghost use Rattle.dj_edge.specs.Held.{Held, held_of};
-    ghost use Rattle.dj_edge.specs.Calls.{IsListing, ListAsks, ListCounts, ReadTells, ReadAsks, ReadCounts};
+    ghost use Rattle.dj_edge.specs.Calls.{IsListing, ListAsks, ListCounts, CountsListing, ReadTells, ReadAsks, ReadCounts, CountsRead};
     ghost use Rattle.dj_edge.specs.Stores.{files_of, faults_of, asked_of, IsOneCall, Lists, Reads};
 
     ghost held = { λ m. Some (held_of (files_of m)) };
@@ -73,7 +73,9 @@ impl Files for MemFiles {
 
     fn list(&mut self, alloc: Global, folder: &str, most: u32) -> Result<Vec<String>, ListError>
         ensures asks { ListAsks (asked_of self.old) (asked_of self.new) folder.now result }
+        ensures never_falls { faults_of self.old ≤ faults_of self.new }
         ensures counts { ListCounts (faults_of self.old) (faults_of self.new) result }
+        ensures counts_one { CountsListing (faults_of self.old) (faults_of self.new) result }
         ensures lists { IfOk result (λ paths.
             IsListing (Some (held_of (files_of self.old))) folder.now most (map string_bytes paths.items)) }
         ensures one_call { IsOneCall self.old self.new }
@@ -102,7 +104,9 @@ impl Files for MemFiles {
 
     fn read(&mut self, alloc: Global, path: &str, most: u64) -> Result<Vec<u8>, ReadError>
         ensures asks { ReadAsks (asked_of self.old) (asked_of self.new) path.now result }
+        ensures never_falls { faults_of self.old ≤ faults_of self.new }
         ensures counts { ReadCounts (faults_of self.old) (faults_of self.new) result }
+        ensures counts_one { CountsRead (faults_of self.old) (faults_of self.new) result }
         ensures tells { ReadTells (λ bytes. bytes.items) (Some (held_of (files_of self.old))) path.now most result }
         ensures one_call { IsOneCall self.old self.new }
         ensures answers { Reads self.old self.new result }

@@ -1,0 +1,85 @@
+-- What a walk through folders meets, where what the folders have is told.
+use Rattle.std.specs.Prelude.{◌≡◌, ℕ, zero, suc, ◌+◌, ◌<◌, ◌≤◌, ⊤, Bool, true, false, ◌&&◌, cond, List, [], ◌∷◌, ◌++◌, length, map, filter, codes, nat_eq, string_bytes, Option, Some, None, IfSome, option_map, option_and_then, Result, Ok, Err}
+use Rattle.std.specs.List.{ends_with}
+use Rattle.std.specs.Global.{Vec}
+use Rattle.dj_edge.specs.declared.files.ListError.{ListError}
+use Rattle.dj_edge.specs.declared.files.ListError.TheVariants as list_errors
+use Rattle.dj_edge.specs.declared.walk.Entry.{Entry}
+use Rattle.dj_edge.specs.declared.walk.EntryKind.{EntryKind}
+use Rattle.dj_edge.specs.declared.walk.EntryKind.TheVariants as kinds
+use Rattle.dj_edge.specs.declared.walk.Walk.{Walk}
+
+-- a path, and what stands there
+abbrev pub Place : Type 0
+Place = List ℕ × EntryKind
+
+abbrev pub place_of : Entry → Place
+place_of entry = (string_bytes entry.path, entry.kind)
+
+-- the entries of the folder under a path, or none where it can't be read
+abbrev pub Tree : Type 0
+Tree = List ℕ → Option (List Place)
+
+-- a folder's entries, or that it can't be read or has more than so many
+abbrev pub IsFolderRead : Option Tree → List ℕ → ℕ → Result (Vec Entry) ListError → Type 0
+IsFolderRead tree folder most (Ok entries) = (length entries.items ≤ most) × IfSome tree (λ t. t folder ≡ Some (map place_of entries.items))
+IsFolderRead tree folder most (Err list_errors.Failed) = IfSome tree (λ t. IfSome (t folder) (λ places. most < length places))
+IsFolderRead tree folder most (Err list_errors.Memory) = ⊤
+
+abbrev pub has_class_name : List ℕ → Bool
+has_class_name path = ends_with nat_eq path (codes ".class")
+
+-- what is met inside an entry of this kind and name: of a folder what is in it, of a file nothing, and what is neither
+-- may not have a class file's name
+abbrev pub inside_of : EntryKind → Bool → Option (List Place) → Option (List Place)
+inside_of kinds.Folder is_class inside = inside
+inside_of kinds.File is_class inside = Some []
+inside_of kinds.Other is_class inside = cond is_class None (Some [])
+
+-- a place, and then what is met inside
+abbrev pub with_inside : Tree → Place → Option (List Place)
+with_inside inside place = option_map (λ places. place ∷ places) (inside_of place.1 (has_class_name place.0) (inside place.0))
+
+-- places one after the other, each with what is met inside
+unfoldable pub spread : Tree → List Place → Option (List Place)
+spread inside [] = Some []
+spread inside (place ∷ places) = option_and_then (λ front. option_map (λ rest. front ++ rest) (spread inside places)) (with_inside inside place)
+
+-- what is met in a folder and in so many levels of folders, itself the first; none where one of them can't be read, or where
+-- a folder lies deeper
+unfoldable pub met_in : Tree → ℕ → Tree
+met_in tree zero folder = None
+met_in tree (suc levels) folder = option_and_then (spread (met_in tree levels)) (tree folder)
+
+abbrev pub is_file : EntryKind → Bool
+is_file kinds.File = true
+is_file _ = false
+
+-- the paths of the class files among the places
+abbrev pub class_files_in : List Place → List (List ℕ)
+class_files_in places = map (λ place. place.0) (filter (λ place. is_file place.1 && has_class_name place.0) places)
+
+abbrev pub texts_found : Walk → List (List ℕ)
+texts_found walk = map string_bytes walk.found.items
+
+-- the entry is a folder or not, and nothing else than a class file is found
+pub record IsEntryTaken (entry : Entry) (before now : Walk) (is_folder : Bool) : Type 0 where
+  pub folder : is_folder ≡ true → entry.kind ≡ kinds.Folder
+  pub other : is_folder ≡ false → (inside : Option (List Place)) → inside_of entry.kind (has_class_name (string_bytes entry.path)) inside ≡ Some []
+  pub found : texts_found now ≡ texts_found before ++ class_files_in (place_of entry ∷ [])
+  pub entries : now.entries ≡ before.entries
+
+-- all places that are met in the folder, down to so many levels, were met
+pub record IsWalked (tree : Option Tree) (levels : ℕ) (folder : List ℕ) (before now : Walk) : Type 0 where
+  pub places : List Place
+  pub told : IfSome tree (λ t. met_in t levels folder ≡ Some places)
+  pub found : texts_found now ≡ texts_found before ++ class_files_in places
+  pub entries : now.entries ≡ before.entries + length places
+
+-- the folder with a slash, and 64 levels of folders below it, were walked: each folder could be read, no folder lies deeper,
+-- there are at most 1,048,576 entries, and the class files among them were found
+pub record IsWalk (tree : Option Tree) (folder : List ℕ) (found : List (List ℕ)) : Type 0 where
+  pub places : List Place
+  pub told : IfSome tree (λ t. met_in t 65 (folder ++ codes "/") ≡ Some places)
+  pub few : length places ≤ 1048576
+  pub class_files : found ≡ class_files_in places
