@@ -1,8 +1,9 @@
 -- The definitions at plain values: numbers, signed numbers and tables with their bytes, and what doesn't fit.
-use Rattle.std.proofs.Common.{◌≡◌, ◌≢◌, ℕ, List, [], ◌∷◌, Result, Ok, Err, pos, negsuc, refl, ap, arith}
+use Rattle.std.proofs.Common.{◌≡◌, ◌≢◌, ℕ, ◌+◌, ◌==◌, Bool, List, [], ◌∷◌, Result, Ok, Err, pos, negsuc, refl, ap, arith}
 use Rattle.std.specs.Int.{w8, w16, w32, w64}
 use Rattle.dj_bytes.specs.declared.cursor.Cut.{Cut}
 use Rattle.dj_bytes.specs.Spelling.{u1, u2, u4, u8, s1, s2, s4, table_bytes}
+use Rattle.dj_bytes.specs.Steps.{Gives}
 use Rattle.dj_bytes.specs.Reading.{Cursor, start_of, cursor_at, bytes_at, number_at, u2_at, many_at, table_at}
 
 -- ---- spelling
@@ -122,3 +123,28 @@ table-cut = refl
 count-cut : table_at (λ place. record { 0 = place }) two_bytes (start_of (0 ∷ [])) ≡ cut 0
 unfolding many_at table_at
 count-cut = refl
+
+-- ---- what a reader may answer
+
+abbrev one_is_memory : ℕ → Bool
+one_is_memory e = e == 1
+
+abbrev answer : Result ℕ ℕ → Result ℕ ℕ
+answer r = r
+
+gives-value : Gives one_is_memory (λ (n : ℕ). n + 1) (answer (Ok 3)) (answer (Ok 4))
+gives-value = refl
+
+gives-fault : Gives one_is_memory (λ (n : ℕ). n) (answer (Err 2)) (answer (Err 2))
+gives-fault = refl
+
+-- where memory ran out anything may stand there
+gives-memory : Gives one_is_memory (λ (n : ℕ). n) (answer (Err 1)) (answer (Ok 4))
+gives-memory = tt
+
+-- no other value, and no fault where there is none
+gives-other : Gives one_is_memory (λ (n : ℕ). n) (answer (Ok 3)) (answer (Ok 4)) → ⊥
+gives-other h = absurd cc
+
+gives-no_fault : Gives one_is_memory (λ (n : ℕ). n) (answer (Err 2)) (answer (Ok 4)) → ⊥
+gives-no_fault h = absurd cc

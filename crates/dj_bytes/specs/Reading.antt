@@ -35,7 +35,7 @@ number_at w c = do
   bytes ← bytes_at (byte_len w) c
   Ok (from_be_bytes w bytes.0, bytes.1)
 
--- ---- the same, with what a cut at a place is to the reader
+-- ---- the same, with what a cut at a place is to the reader; the digit counts bytes, as in Spelling
 
 abbrev pub block_at : {E : Type 0} → (ℕ → E) → ℕ → Cursor → Result (List ℕ × Cursor) E
 block_at cut n c = lifted (λ x. cut x.0) (bytes_at n c)
