@@ -13,3 +13,7 @@ mod ops;
 mod report;
 #[cfg(test)]
 mod rules;
+#[cfg(test)]
+mod streams;
+#[cfg(test)]
+mod walk;

@@ -1,13 +1,13 @@
-ghost use Rattle.std.specs.Prelude.{◌≡◌, [], ◌∷◌, ◌++◌, None, IfOk, OnOk, OnErr, map, string_bytes};
-ghost use Rattle.dj_edge.specs.Calls.{IsListing, ReadTells};
+ghost use Rattle.std.specs.Prelude.{◌≡◌, ◌≤◌, [], ◌∷◌, ◌++◌, None, IfOk, OnOk, OnErr, map, string_bytes};
+ghost use Rattle.dj_edge.specs.Calls.{IsListing, ListAsks, ListCounts, CountsListing, ReadTells, ReadAsks, ReadCounts, CountsRead};
 
 use crate::listing::listing_of;
-use crate::walk::files_below;
-use dj_edge::{Files, ListError, ReadError};
+use crate::walk::SystemFolders;
+use dj_edge::{Files, ListError, ReadError, files_below, read_bounded, read_error};
 use std::alloc::{AllocError, Global};
-use std::io::Read;
+use std::fs;
+use std::fs::OpenFile;
 use std::rt::Files as System;
-use std::{fs, io};
 
 /// The files of the system. It does not tell what is held.
 #[derive(Drop)]
@@ -17,40 +17,30 @@ pub struct FolderFiles<R: System + AllocGlobal + Clone + Drop> {
     asked: Vec<String>,
 }
 
-/// The bytes of a file, or one more than so many of them where it is longer.
-fn bytes_of<R: System + AllocGlobal>(rt: &R, path: &str, most: u64) -> io::Result<Vec<u8>> {
-    let file = fs::open(rt, path)?;
-    let mut bytes = Vec::new(rt.alloc());
-    file.take(most.saturating_add(1)).read_to_end(&mut bytes)?;
-    Ok(bytes)
-}
-
 /// The bytes of a file that has at most so many.
-fn read_whole<R: System + AllocGlobal>(rt: &R, path: &str, most: u64) -> Result<Vec<u8>, ReadError>
+fn read_whole<R: System>(rt: &R, alloc: Global, path: &str, most: u64) -> Result<Vec<u8>, ReadError>
     ensures { ReadTells (λ bytes. bytes.items) None path.now most result }
 {
-    match bytes_of(rt, path, most) {
-        Ok(bytes) => {
-            if bytes.len() as u64 > most {
-                return Err(ReadError::TooLong);
-            }
-            Ok(bytes)
-        }
-        Err(error) if error.kind() == io::ErrorKind::OutOfMemory => Err(ReadError::Memory),
-        Err(_) => Err(ReadError::Failed),
-    }
+    let mut file = match fs::open(rt, path) {
+        Ok(file) => file,
+        Err(error) => return Err(read_error(error)),
+    };
+    // How long the file is said to be is only a hint of how much room to make.
+    let expected = file.metadata().map_or(0, |told| told.len());
+    read_bounded(alloc, &mut file, most, expected)
 }
 
 /// The class files in the folder or below it.
 fn list_folder<R: System + AllocGlobal + Clone + Drop>(
     rt: &R,
+    alloc: Global,
     folder: &str,
     most: u32,
 ) -> Result<Vec<String>, ListError>
     ensures { IfOk result (λ paths. IsListing None folder.now most (map string_bytes paths.items)) }
 {
-    let found = files_below(rt, folder)?;
-    listing_of(rt.alloc(), folder, found, most).map_err(|_| ListError::Memory)
+    let found = files_below(alloc, &mut SystemFolders { rt }, folder)?;
+    listing_of(alloc, folder, found, most).map_err(|_| ListError::Memory)
 }
 
 impl<R: System + AllocGlobal + Clone + Drop> FolderFiles<R> {
@@ -85,8 +75,15 @@ impl<R: System + AllocGlobal + Clone + Drop> Files for FolderFiles<R> {
 
     ghost asked = { λ files. map string_bytes files.asked.items };
 
-    fn list(&mut self, alloc: Global, folder: &str, most: u32) -> Result<Vec<String>, ListError> {
-        let listed = list_folder(&self.rt, folder, most);
+    fn list(&mut self, alloc: Global, folder: &str, most: u32) -> Result<Vec<String>, ListError>
+        ensures unchanged { ⟦<FolderFiles<R> as Files>⟧.held self.new ≡ ⟦<FolderFiles<R> as Files>⟧.held self.old }
+        ensures asks { ListAsks (⟦<FolderFiles<R> as Files>⟧.asked self.old) (⟦<FolderFiles<R> as Files>⟧.asked self.new) folder.now result }
+        ensures never_falls { ⟦<FolderFiles<R> as Files>⟧.faults self.old ≤ ⟦<FolderFiles<R> as Files>⟧.faults self.new }
+        ensures counts { ListCounts (⟦<FolderFiles<R> as Files>⟧.faults self.old) (⟦<FolderFiles<R> as Files>⟧.faults self.new) result }
+        ensures counts_one { CountsListing (⟦<FolderFiles<R> as Files>⟧.faults self.old) (⟦<FolderFiles<R> as Files>⟧.faults self.new) result }
+        ensures lists { IfOk result (λ paths. IsListing None folder.now most (map string_bytes paths.items)) }
+    {
+        let listed = list_folder(&self.rt, alloc, folder, most);
         if matches!(listed, Err(ListError::Memory))
             || ask(alloc, &mut self.asked, folder).is_err()
         {
@@ -98,8 +95,15 @@ impl<R: System + AllocGlobal + Clone + Drop> Files for FolderFiles<R> {
         listed
     }
 
-    fn read(&mut self, alloc: Global, path: &str, most: u64) -> Result<Vec<u8>, ReadError> {
-        let read = read_whole(&self.rt, path, most);
+    fn read(&mut self, alloc: Global, path: &str, most: u64) -> Result<Vec<u8>, ReadError>
+        ensures unchanged { ⟦<FolderFiles<R> as Files>⟧.held self.new ≡ ⟦<FolderFiles<R> as Files>⟧.held self.old }
+        ensures asks { ReadAsks (⟦<FolderFiles<R> as Files>⟧.asked self.old) (⟦<FolderFiles<R> as Files>⟧.asked self.new) path.now result }
+        ensures never_falls { ⟦<FolderFiles<R> as Files>⟧.faults self.old ≤ ⟦<FolderFiles<R> as Files>⟧.faults self.new }
+        ensures counts { ReadCounts (⟦<FolderFiles<R> as Files>⟧.faults self.old) (⟦<FolderFiles<R> as Files>⟧.faults self.new) result }
+        ensures counts_one { CountsRead (⟦<FolderFiles<R> as Files>⟧.faults self.old) (⟦<FolderFiles<R> as Files>⟧.faults self.new) result }
+        ensures tells { ReadTells (λ bytes. bytes.items) None path.now most result }
+    {
+        let read = read_whole(&self.rt, alloc, path, most);
         if matches!(read, Err(ReadError::Memory)) || ask(alloc, &mut self.asked, path).is_err() {
             return Err(ReadError::Memory);
         }

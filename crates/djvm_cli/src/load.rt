@@ -220,3 +220,6 @@ pub fn read_files<F: Files>(alloc: Global, files: &mut F, paths: &[String]) -> R
     }
     Ok(Loaded::Files(read))
 }
+
+#[cfg(test)]
+mod tests;

@@ -1,8 +1,8 @@
-ghost use Rattle.std.specs.Prelude.{◌≡◌, None};
+ghost use Rattle.std.specs.Prelude.{◌≡◌, ◌<◌, ◌≤◌, None, length};
+ghost use Rattle.dj_edge.specs.Calls.{Writes, WriteCounts, CountsWrite};
 
-use dj_edge::{Sink, SinkError};
+use dj_edge::{Sink, SinkError, write_piece};
 use std::io;
-use std::io::Write;
 
 /// Standard output. It does not tell what was written.
 #[derive(Drop)]
@@ -25,15 +25,18 @@ impl<R: Print + Drop> Sink for OutSink<R> {
 
     ghost faults = { λ sink. sink.faults };
 
-    fn write(&mut self, piece: &[u8]) -> Result<usize, SinkError> {
-        match io::writer(&self.rt).write(piece) {
-            Ok(taken) if taken > 0 => Ok(taken),
-            Err(error) if error.kind() == io::ErrorKind::OutOfMemory => Err(SinkError::Memory),
-            _ => {
-                self.faults = self.faults.saturating_add(1);
-                Err(SinkError::Failed)
-            }
+    fn write(&mut self, piece: &[u8]) -> Result<usize, SinkError>
+        requires { 0 < length piece.now }
+        ensures writes { Writes (⟦<OutSink<R> as Sink>⟧.written self.old) (⟦<OutSink<R> as Sink>⟧.written self.new) piece.now result }
+        ensures never_falls { ⟦<OutSink<R> as Sink>⟧.faults self.old ≤ ⟦<OutSink<R> as Sink>⟧.faults self.new }
+        ensures counts { WriteCounts (⟦<OutSink<R> as Sink>⟧.faults self.old) (⟦<OutSink<R> as Sink>⟧.faults self.new) result }
+        ensures counts_one { CountsWrite (⟦<OutSink<R> as Sink>⟧.faults self.old) (⟦<OutSink<R> as Sink>⟧.faults self.new) result }
+    {
+        let written = write_piece(&mut io::writer(&self.rt), piece);
+        if matches!(written, Err(SinkError::Failed)) {
+            self.faults = self.faults.saturating_add(1);
         }
+        written
     }
 }
 
