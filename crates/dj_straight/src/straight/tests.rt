@@ -1,7 +1,11 @@
+ghost use Rattle.std.specs.Prelude.{◌<◌, ◌^◌, length, All};
+
 use crate::program::Action;
-use crate::straight::straight_set;
+use crate::straight::{StraightSet, straight_set};
 use dj_names::Kind;
 use dj_report::PathFile;
+use dj_rules::{Judged, RulesError, judge_files};
+use std::alloc::Global;
 use std::test::Fail;
 
 // A class A with a static method verify from an array of bytes to one, which returns what it is given.
@@ -21,10 +25,20 @@ const STRAIGHT: PathFile<'static> = PathFile {
     bytes: A,
 };
 
+// The straight set that the files are, which are read before.
+fn set_of_files(alloc: Global, files: &[PathFile<'_>]) -> Result<Option<StraightSet>, RulesError>
+    requires { All (λ file. length file.bytes.now < 2 ^ 32) files.now }
+{
+    match judge_files(alloc, files)? {
+        Judged::Built(_, only) => straight_set(alloc, files, only),
+        Judged::Unbuilt(_) => Ok(None),
+    }
+}
+
 #[test]
 fn one_straight_class(rt: HostRuntime) -> Result<(), Fail> {
     let files = [STRAIGHT];
-    let set = straight_set(rt.alloc(), &files)?.expect(&rt, "a straight set");
+    let set = set_of_files(rt.alloc(), &files)?.expect(&rt, "a straight set");
     let class = set.class.expect(&rt, "its class");
     assert_eq!(rt; class.name.as_slice(), b"A".as_slice());
     assert_eq!(rt; class.methods.len(), 1);
@@ -41,10 +55,10 @@ fn sets_that_are_none(rt: HostRuntime) -> Result<(), Fail> {
         path: "A.class",
         bytes: OWN,
     }];
-    assert_eq!(rt; straight_set(rt.alloc(), &own)?.is_none(), true);
+    assert_eq!(rt; set_of_files(rt.alloc(), &own)?.is_none(), true);
     let two = [STRAIGHT, STRAIGHT];
-    assert_eq!(rt; straight_set(rt.alloc(), &two)?.is_none(), true);
-    let empty = straight_set(rt.alloc(), &[])?;
+    assert_eq!(rt; set_of_files(rt.alloc(), &two)?.is_none(), true);
+    let empty = set_of_files(rt.alloc(), &[])?;
     assert_eq!(rt; empty.is_some_and(|set| set.class.is_none()), true);
     Ok(())
 }
