@@ -1,3 +1,5 @@
 pub mod InOrder
 pub mod Sorted
 pub mod Stages
+pub mod Adding
+pub mod Inserted

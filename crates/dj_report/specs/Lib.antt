@@ -1,5 +1,6 @@
 pub mod Order
 pub mod OrderLaws
+pub mod Lines
 pub mod Outcomes
 pub mod Parts
 pub mod Text

@@ -2,6 +2,7 @@
 #![tactic(auto)]
 
 mod bytes;
+mod lines;
 mod order;
 mod outcome;
 mod parts;
@@ -9,5 +10,6 @@ mod put;
 mod report;
 
 pub use bytes::{ReportError, bytes_of, status_of};
+pub use lines::{add_file_line, add_in_order, add_line};
 pub use order::{compare, in_order};
-pub use report::{Limit, NoMemory, PathFile, Report, Violation, Violations};
+pub use report::{Limit, PathFile, Report, Violation, Violations};

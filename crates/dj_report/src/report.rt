@@ -1,16 +1,8 @@
 ghost use Rattle.std.specs.Prelude.{◌≡◌, [], ◌∷◌, ◌++◌, OnOk, OnErr};
 
-use dj_names::{Costs, Name, Outcome};
+use dj_names::{Costs, Name, NoMemory, Outcome};
 use std::alloc::Global;
 use std::marker::Model;
-use thiserror::Error;
-
-/// There was no memory.
-#[derive(Clone, Copy, Debug, PartialEq, Eq, Error)]
-pub enum NoMemory {
-    #[error("out of memory")]
-    Memory,
-}
 
 /// A limit on what is read.
 #[derive(Clone, Copy, Debug, PartialEq, Eq)]
@@ -98,6 +90,14 @@ impl From<Vec<Violation>> for Violations {
 
     fn from(items: Vec<Violation>) -> Violations {
         Violations { items }
+    }
+}
+
+impl From<Violations> for Vec<Violation> {
+    ghost from_gives = { λ violations items. violations ≡ items.items };
+
+    fn from(violations: Violations) -> Vec<Violation> {
+        violations.items
     }
 }
 

@@ -1,4 +1,4 @@
-pub mod Adding
-pub mod Judged
+pub mod FileLines
 pub mod Naming
 pub mod Faulty
+mod Pairs

@@ -3,3 +3,4 @@ pub mod Built
 pub mod Views
 pub mod Lines
 pub mod Faults
+pub mod Reads

@@ -1,5 +1,5 @@
 -- The rules, each as a condition on a possible line of the report. A file is its path within the folder, with its bytes.
-use Rattle.std.specs.Prelude.{◌≡◌, ℕ, ◌<◌, ◌⊎◌, ◌↔◌, List, [], ◌++◌, Some, None, Contains, codes, unwrap_or}
+use Rattle.std.specs.Prelude.{◌≡◌, ℕ, ◌<◌, ◌⊎◌, List, [], ◌++◌, Some, Contains, codes, unwrap_or}
 use Rattle.std.specs.List.{flat_map}
 use Rattle.std.specs.Int.{IsBitSet}
 use Rattle.std.specs.Str.{chars}
@@ -8,15 +8,7 @@ use Rattle.dj_edge.specs.Held.{File}
 use Rattle.dj_names.specs.ModifiedUtf8.{Spells}
 use Rattle.dj_class.specs.ClassFile.{Constant, MemberInfo, ClassFile, IsClassFile, text_at, class_name_at}
 use Rattle.dj_report.specs.declared.report.Violation.{Violation}
-use Rattle.dj_report.specs.Order.{IsInOrder}
-
--- a line of a file as a whole
-abbrev pub file_line : List ℕ → ℕ → Violation
-file_line path rule = record { path = path; member = []; number = None; rule = rule }
-
--- a line of a member
-abbrev pub member_line : List ℕ → List ℕ → ℕ → Violation
-member_line path member rule = record { path = path; member = member; number = None; rule = rule }
+use Rattle.dj_report.specs.Lines.{file_line, member_line, AreExactly}
 
 -- the name of a member, followed by its descriptor
 abbrev pub member_text : List Constant → MemberInfo → List ℕ
@@ -78,6 +70,5 @@ abbrev pub IsViolation : List File → Violation → Type 0
 IsViolation files v = (file : File) × Contains files file × IsLineOf file v
 
 -- all violations of the files, in order, each once
-pub record AreViolations (files : List File) (violations : List Violation) : Type 0 where
-  pub in_order : IsInOrder violations
-  pub all : (v : Violation) → Contains violations v ↔ IsViolation files v
+abbrev pub AreViolations : List File → List Violation → Type 0
+AreViolations files = AreExactly (IsViolation files)

@@ -1,66 +1,50 @@
-ghost use Rattle.std.specs.Prelude.{◌≡◌, ◌<◌, ◌^◌, length, map, All, IfOk, OnOk, Err};
-ghost use Rattle.dj_class.specs.Views.{ReadsClass};
-ghost use Rattle.dj_rules.specs.Lines.{Adds};
+ghost use Rattle.std.specs.Prelude.{◌≡◌, ◌<◌, ◌^◌, length, map, All, IfOk, OnOk};
+ghost use Rattle.dj_report.specs.Lines.{Adds};
+ghost use Rattle.dj_rules.specs.Reads.{IsViewOf};
 ghost use Rattle.dj_rules.specs.Violations.{AreViolations, IsLineOf};
 ghost use Rattle.dj_rules.specs.Views.{path_file_view};
 
 use crate::error::RulesError;
-use crate::faults::is_memory;
-use crate::lines::add_file_line;
+use crate::view::{FileView, view_file};
 use crate::whole::add_class_lines;
-use dj_class::{ClassError, read_class};
-use dj_report::{PathFile, Violation, Violations, in_order};
+use dj_report::{PathFile, Violation, Violations, add_file_line, add_in_order, in_order};
 use std::alloc::Global;
 
 // The number of the rule MALFORMED.
 const MALFORMED: u8 = 1;
 
-// The line of a file that was not read for this reason.
-fn add_fault_line(
-    alloc: Global,
-    out: &mut Vec<Violation>,
-    file: &PathFile<'_>,
-    error: ClassError,
-) -> Result<(), RulesError>
-    requires { ReadsClass file.now.bytes.now (Err error) }
-    ensures { OnOk result (Adds (IsLineOf (path_file_view file.now)) out.old.items out.new.items) }
-{
-    if is_memory(error) {
-        Err(RulesError::Memory)
-    } else {
-        add_file_line(alloc, out, file.path, MALFORMED)
-    }
-}
-
-// All lines of a file.
-fn add_file_lines(
-    alloc: Global,
-    out: &mut Vec<Violation>,
-    file: &PathFile<'_>,
-) -> Result<(), RulesError>
-    requires { length file.now.bytes.now < 2 ^ 32 }
-    ensures { OnOk result (Adds (IsLineOf (path_file_view file.now)) out.old.items out.new.items) }
-{
-    match read_class(alloc, file.bytes) {
-        Ok(view) => add_class_lines(alloc, out, file.path, &view),
-        Err(error) => add_fault_line(alloc, out, file, error),
-    }
-}
-
-// The lines of a file are put in order among themselves, each once, so that all lines are in order already if the files are.
-fn add_sorted_lines(
+/// Appends all lines of a file that was read.
+pub(crate) fn add_file_lines(
     alloc: Global,
     found: &mut Vec<Violation>,
     file: &PathFile<'_>,
+    view: &FileView<'_>,
 ) -> Result<(), RulesError>
-    requires { length file.now.bytes.now < 2 ^ 32 }
+    requires { IsViewOf file.now.bytes.now view.now }
+    ensures { OnOk result (Adds (IsLineOf (path_file_view file.now)) found.old.items found.new.items) }
+{
+    match view {
+        FileView::Class(class) => add_class_lines(alloc, found, file.path, class),
+        FileView::Malformed | FileView::Unbuilt => {
+            add_file_line(alloc, found, file.path, MALFORMED)?;
+            Ok(())
+        }
+    }
+}
+
+/// The same, in order among themselves. So all lines are in order already if the files are.
+pub(crate) fn add_sorted_lines(
+    alloc: Global,
+    found: &mut Vec<Violation>,
+    file: &PathFile<'_>,
+    view: &FileView<'_>,
+) -> Result<(), RulesError>
+    requires { IsViewOf file.now.bytes.now view.now }
     ensures { OnOk result (Adds (IsLineOf (path_file_view file.now)) found.old.items found.new.items) }
 {
     let mut lines = Vec::new(alloc);
-    add_file_lines(alloc, &mut lines, file)?;
-    lines.sort_unstable();
-    lines.dedup();
-    found.append(&mut lines)?;
+    add_file_lines(alloc, &mut lines, file, view)?;
+    add_in_order(found, lines)?;
     Ok(())
 }
 
@@ -71,7 +55,8 @@ pub fn rules(alloc: Global, files: &[PathFile<'_>]) -> Result<Violations, RulesE
 {
     let mut found = Vec::new(alloc);
     for file in files {
-        add_sorted_lines(alloc, &mut found, file)?;
+        let view = view_file(alloc, file.bytes)?;
+        add_sorted_lines(alloc, &mut found, file, &view)?;
     }
     Ok(in_order(found))
 }

@@ -2,7 +2,8 @@ ghost use Rattle.std.specs.Prelude.{◌≡◌, ◌↔◌, ℕ, Some, Contains, O
 ghost use Rattle.dj_class.specs.ClassFile.{text_at};
 ghost use Rattle.dj_class.specs.Members.{member_of};
 ghost use Rattle.dj_class.specs.Views.{class_of};
-ghost use Rattle.dj_rules.specs.Lines.{Adds, Gains, IsLineAmong, IsPairLine, pair_of};
+ghost use Rattle.dj_report.specs.Lines.{Adds, Gains, IsLineAmong};
+ghost use Rattle.dj_rules.specs.Lines.{IsPairLine, pair_of};
 ghost use Rattle.dj_rules.specs.Violations.{IsNative, IsFinalizer, IsMethodLine};
 
 use crate::error::RulesError;
@@ -76,16 +77,16 @@ fn each_once(mut pairs: Vec<(u16, u16)>) -> Vec<(u16, u16)>
 // Appends the line of each pair.
 fn add_pair_lines(
     alloc: Global,
-    out: &mut Vec<Violation>,
+    found: &mut Vec<Violation>,
     path: &str,
     pool: &Pool<'_>,
     pairs: &[(u16, u16)],
     rule: u8,
 ) -> Result<(), RulesError>
-    ensures { OnOk result (Adds (IsLineAmong (IsPairLine path.now rule pool.now) pairs.now) out.old.items out.new.items) }
+    ensures { OnOk result (Adds (IsLineAmong (IsPairLine path.now rule pool.now) pairs.now) found.old.items found.new.items) }
 {
     for pair in pairs {
-        add_member_line(alloc, out, path, pool, *pair, rule)?;
+        add_member_line(alloc, found, path, pool, *pair, rule)?;
     }
     Ok(())
 }
@@ -93,31 +94,31 @@ fn add_pair_lines(
 /// Appends the lines of the rule NATIVE.
 pub fn add_native_lines(
     alloc: Global,
-    out: &mut Vec<Violation>,
+    found: &mut Vec<Violation>,
     path: &str,
     view: &ClassView<'_>,
 ) -> Result<(), RulesError>
-    ensures { OnOk result (Adds (IsMethodLine (λ _ m. IsNative m) path.now 7 (class_of view.now)) out.old.items out.new.items) }
+    ensures { OnOk result (Adds (IsMethodLine (λ _ m. IsNative m) path.now 7 (class_of view.now)) found.old.items found.new.items) }
 {
     let mut pairs = Vec::new(alloc);
     for method in view.methods.as_slice() {
         add_native_pair(&mut pairs, method)?;
     }
-    add_pair_lines(alloc, out, path, &view.pool, &each_once(pairs), NATIVE)
+    add_pair_lines(alloc, found, path, &view.pool, &each_once(pairs), NATIVE)
 }
 
 /// Appends the lines of the rule FINALIZER.
 pub fn add_finalizer_lines(
     alloc: Global,
-    out: &mut Vec<Violation>,
+    found: &mut Vec<Violation>,
     path: &str,
     view: &ClassView<'_>,
 ) -> Result<(), RulesError>
-    ensures { OnOk result (Adds (IsMethodLine IsFinalizer path.now 8 (class_of view.now)) out.old.items out.new.items) }
+    ensures { OnOk result (Adds (IsMethodLine IsFinalizer path.now 8 (class_of view.now)) found.old.items found.new.items) }
 {
     let mut pairs = Vec::new(alloc);
     for method in view.methods.as_slice() {
         add_finalizer_pair(&mut pairs, &view.pool, method)?;
     }
-    add_pair_lines(alloc, out, path, &view.pool, &each_once(pairs), FINALIZER)
+    add_pair_lines(alloc, found, path, &view.pool, &each_once(pairs), FINALIZER)
 }

@@ -1,28 +1,13 @@
-ghost use Rattle.std.specs.Prelude.{◌≡◌, ℕ, ◌<◌, ◌^◌, length, map, All, Err, IfOk, MatchBool, MatchOption};
+ghost use Rattle.std.specs.Prelude.{◌≡◌, ℕ, ◌<◌, ◌^◌, length, map, All, IfOk, MatchBool, MatchOption};
 ghost use Rattle.std.specs.List.{AllByRecursion};
 ghost use Rattle.dj_class.specs.Unbuilt.{IsUnbuiltAt};
-ghost use Rattle.dj_class.specs.Views.{ReadsClass};
 ghost use Rattle.dj_rules.specs.Built.{IsFirstUnbuilt, IsBuilt};
 ghost use Rattle.dj_rules.specs.Views.{path_file_view};
 
 use crate::error::RulesError;
-use crate::faults::{is_memory, is_unbuilt};
-use dj_class::{ClassError, read_class};
+use crate::view::{shows_unbuilt, view_file};
 use dj_report::PathFile;
 use std::alloc::Global;
-
-// Whether all constants of a file are read, though the file was not read for this reason.
-fn is_fault_of_built(file: &PathFile<'_>, error: ClassError) -> Result<bool, RulesError>
-    requires { ReadsClass file.now.bytes.now (Err error) }
-    ensures { IfOk result (λ built. MatchBool built (IsBuilt (path_file_view file.now))
-        ((place : ℕ) × IsUnbuiltAt file.now.bytes.now place)) }
-{
-    if is_memory(error) {
-        Err(RulesError::Memory)
-    } else {
-        Ok(!is_unbuilt(error))
-    }
-}
 
 // Whether all constants of a file are read.
 fn is_built(alloc: Global, file: &PathFile<'_>) -> Result<bool, RulesError>
@@ -30,10 +15,8 @@ fn is_built(alloc: Global, file: &PathFile<'_>) -> Result<bool, RulesError>
     ensures { IfOk result (λ built. MatchBool built (IsBuilt (path_file_view file.now))
         ((place : ℕ) × IsUnbuiltAt file.now.bytes.now place)) }
 {
-    match read_class(alloc, file.bytes) {
-        Ok(_class) => Ok(true),
-        Err(error) => is_fault_of_built(file, error),
-    }
+    let view = view_file(alloc, file.bytes)?;
+    Ok(!shows_unbuilt(&view))
 }
 
 /// The path of the first file that has a constant that is not read yet.

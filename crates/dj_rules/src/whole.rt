@@ -1,14 +1,13 @@
 ghost use Rattle.std.specs.Prelude.{◌≡◌, ◌↔◌, ◌<◌, ◌^◌, length, IsTrue, OnOk};
 ghost use Rattle.dj_class.specs.Views.{class_of};
-ghost use Rattle.dj_rules.specs.Lines.{Adds};
-ghost use Rattle.dj_rules.specs.Violations.{file_line, this_name, HasOtherVersion, IsNamedAs, IsClassLine};
+ghost use Rattle.dj_report.specs.Lines.{file_line, Adds};
+ghost use Rattle.dj_rules.specs.Violations.{this_name, HasOtherVersion, IsNamedAs, IsClassLine};
 
 use crate::error::RulesError;
-use crate::lines::add_file_line;
 use crate::members::{add_finalizer_lines, add_native_lines};
 use crate::named::is_named_as;
 use dj_class::ClassView;
-use dj_report::Violation;
+use dj_report::{Violation, add_file_line};
 use std::alloc::Global;
 
 // The numbers of the rules VERSION and NAME.
@@ -24,18 +23,18 @@ fn has_other_version(view: &ClassView<'_>) -> bool
 
 fn add_version_lines(
     alloc: Global,
-    out: &mut Vec<Violation>,
+    found: &mut Vec<Violation>,
     path: &str,
     view: &ClassView<'_>,
 ) -> Result<(), RulesError>
     ensures { OnOk result (Adds (λ v. HasOtherVersion (class_of view.now) × (v ≡ file_line path.now 2))
-        out.old.items out.new.items) }
+        found.old.items found.new.items) }
 {
-    if has_other_version(view) {
-        add_file_line(alloc, out, path, VERSION)
-    } else {
-        Ok(())
+    if !has_other_version(view) {
+        return Ok(());
     }
+    add_file_line(alloc, found, path, VERSION)?;
+    Ok(())
 }
 
 fn class_name<'a>(view: &ClassView<'a>) -> &'a [u8]
@@ -46,34 +45,34 @@ fn class_name<'a>(view: &ClassView<'a>) -> &'a [u8]
 
 fn add_name_lines(
     alloc: Global,
-    out: &mut Vec<Violation>,
+    found: &mut Vec<Violation>,
     path: &str,
     view: &ClassView<'_>,
 ) -> Result<(), RulesError>
     requires { length (this_name (class_of view.now)) < 2 ^ 32 }
     ensures { OnOk result (Adds
         (λ v. (IsNamedAs path.now (this_name (class_of view.now)) → ⊥) × (v ≡ file_line path.now 3))
-        out.old.items out.new.items) }
+        found.old.items found.new.items) }
 {
     if is_named_as(alloc, path, class_name(view))? {
-        Ok(())
-    } else {
-        add_file_line(alloc, out, path, NAME)
+        return Ok(());
     }
+    add_file_line(alloc, found, path, NAME)?;
+    Ok(())
 }
 
 /// Appends the lines of a file that is this class file.
 pub fn add_class_lines(
     alloc: Global,
-    out: &mut Vec<Violation>,
+    found: &mut Vec<Violation>,
     path: &str,
     view: &ClassView<'_>,
 ) -> Result<(), RulesError>
     requires { length (this_name (class_of view.now)) < 2 ^ 32 }
-    ensures { OnOk result (Adds (IsClassLine path.now (class_of view.now)) out.old.items out.new.items) }
+    ensures { OnOk result (Adds (IsClassLine path.now (class_of view.now)) found.old.items found.new.items) }
 {
-    add_version_lines(alloc, out, path, view)?;
-    add_name_lines(alloc, out, path, view)?;
-    add_native_lines(alloc, out, path, view)?;
-    add_finalizer_lines(alloc, out, path, view)
+    add_version_lines(alloc, found, path, view)?;
+    add_name_lines(alloc, found, path, view)?;
+    add_native_lines(alloc, found, path, view)?;
+    add_finalizer_lines(alloc, found, path, view)
 }

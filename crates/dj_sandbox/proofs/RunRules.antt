@@ -12,15 +12,17 @@ use Rattle.dj_report.specs.declared.report.Violation.{Violation}
 use Rattle.dj_straight.specs.declared.program.StraightMethod.{StraightMethod}
 use Rattle.dj_straight.specs.declared.program.StraightClass.{StraightClass}
 use Rattle.dj_sandbox.specs.Entry.{has_entry, AreRunViolations, IsEntryLine, IsShapeLine, IsShapeLineOf}
-use Rattle.dj_rules.specs.Lines.{Adds, IsLineAmong}
+use Rattle.dj_report.specs.Lines.{Adds, IsLineAmong}
 use Rattle.dj_straight.specs.Methods.{code_view, method_view, program_view, straight_signature}
 use Rattle.dj_straight.specs.Running.{IsRunnable}
 use Rattle.dj_straight.proofs.Straights.{are_runnable}
 use Rattle.dj_sandbox.specs.Shaped.{shape_line, AreTold, AreShaped, AreShort, IsShaped}
 use Rattle.dj_straight.specs.Straight.{IsStraightSet}
 use Rattle.dj_rules.specs.Views.{path_file_view}
-use Rattle.dj_rules.specs.Violations.{file_line}
-use Rattle.dj_rules.proofs.Adding.{adds_same, adds_nothing, adds_both, contains_none, contains_map, from_contains_map}
+use Rattle.dj_report.specs.Lines.{file_line}
+use Rattle.dj_report.specs.Order.{IsInOrder}
+use Rattle.dj_report.proofs.Sorted.{contains_none}
+use Rattle.dj_report.proofs.Adding.{adds_same, adds_nothing, adds_both, contains_map, from_contains_map, exactly_found}
 
 -- ---- the entry
 
@@ -160,10 +162,7 @@ all_shaped (file ∷ files) (Some c) entry violations as_many run judged none = 
           absurd (contains_none line (subst (λ vs. Contains vs line) none ((run.all line).1 (inl (inl is)))))
     ]
 
-pub run_lines : (files : List File) (program : Program) (entry : List ℕ) (mid found lines : List Violation) → Adds (IsShapeLineOf files program) [] mid → Adds (IsEntryLine program entry) mid found → ((v : Violation) → Contains lines v ↔ Contains found v) → (v : Violation) → Contains lines v ↔ (IsShapeLineOf files program v ⊎ IsEntryLine program entry v)
-run_lines files program entry mid found lines shapes entries members v =
-    let both : Adds (λ v. IsShapeLineOf files program v ⊎ IsEntryLine program entry v) [] found =
-    adds_both (IsShapeLineOf files program) (IsEntryLine program entry) [] mid found shapes entries in (
-      λ m. elim ((both v).0 ((members v).0 m)) [ inl none ↦ absurd (contains_none v none) | inr is ↦ is ],
-      λ is. (members v).1 ((both v).1 (inr is)),
-    )
+pub run_lines : (files : List File) (program : Program) (entry : List ℕ) (mid found lines : List Violation) → Adds (IsShapeLineOf files program) [] mid → Adds (IsEntryLine program entry) mid found → IsInOrder lines → ((v : Violation) → Contains lines v ↔ Contains found v) → AreRunViolations files program entry lines
+run_lines files program entry mid found lines shapes entries =
+    exactly_found (λ v. IsShapeLineOf files program v ⊎ IsEntryLine program entry v) found lines
+    (adds_both (IsShapeLineOf files program) (IsEntryLine program entry) [] mid found shapes entries)

@@ -5,8 +5,9 @@ use Rattle.dj_class.specs.ClassFile.{Constant, MemberInfo, ClassFile, IsClassFil
 use Rattle.dj_class.proofs.TestsAre.{tests_decide}
 use Rattle.dj_class.proofs.ClassLaws.{one_class_file}
 use Rattle.dj_report.specs.declared.report.Violation.{Violation}
-use Rattle.dj_rules.specs.Violations.{file_line, member_line, member_text, IsNamedAs, this_name, IsNative, IsFinalizer, IsNoClassFile, HasOtherVersion, IsMethodLine, IsClassLine, IsLineOf, IsViolation, AreViolations}
-use Rattle.dj_sandbox.proofs.Classical.{NotNot, bind, so, decide, IsFinite, finite_same, finite_none, finite_if, finite_either, finite_among}
+use Rattle.dj_report.specs.Lines.{file_line, member_line}
+use Rattle.dj_rules.specs.Violations.{member_text, IsNamedAs, this_name, IsNative, IsFinalizer, IsNoClassFile, HasOtherVersion, IsMethodLine, IsClassLine, IsLineOf, IsViolation, AreViolations}
+use Rattle.dj_sandbox.proofs.Classical.{NotNot, bind, decide, IsFinite, finite_same, finite_none, finite_if, finite_either, finite_among}
 use Rattle.dj_sandbox.proofs.InsertedLines.{finite_in_order}
 
 -- a line of this method
@@ -49,6 +50,4 @@ file_lines file =
 
 -- the violations of the files, in order
 pub some_violations : (files : List File) → NotNot ((violations : List Violation) × AreViolations files violations)
-some_violations files =
-    so (finite_in_order (IsViolation files) (finite_among IsLineOf files file_lines))
-    (λ l. (l.0, record { in_order = l.1; all = l.2 }))
+some_violations files = finite_in_order (IsViolation files) (finite_among IsLineOf files file_lines)

@@ -14,7 +14,7 @@ use Rattle.dj_straight.proofs.Shapes.{one_shape_fault, shape_or_fault as some_sh
 use Rattle.dj_straight.proofs.Runs.{straight_code_ends}
 use Rattle.dj_report.specs.declared.report.Violation.{Violation}
 use Rattle.dj_report.proofs.Sorted.{contains_none, contains_first, contains_later}
-use Rattle.dj_rules.specs.Violations.{file_line}
+use Rattle.dj_report.specs.Lines.{file_line}
 use Rattle.dj_sandbox.specs.Limits.{default_thresholds}
 use Rattle.dj_straight.specs.Methods.{straight_descriptor, straight_signature}
 use Rattle.dj_straight.specs.Straight.{IsStraightMethod, AreStraightMethods, IsStraightSet}
@@ -70,10 +70,9 @@ shape_lines (file ∷ files) (class ∷ classes) =
 
 pub some_run_violations : (files : List File) (program : Program) (class : List ℕ) → NotNot ((violations : List Violation) × AreRunViolations files program class violations)
 some_run_violations files program class =
-    so (finite_in_order (λ v. IsShapeLineOf files program v ⊎ IsEntryLine program class v)
+    finite_in_order (λ v. IsShapeLineOf files program v ⊎ IsEntryLine program class v)
     (finite_either (IsShapeLineOf files program) (IsEntryLine program class) (shape_lines files program)
-    (finite_if (has_entry program class ≡ false) (file_line (class ++ codes ".class") 20))))
-    (λ l. (l.0, record { in_order = l.1; all = l.2 }))
+    (finite_if (has_entry program class ≡ false) (file_line (class ++ codes ".class") 20)))
 
 -- ---- shape
 

@@ -1,13 +1,13 @@
 -- The entry of a run, and the rules that are judged in a straight set: 19 SHAPE and 20 ENTRY.
-use Rattle.std.specs.Prelude.{◌≡◌, ℕ, ◌==◌, ◌⊎◌, ◌↔◌, Bool, false, List, ◌∷◌, ◌++◌, map, Option, Some, None, Contains, codes, if◌then◌else◌, IsFalse}
+use Rattle.std.specs.Prelude.{◌≡◌, ℕ, ◌==◌, ◌⊎◌, Bool, false, List, ◌∷◌, ◌++◌, map, Option, Some, None, Contains, codes, if◌then◌else◌, IsFalse}
 use Rattle.dj_names.specs.ModifiedUtf8.{units_text}
 use Rattle.dj_report.specs.declared.report.Violation.{Violation}
-use Rattle.dj_report.specs.Order.{IsInOrder}
 use Rattle.dj_edge.specs.Held.{File}
 use Rattle.dj_straight.specs.Program.{Program, Class, Method, Code, Runs, MethodName, class_at, method_in, runs_static}
 use Rattle.dj_straight.specs.Shape.{IsShapeFault}
 use Rattle.dj_straight.specs.Methods.{straight_descriptor, straight_signature}
-use Rattle.dj_rules.specs.Violations.{file_line, path_units}
+use Rattle.dj_report.specs.Lines.{file_line, AreExactly}
+use Rattle.dj_rules.specs.Violations.{path_units}
 
 -- each dot is taken as a slash
 abbrev pub with_slashes : List ℕ → List ℕ
@@ -49,6 +49,5 @@ abbrev pub IsEntryLine : Program → List ℕ → Violation → Type 0
 IsEntryLine program class v = IsFalse (has_entry program class) × (v ≡ file_line (class ++ codes ".class") 20)
 
 -- all violations of these rules by a straight set, in order, each once
-pub record AreRunViolations (files : List File) (program : Program) (class : List ℕ) (violations : List Violation) : Type 0 where
-  pub in_order : IsInOrder violations
-  pub all : (v : Violation) → Contains violations v ↔ (IsShapeLineOf files program v ⊎ IsEntryLine program class v)
+abbrev pub AreRunViolations : List File → Program → List ℕ → List Violation → Type 0
+AreRunViolations files program class = AreExactly (λ v. IsShapeLineOf files program v ⊎ IsEntryLine program class v)

@@ -9,7 +9,7 @@ ghost use Rattle.dj_sandbox.specs.Statuses.{IsAmong, check_statuses};
 
 use dj_names::Name;
 use dj_report::{PathFile, Report};
-use dj_rules::{RulesError, first_unbuilt, rules};
+use dj_rules::{Judged, RulesError, judge_files};
 use std::alloc::Global;
 
 /// The report that the file of this path is not read yet.
@@ -26,10 +26,10 @@ pub fn check(alloc: Global, files: &[PathFile<'_>]) -> Result<Report, RulesError
     ensures decided { IfOk result (IsDecided (check_stages (map path_file_view files.now))) }
     ensures status { IfOk result (λ report. IsAmong (report_status report) check_statuses) }
 {
-    if let Some(path) = first_unbuilt(alloc, files)? {
-        return later(alloc, path);
-    }
-    let violations = rules(alloc, files)?;
+    let violations = match judge_files(alloc, files)? {
+        Judged::Unbuilt(path) => return later(alloc, path),
+        Judged::Built(violations, _) => violations,
+    };
     if !violations.as_slice().is_empty() {
         return Ok(Report::Rejected(violations));
     }

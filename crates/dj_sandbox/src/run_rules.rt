@@ -1,13 +1,13 @@
 ghost use Rattle.std.specs.Prelude.{◌≡◌, true, false, ◌<◌, ◌^◌, ◌++◌, [], ◌∷◌, length, map, codes, All, Contains, Some, None, IfOk, OnOk, MatchOption};
 ghost use Rattle.dj_straight.specs.Program.{code_of, is_static, method_in};
 ghost use Rattle.dj_sandbox.specs.Entry.{entry_method, has_entry, AreRunViolations, IsEntryLine, IsShapeLine, IsShapeLineOf};
-ghost use Rattle.dj_rules.specs.Lines.{Adds};
+ghost use Rattle.dj_report.specs.Lines.{Adds};
 ghost use Rattle.dj_straight.specs.Methods.{code_view, method_view, program_view, straight_descriptor};
 ghost use Rattle.dj_sandbox.specs.Shaped.{shape_line, AreTold, AreShaped, AreShort, IsTold, IsMethodOf};
 ghost use Rattle.dj_rules.specs.Views.{path_file_view};
 
 use dj_names::Name;
-use dj_report::{PathFile, Violation, Violations, in_order};
+use dj_report::{PathFile, Violation, Violations, add_line, in_order};
 use dj_rules::RulesError;
 use dj_straight::{ACC_STATIC, DESCRIPTOR, StraightClass, StraightMethod, shape_fault};
 use std::alloc::Global;
@@ -77,38 +77,39 @@ pub fn has_entry(class: &Option<StraightClass>, entry: &[u8]) -> bool
 // Appends a line of a method that has no shape.
 fn add_shape_fault(
     alloc: Global,
-    out: &mut Vec<Violation>,
+    found: &mut Vec<Violation>,
     path: &str,
     method: &StraightMethod,
     number: u32,
 ) -> Result<(), RulesError>
-    ensures { OnOk result (Adds (λ v. v ≡ shape_line path.now (method_view method.now) (Some number)) out.old.items out.new.items) }
+    ensures { OnOk result (Adds (λ v. v ≡ shape_line path.now (method_view method.now) (Some number)) found.old.items found.new.items) }
 {
     let path = Name::from_slice(alloc, path.as_bytes())?;
     let mut member = Name::from_slice(alloc, method.name.as_slice())?;
     member.extend(DESCRIPTOR)?;
-    out.push(Violation {
+    let line = Violation {
         path,
         member,
         number: Some(number),
         rule: SHAPE,
-    })?;
+    };
+    add_line(found, line)?;
     Ok(())
 }
 
 // Appends the line of a method, if it has no shape.
 fn add_shape_line(
     alloc: Global,
-    out: &mut Vec<Violation>,
+    found: &mut Vec<Violation>,
     path: &str,
     method: &StraightMethod,
 ) -> Result<(), RulesError>
     requires { length method.now.actions.items < 2 ^ 32 }
-    ensures lines { OnOk result (Adds (IsShapeLine path.now (method_view method.now ∷ [])) out.old.items out.new.items) }
+    ensures lines { OnOk result (Adds (IsShapeLine path.now (method_view method.now ∷ [])) found.old.items found.new.items) }
     ensures judged { OnOk result (IsTold method.now) }
 {
     match shape_fault(alloc, method)? {
-        Some(number) => add_shape_fault(alloc, out, path, method, number),
+        Some(number) => add_shape_fault(alloc, found, path, method, number),
         None => Ok(()),
     }
 }
@@ -116,16 +117,16 @@ fn add_shape_line(
 // Appends the lines of the methods.
 fn add_shape_lines(
     alloc: Global,
-    out: &mut Vec<Violation>,
+    found: &mut Vec<Violation>,
     path: &str,
     methods: &[StraightMethod],
 ) -> Result<(), RulesError>
     requires { All (λ m. length m.actions.items < 2 ^ 32) methods.now }
-    ensures lines { OnOk result (Adds (IsShapeLine path.now (map method_view methods.now)) out.old.items out.new.items) }
+    ensures lines { OnOk result (Adds (IsShapeLine path.now (map method_view methods.now)) found.old.items found.new.items) }
     ensures judged { OnOk result (All IsTold methods.now) }
 {
     for method in methods {
-        add_shape_line(alloc, out, path, method)?;
+        add_shape_line(alloc, found, path, method)?;
     }
     Ok(())
 }
@@ -133,19 +134,19 @@ fn add_shape_lines(
 // Appends the lines of the class, which the first file defines.
 fn add_class_lines(
     alloc: Global,
-    out: &mut Vec<Violation>,
+    found: &mut Vec<Violation>,
     files: &[PathFile<'_>],
     class: &Option<StraightClass>,
 ) -> Result<(), RulesError>
     requires as_many { length files.now ≡ length (program_view class.now) }
     requires short { AreShort class.now }
     ensures lines { OnOk result (Adds (IsShapeLineOf (map path_file_view files.now) (program_view class.now))
-        out.old.items out.new.items) }
+        found.old.items found.new.items) }
     ensures judged { OnOk result (AreTold class.now) }
 {
     match (files.first(), class) {
         (Some(file), Some(class)) => {
-            add_shape_lines(alloc, out, file.path, class.methods.as_slice())
+            add_shape_lines(alloc, found, file.path, class.methods.as_slice())
         }
         _ => Ok(()),
     }
@@ -154,11 +155,11 @@ fn add_class_lines(
 // Appends the line of an entry that is not there.
 fn add_entry_line(
     alloc: Global,
-    out: &mut Vec<Violation>,
+    found: &mut Vec<Violation>,
     class: &Option<StraightClass>,
     entry: &[u8],
 ) -> Result<(), RulesError>
-    ensures { OnOk result (Adds (IsEntryLine (program_view class.now) entry.now) out.old.items out.new.items) }
+    ensures { OnOk result (Adds (IsEntryLine (program_view class.now) entry.now) found.old.items found.new.items) }
 {
     if has_entry(class, entry) {
         return Ok(());
@@ -166,12 +167,13 @@ fn add_entry_line(
     let mut path = Name::from_slice(alloc, entry)?;
     path.extend(b".class")?;
     let member = Name::new(alloc);
-    out.push(Violation {
+    let line = Violation {
         path,
         member,
         number: None,
         rule: ENTRY,
-    })?;
+    };
+    add_line(found, line)?;
     Ok(())
 }
 

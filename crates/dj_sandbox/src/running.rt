@@ -19,7 +19,7 @@ use crate::checking::later;
 use crate::run_rules::{entry_of, run_violations};
 use dj_names::Thresholds;
 use dj_report::{PathFile, Report};
-use dj_rules::{RulesError, first_unbuilt, rules};
+use dj_rules::{Judged, RulesError, judge_files};
 use dj_straight::{Ending, StraightSet, run_method, straight_set};
 use std::alloc::Global;
 
@@ -77,14 +77,15 @@ pub fn verify(
     ensures decided { IfOk result (IsDecided (run_stages (map path_file_view files.now) class.now input.now)) }
     ensures status { IfOk result (λ report. IsAmong (report_status report) run_statuses) }
 {
-    if let Some(path) = first_unbuilt(alloc, files)? {
-        return later(alloc, path);
-    }
-    let violations = rules(alloc, files)?;
+    let judged = judge_files(alloc, files)?;
+    let (violations, only) = match judged {
+        Judged::Unbuilt(path) => return later(alloc, path),
+        Judged::Built(violations, only) => (violations, only),
+    };
     if !violations.as_slice().is_empty() {
         return Ok(Report::Rejected(violations));
     }
-    let Some(set) = straight_set(alloc, files)? else {
+    let Some(set) = straight_set(alloc, files, only)? else {
         return later_first(alloc, files);
     };
     let violations = run_violations(alloc, files, &set.class, class)?;

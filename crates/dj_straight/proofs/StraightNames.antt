@@ -10,7 +10,7 @@ use Rattle.std.proofs.lemmas.List.Quantifiers.{all_pairs_push}
 use Rattle.std.proofs.lemmas.List.Elements.{Contains-append_left, Contains-append_right, Contains-push_cases, Contains-get_or}
 use Rattle.dj_edge.specs.Counts.{AllDiffer}
 use Rattle.dj_edge.proofs.Pairs.{AllPairs-nil, AllPairs-map, AllPairs-unmap}
-use Rattle.dj_rules.proofs.Adding.{contains_none}
+use Rattle.dj_report.proofs.Sorted.{contains_none}
 use Rattle.std.specs.Cmp.Lexicographic.{slice_cmp}
 use Rattle.std.specs.BTreeSet.{BTreeSet}
 use Rattle.std.specs.BTreeSet as sorted
@@ -20,7 +20,7 @@ use Rattle.std.proofs.lemmas.List.{length-map, take_more, get_or-map}
 use Rattle.dj_straight.specs.Finds.{Finds, now_of, names_view}
 use Rattle.dj_class.specs.ClassFile.{Constant, MemberInfo, text_at}
 use Rattle.dj_straight.specs.Program.{Method}
-use Rattle.dj_straight.specs.Straight.{IsPlainMethod, ArePlainNames, IsStraightMethod, AreStraightMethods, AreDistinctMethods}
+use Rattle.dj_straight.specs.Straight.{IsPlainMethod, ArePlainNames, AreStraightMethods, AreDistinctMethods}
 
 -- how the set's keys compare
 abbrev pub key_cmp : Bor (List ℕ) → Bor (List ℕ) → Ordering

@@ -1,9 +1,10 @@
-ghost use Rattle.std.specs.Prelude.{◌≡◌, ◌↔◌, ◌<◌, ◌^◌, [], All, Some, length, map, IsTrue, IfOk, IfSome, MatchOption};
+ghost use Rattle.std.specs.Prelude.{◌≡◌, ◌↔◌, [], Some, map, IsTrue, IfOk, IfSome, MatchOption};
 ghost use Rattle.dj_class.specs.ClassFile.{class_name_at, IsValid};
 ghost use Rattle.dj_class.specs.Views.{class_of};
 ghost use Rattle.dj_straight.specs.Methods.{object_name, class_view, program_view};
 ghost use Rattle.dj_straight.specs.Running.{AreRunnable};
 ghost use Rattle.dj_straight.specs.Straight.{is_reserved, IsPlainClass, IsStraightClass, IsStraightFile, IsNotStraight, IsStraightSet};
+ghost use Rattle.dj_rules.specs.Reads.{IsViewOf, IsOnlyView};
 ghost use Rattle.dj_rules.specs.Violations.{this_name};
 ghost use Rattle.dj_rules.specs.Views.{path_file_view};
 ghost use Rattle.dj_straight.specs.Finds.{Finds};
@@ -12,10 +13,10 @@ mod code;
 mod method;
 
 use crate::program::StraightClass;
-use dj_class::{ClassView, read_class};
+use dj_class::ClassView;
 use dj_names::Name;
 use dj_report::PathFile;
-use dj_rules::{RulesError, is_memory};
+use dj_rules::{FileView, RulesError};
 use method::distinct_methods;
 use std::alloc::Global;
 
@@ -84,29 +85,28 @@ fn straight_class(alloc: Global, view: &ClassView<'_>) -> Result<Option<Straight
     }
 }
 
-// The straight class of the file.
-fn class_of_file(alloc: Global, file: &PathFile<'_>) -> Result<Option<StraightClass>, RulesError>
-    requires { length file.now.bytes.now < 2 ^ 32 }
+// The straight class of the file that this view shows.
+fn class_of_file(
+    alloc: Global,
+    file: &PathFile<'_>,
+    view: &FileView<'_>,
+) -> Result<Option<StraightClass>, RulesError>
+    requires { IsViewOf file.now.bytes.now view.now }
     ensures { IfOk result (Finds class_view (IsStraightFile file.now.bytes.now)) }
 {
-    match read_class(alloc, file.bytes) {
-        Ok(view) => straight_class(alloc, &view),
-        Err(error) => {
-            if is_memory(error) {
-                Err(RulesError::Memory)
-            } else {
-                Ok(None)
-            }
-        }
+    match view {
+        FileView::Class(class) => straight_class(alloc, class),
+        FileView::Malformed | FileView::Unbuilt => Ok(None),
     }
 }
 
-/// The straight set that the files are, or none.
-pub fn straight_set(
+// The straight set that the files are, or none.
+fn set_of(
     alloc: Global,
     files: &[PathFile<'_>],
+    only: &Option<FileView<'_>>,
 ) -> Result<Option<StraightSet>, RulesError>
-    requires { All (λ file. length file.bytes.now < 2 ^ 32) files.now }
+    requires { IsOnlyView (map path_file_view files.now) only.now }
     ensures straight { IfOk result (λ found. MatchOption found
         (IsNotStraight (map path_file_view files.now))
         (λ set. IsStraightSet (map path_file_view files.now) (program_view set.class))) }
@@ -114,10 +114,28 @@ pub fn straight_set(
 {
     match files {
         [] => Ok(Some(StraightSet { class: None })),
-        [file] => match class_of_file(alloc, file)? {
-            Some(class) => Ok(Some(StraightSet { class: Some(class) })),
-            None => Ok(None),
+        [file] => match only {
+            Some(view) => match class_of_file(alloc, file, view)? {
+                Some(class) => Ok(Some(StraightSet { class: Some(class) })),
+                None => Ok(None),
+            },
+            None => unreachable!(),
         },
         _ => Ok(None),
     }
+}
+
+/// The straight set that the files are, or none. The view is that of the file where it is the only one, and is let go.
+pub fn straight_set(
+    alloc: Global,
+    files: &[PathFile<'_>],
+    only: Option<FileView<'_>>,
+) -> Result<Option<StraightSet>, RulesError>
+    requires { IsOnlyView (map path_file_view files.now) only }
+    ensures straight { IfOk result (λ found. MatchOption found
+        (IsNotStraight (map path_file_view files.now))
+        (λ set. IsStraightSet (map path_file_view files.now) (program_view set.class))) }
+    ensures runnable { IfOk result (λ found. IfSome found (λ set. AreRunnable set.class)) }
+{
+    set_of(alloc, files, &only)
 }

@@ -1,8 +1,8 @@
 use Rattle.std.proofs.Common.{[], List, take, sym, subst}
 use Rattle.dj_report.specs.declared.report.Violation.{Violation}
-use Rattle.dj_rules.specs.Lines.{Adds, IsLineAmong}
-use Rattle.dj_rules.proofs.Adding.{adds_none_yet, adds_one_more}
-use Rattle.dj_rules.proofs.Judged.{IsOwnFileLine, all_lines}
+use Rattle.dj_report.specs.Lines.{Adds, IsLineAmong}
+use Rattle.dj_report.proofs.Adding.{adds_none_yet, adds_one_more}
+use Rattle.dj_rules.proofs.FileLines.{IsOwnFileLine, all_lines}
 use Rattle.dj_rules.proofs.files.rules.Goals as goal
 
 pub loop-file-init : goal.loop-file-init
@@ -15,7 +15,6 @@ loop-file-preserved c =
     c.loop-file-test.true c.loop-file.invariant c.in_ok-add_sorted_lines.ensures
 
 pub returns : goal.returns
-returns c = record {
-  in_order = c.in_order.ensures.ordered;
-  all = all_lines c.args.files.now c.loop-file.file-index c.loop-file.found.items c.in_order.result c.loop-file-test.false c.loop-file.invariant c.in_order.ensures.members;
-}
+returns c =
+    all_lines c.args.files.now c.loop-file.file-index c.loop-file.found.items c.in_order.result c.loop-file-test.false c.loop-file.invariant
+    c.in_order.ensures.ordered c.in_order.ensures.members

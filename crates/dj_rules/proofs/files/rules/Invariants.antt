@@ -1,6 +1,6 @@
 use Rattle.std.proofs.Common.{[], take}
-use Rattle.dj_rules.specs.Lines.{Adds, IsLineAmong}
-use Rattle.dj_rules.proofs.Judged.{IsOwnFileLine}
+use Rattle.dj_report.specs.Lines.{Adds, IsLineAmong}
+use Rattle.dj_rules.proofs.FileLines.{IsOwnFileLine}
 use Rattle.dj_rules.proofs.files.rules.Given as goal
 
 -- the lines of the files so far

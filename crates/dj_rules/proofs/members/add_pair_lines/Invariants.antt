@@ -1,7 +1,8 @@
 use Rattle.std.proofs.Common.{take}
-use Rattle.dj_rules.specs.Lines.{Adds, IsLineAmong, IsPairLine}
+use Rattle.dj_report.specs.Lines.{Adds, IsLineAmong}
+use Rattle.dj_rules.specs.Lines.{IsPairLine}
 use Rattle.dj_rules.proofs.members.add_pair_lines.Given as goal
 
 -- the lines of the pairs so far
 abbrev pub invariant-loop-pair : goal.invariant-loop-pair
-invariant-loop-pair l = Adds (IsLineAmong (IsPairLine l.path l.rule l.pool) (take l.pair-index l.pairs)) l.initial.out.items l.out.items
+invariant-loop-pair l = Adds (IsLineAmong (IsPairLine l.path l.rule l.pool) (take l.pair-index l.pairs)) l.initial.found.items l.found.items

@@ -1,5 +1,5 @@
 use Rattle.std.proofs.lemmas.List.Filters.{dedup_is}
-use Rattle.dj_rules.proofs.Adding.{once_pairs}
+use Rattle.dj_rules.proofs.Pairs.{once_pairs}
 use Rattle.dj_rules.proofs.members.each_once.Goals as goal
 
 pub returns : goal.returns

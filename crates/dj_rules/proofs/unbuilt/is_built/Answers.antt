@@ -1,6 +1,5 @@
-use Rattle.dj_class.specs.Views.{class_of}
-use Rattle.dj_rules.proofs.Faulty.{built_by_class}
+use Rattle.dj_rules.proofs.Faulty.{built_by_view}
 use Rattle.dj_rules.proofs.unbuilt.is_built.Goals as goal
 
-pub returns-in-Ok : goal.returns-in-Ok
-returns-in-Ok c = built_by_class c.args.file.now.bytes.now (class_of c.in-Ok._class) c.in-Ok.ensures.means
+pub returns : goal.returns
+returns c = built_by_view c.args.file.now.bytes.now c.in_ok-view.view c.shows_unbuilt.result c.in_ok-view.ensures c.shows_unbuilt.ensures

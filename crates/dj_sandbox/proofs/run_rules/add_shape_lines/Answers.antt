@@ -2,16 +2,16 @@ use Rattle.std.proofs.Common.{All, List, subst}
 use Rattle.std.proofs.lemmas.List.{take_all}
 use Rattle.std.proofs.lemmas.List.Elements.{All-more}
 use Rattle.dj_straight.specs.declared.program.StraightMethod.{StraightMethod}
-use Rattle.dj_rules.specs.Lines.{Adds, IsLineAmong}
+use Rattle.dj_report.specs.Lines.{Adds, IsLineAmong}
 use Rattle.dj_sandbox.specs.Shaped.{IsTold}
-use Rattle.dj_rules.proofs.Adding.{adds_read}
+use Rattle.dj_report.proofs.Adding.{adds_read}
 use Rattle.dj_sandbox.proofs.RunRules.{IsOwnShapeLine, adds_methods}
 use Rattle.dj_sandbox.proofs.run_rules.add_shape_lines.Goals as goal
 
 pub loop-method-preserved : goal.loop-method-preserved
 loop-method-preserved c = record {
   lines = adds_read (IsOwnShapeLine c.args.path.now) c.args.methods.now c.loop-method.method-index c.method-item.result
-      c.args.out.now.items c.loop-method.out.items c.add_shape_line.new.out.items
+      c.args.found.now.items c.loop-method.found.items c.add_shape_line.new.found.items
       c.loop-method-test.true c.method-item.is c.loop-method.invariant.lines c.in_ok-add_shape_line.ensures.lines;
   judged = All-more IsTold c.args.methods.now c.loop-method.method-index c.method-item.result c.loop-method-test.true
       c.loop-method.invariant.judged (subst IsTold c.method-item.is c.in_ok-add_shape_line.ensures.judged);
@@ -19,8 +19,8 @@ loop-method-preserved c = record {
 
 pub returns-clause-lines : goal.returns-clause-lines
 returns-clause-lines c =
-    adds_methods c.args.path.now c.args.methods.now c.args.out.now.items c.loop-method.out.items
-    (subst (λ (ms : List StraightMethod). Adds (IsLineAmong (IsOwnShapeLine c.args.path.now) ms) c.args.out.now.items c.loop-method.out.items)
+    adds_methods c.args.path.now c.args.methods.now c.args.found.now.items c.loop-method.found.items
+    (subst (λ (ms : List StraightMethod). Adds (IsLineAmong (IsOwnShapeLine c.args.path.now) ms) c.args.found.now.items c.loop-method.found.items)
     (take_all c.loop-method.method-index c.args.methods.now c.loop-method-test.false) c.loop-method.invariant.lines)
 
 pub returns-clause-judged : goal.returns-clause-judged

@@ -1,4 +1,4 @@
-use Rattle.std.proofs.Common.{◌≢◌, ◌++◌, ◌∷◌, [], AllPairs, List, ℕ, Contains, map, take, refl, sym, subst, ◌∙◌, ap, arith}
+use Rattle.std.proofs.Common.{List, ℕ, map, take, refl, sym, subst, arith}
 use Rattle.std.proofs.lemmas.Bool.{true≢false}
 use Rattle.std.proofs.lemmas.List.{take_all, length-map}
 use Rattle.std.specs.BTreeSet as sorted

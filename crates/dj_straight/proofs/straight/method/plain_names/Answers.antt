@@ -1,5 +1,5 @@
 use Rattle.std.proofs.Common.{◌≡◌, ◌+◌, ◌<◌, ◌++◌, ◌∷◌, [], ℕ, List, length, map, take, refl, sym, ap, ◌∙◌, subst, arith}
-use Rattle.std.proofs.lemmas.List.{take_all, length-map, map_push}
+use Rattle.std.proofs.lemmas.List.{length-map, map_push}
 use Rattle.dj_class.specs.ClassFile.{MemberInfo}
 use Rattle.dj_class.specs.Members.{member_of}
 use Rattle.dj_edge.proofs.Lists.{mapped_at, mapped_more}

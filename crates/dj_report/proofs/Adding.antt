@@ -1,19 +1,17 @@
 -- What adding lines does to those that were found.
-use Rattle.std.proofs.Common.{◌≡◌, ℕ, zero, suc, ◌+◌, ◌<◌, ◌⊎◌, ◌↔◌, List, [], ◌∷◌, ◌++◌, map, take, length, get_or, refl, sym, ap, ◌∙◌, subst, inl, inr, arith, Contains, Result, Ok, Err, OnOk, IsPermutation, Bool, true, false, ◌&&◌, nat_eq}
+use Rattle.std.proofs.Common.{◌≡◌, ℕ, zero, suc, ◌+◌, ◌<◌, ◌⊎◌, ◌↔◌, List, [], ◌∷◌, ◌++◌, map, take, length, get_or, refl, sym, ap, ◌∙◌, subst, inl, inr, arith, Contains, Result, Ok, Err, OnOk, IsPermutation, Bool, true, false}
 use Rattle.std.specs.List.{dedup}
-use Rattle.std.specs.Cmp.{IsEquivalence, and_equiv, on_equiv, nat_eq_equiv}
-use Rattle.std.proofs.lemmas.Bool.{eqb-true}
+use Rattle.std.specs.Cmp.{IsEquivalence}
 use Rattle.std.proofs.lemmas.List.{get_or-map, take_more, length-map}
 use Rattle.std.proofs.lemmas.List.Elements.{Contains-append_left, Contains-append_right, Contains-append_cases, Contains-push, Contains-push_cases}
 use Rattle.std.proofs.lemmas.List.Kept.{Contains-dedup, Contains-from_dedup}
 use Rattle.std.proofs.lemmas.List.Sorted.{Contains-permutation, IsPermutation-sym}
 use Rattle.dj_report.specs.declared.report.Violation.{Violation}
-use Rattle.dj_rules.specs.Lines.{Gains, IsLineAmong}
+use Rattle.dj_report.specs.Lines.{Gains, Adds, IsLineAmong, AreExactly}
+use Rattle.dj_report.specs.Order.{IsInOrder}
+use Rattle.dj_report.proofs.Sorted.{contains_none}
 
 -- ---- members of a list
-
-pub contains_none : {X : Type 0} (x : X) → Contains [] x → ⊥
-contains_none x (k, lt, e) = omega arith
 
 pub contains_map : {X Y : Type 0} (f : X → Y) (xs : List X) (x : X) → Contains xs x → Contains (map f xs) (f x)
 contains_map f xs x (k, lt, e) = (k, simp length-map lt, get_or-map f xs k x (f x) lt ∙ ap f e)
@@ -55,18 +53,20 @@ adds_when H P a b h = adds_same P (λ v. H × P v) a b (λ v. (λ p. (h, p), λ 
 pub adds_unless : {L : Type 0} (H : Type 0) (P : L → Type 0) (a : List L) → (H → ⊥) → Gains (λ v. H × P v) a a
 adds_unless H P a not_h = adds_nothing (λ v. H × P v) a (λ v hp. not_h hp.0)
 
--- what was gathered apart, and then changed into a list of the same members
-pub adds_gathered : {L : Type 0} (P : L → Type 0) (a b c : List L) → Gains P [] b → ((v : L) → Contains c v ↔ Contains b v) → Gains P a (a ++ c)
-adds_gathered P a b c gathered members v = (
-  λ m. elim (Contains-append_cases a c v m) [
-    | inl old ↦ inl old
-    | inr new ↦ elim ((gathered v).0 ((members v).0 new)) [ inl none ↦ absurd (contains_none v none) | inr is ↦ inr is ]
-  ],
-  λ any. elim any [
-    | inl old ↦ Contains-append_left a c v old
-    | inr is ↦ Contains-append_right a c v ((members v).1 ((gathered v).1 (inr is)))
-  ],
+-- the members of a list, appended as a list that has the same
+pub adds_members : {L : Type 0} (a b c : List L) → ((v : L) → Contains c v ↔ Contains b v) → Gains (λ v. Contains b v) a (a ++ c)
+adds_members a b c members v = (
+  λ m. elim (Contains-append_cases a c v m) [ inl old ↦ inl old | inr new ↦ inr ((members v).0 new) ],
+  λ any. elim any [ inl old ↦ Contains-append_left a c v old | inr is ↦ Contains-append_right a c v ((members v).1 is) ],
 )
+
+-- what was gathered apart, and is then added
+pub adds_part : {L : Type 0} (P : L → Type 0) (a b c : List L) → Gains P [] b → Gains (λ v. Contains b v) a c → Gains P a c
+adds_part P a b c gathered added =
+    adds_same (λ v. Contains b v) P a c (λ v. (
+      λ m. elim ((gathered v).0 m) [ inl none ↦ absurd (contains_none v none) | inr is ↦ is ],
+      λ is. (gathered v).1 (inr is),
+    )) added
 
 -- a list that was put in order and then lost its repeats has the same members
 pub once_members : {L : Type 0} {E : L → L → Bool} → IsEquivalence E → ((x y : L) → E x y ≡ true → x ≡ y) → (a b c : List L) → IsPermutation a b → c ≡ dedup E b → (v : L) → Contains c v ↔ Contains a v
@@ -75,17 +75,6 @@ once_members {L} {E} laws same a b c moved is v =
       λ m. Contains-permutation b a v (IsPermutation-sym a b moved) (Contains-from_dedup E b v m),
       λ m. Contains-dedup laws same b v (Contains-permutation a b v moved m),
     )
-
--- the same of pairs of numbers
-both_true : (a b : Bool) → (a && b) ≡ true → (a ≡ true) × (b ≡ true)
-both_true true b e = (refl, e)
-both_true false b e = absurd cc
-
-same_pairs : (x y : ℕ × ℕ) → (nat_eq x.0 y.0 && nat_eq x.1 y.1) ≡ true → x ≡ y
-same_pairs x y e = let both = both_true (nat_eq x.0 y.0) (nat_eq x.1 y.1) e in λ i. (eqb-true x.0 y.0 both.0 i, eqb-true x.1 y.1 both.1 i)
-
-pub once_pairs : (a b c : List (ℕ × ℕ)) → IsPermutation a b → c ≡ dedup (λ x y. nat_eq x.0 y.0 && nat_eq x.1 y.1) b → (pair : ℕ × ℕ) → Contains c pair ↔ Contains a pair
-once_pairs = once_members (and_equiv (on_equiv (λ t. t.0) nat_eq_equiv) (on_equiv (λ t. t.1) nat_eq_equiv)) same_pairs
 
 -- ---- what is added for parts
 
@@ -128,6 +117,23 @@ among_map f IsOwn xs v = (
   λ all. (f all.0, contains_map f xs all.0 all.1, all.2),
   λ all. let seen = from_contains_map f xs all.0 all.1 in (seen.0, seen.1, subst (λ y. IsOwn y v) (sym seen.2) all.2),
 )
+
+-- what was found from nothing on, and then put in order
+pub exactly_found : (IsLine : Violation → Type 0) (found lines : List Violation) → Adds IsLine [] found → IsInOrder lines → ((v : Violation) → Contains lines v ↔ Contains found v) → AreExactly IsLine lines
+exactly_found IsLine found lines adds in_order members = record {
+  in_order = in_order;
+  all = λ v. (
+    λ m. elim ((adds v).0 ((members v).0 m)) [ inl none ↦ absurd (contains_none v none) | inr is ↦ is ],
+    λ is. (members v).1 ((adds v).1 (inr is)),
+  );
+}
+
+-- the same lines, by another condition
+pub exactly_same : (P Q : Violation → Type 0) (lines : List Violation) → ((v : Violation) → P v ↔ Q v) → AreExactly P lines → AreExactly Q lines
+exactly_same P Q lines same exact = record {
+  in_order = exact.in_order;
+  all = λ v. (λ m. (same v).0 ((exact.all v).0 m), λ q. (exact.all v).1 ((same v).1 q));
+}
 
 -- ---- under the answer of a call
 

@@ -1,17 +1,20 @@
 -- The lines of a class file and of a file, as the functions gather them.
-use Rattle.std.proofs.Common.{◌≡◌, ℕ, ◌≤◌, ◌⊎◌, ◌↔◌, List, [], map, take, length, refl, sym, subst, inl, inr, Contains}
+use Rattle.std.proofs.Common.{◌≡◌, ℕ, ◌≤◌, ◌⊎◌, ◌↔◌, List, [], ◌∷◌, map, take, length, refl, sym, subst, inl, inr, arith, Contains}
 use Rattle.dj_report.specs.declared.report.Violation.{Violation}
 use Rattle.dj_class.specs.declared.class.MemberView.{MemberView}
 use Rattle.dj_class.specs.ClassFile.{Constant, MemberInfo, ClassFile, IsClassFile}
 use Rattle.dj_class.specs.Members.{member_of}
 use Rattle.dj_class.proofs.TestsAre.{tests_decide}
 use Rattle.dj_class.proofs.ClassLaws.{one_class_file}
-use Rattle.dj_rules.specs.Lines.{Adds, Gains, IsLineAmong, IsPairLine, pair_of}
 use Rattle.dj_report.specs.declared.report.PathFile.{PathFile}
+use Rattle.dj_report.specs.Lines.{file_line, member_line, Adds, Gains, IsLineAmong}
+use Rattle.dj_report.specs.Order.{IsInOrder}
+use Rattle.dj_report.proofs.Sorted.{contains_none}
+use Rattle.dj_report.proofs.Adding.{IsAmong, adds_same, adds_both, among_map, contains_map, from_contains_map, adds_none_yet, adds_one_more, exactly_found, exactly_same}
+use Rattle.dj_rules.specs.Lines.{IsPairLine, pair_of}
 use Rattle.std.proofs.lemmas.List.{take_all}
-use Rattle.dj_rules.specs.Violations.{file_line, member_line, member_text, this_name, IsNative, IsFinalizer, HasOtherVersion, IsNamedAs, IsMethodLine, IsClassLine, IsNoClassFile, IsLineOf, IsViolation}
+use Rattle.dj_rules.specs.Violations.{member_text, this_name, IsNative, IsFinalizer, HasOtherVersion, IsNamedAs, IsMethodLine, IsClassLine, IsNoClassFile, IsLineOf, IsViolation, AreViolations}
 use Rattle.dj_rules.specs.Views.{path_file_view}
-use Rattle.dj_rules.proofs.Adding.{IsAmong, adds_same, adds_both, among_map, contains_none, contains_map, from_contains_map}
 
 -- the pair of a method of the condition
 abbrev pub IsOwnPair : (List Constant → MemberInfo → Type 0) → List Constant → MemberView → ℕ × ℕ → Type 0
@@ -83,10 +86,14 @@ abbrev pub IsOwnFileLine : PathFile → Violation → Type 0
 IsOwnFileLine file v = IsLineOf (path_file_view file) v
 
 -- the lines of all files, put in order
-pub all_lines : (files : List PathFile) (n : ℕ) (found lines : List Violation) → length files ≤ n → Adds (IsLineAmong IsOwnFileLine (take n files)) [] found → ((v : Violation) → Contains lines v ↔ Contains found v) → (v : Violation) → Contains lines v ↔ IsViolation (map path_file_view files) v
-all_lines files n found lines le adds members v =
-    let seen = among_map path_file_view IsLineOf files v in
-    let own : Adds (IsLineAmong IsOwnFileLine files) [] found = subst (λ (xs : List PathFile). Adds (IsLineAmong IsOwnFileLine xs) [] found) (take_all n files le) adds in (
-      λ m. elim ((own v).0 ((members v).0 m)) [ inl none ↦ absurd (contains_none v none) | inr is ↦ seen.0 is ],
-      λ is. (members v).1 ((own v).1 (inr (seen.1 is))),
-    )
+pub all_lines : (files : List PathFile) (n : ℕ) (found lines : List Violation) → length files ≤ n → Adds (IsLineAmong IsOwnFileLine (take n files)) [] found → IsInOrder lines → ((v : Violation) → Contains lines v ↔ Contains found v) → AreViolations (map path_file_view files) lines
+all_lines files n found lines le adds in_order members =
+    let own : Adds (IsLineAmong IsOwnFileLine files) [] found = subst (λ (xs : List PathFile). Adds (IsLineAmong IsOwnFileLine xs) [] found) (take_all n files le) adds in
+    exactly_same (IsLineAmong IsOwnFileLine files) (IsViolation (map path_file_view files)) lines (among_map path_file_view IsLineOf files)
+    (exactly_found (IsLineAmong IsOwnFileLine files) found lines own in_order members)
+
+-- the lines of one file
+pub one_file_lines : (file : PathFile) (found lines : List Violation) → Adds (IsOwnFileLine file) [] found → IsInOrder lines → ((v : Violation) → Contains lines v ↔ Contains found v) → AreViolations (path_file_view file ∷ []) lines
+one_file_lines file found lines adds =
+    all_lines (file ∷ []) 1 found lines (omega arith)
+    (adds_one_more IsOwnFileLine (file ∷ []) 0 file [] [] found (omega arith) (adds_none_yet IsOwnFileLine (file ∷ []) []) adds)

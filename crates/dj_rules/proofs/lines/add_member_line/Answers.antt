@@ -1,0 +1,13 @@
+use Rattle.std.proofs.Common.{◌≡◌, None, subst, ◌∙◌}
+use Rattle.dj_report.specs.declared.report.Violation.{Violation}
+use Rattle.dj_report.specs.Lines.{member_line, Adds}
+use Rattle.dj_rules.specs.Lines.{pair_text}
+use Rattle.dj_rules.proofs.lines.add_member_line.Goals as goal
+
+pub returns : goal.returns
+returns c =
+    let path = c.in_ok-path.ensures ∙ c.as_bytes.ensures.value in
+    let line : Violation = record { path = c.in_ok-path.path; member = c.in_ok-member.member; number = None; rule = c.args.rule } in
+    let same : line ≡ member_line c.args.path.now (pair_text c.args.pool.now c.args.pair) c.args.rule =
+    λ i. record { path = path i; member = c.in_ok-member.ensures i; number = None; rule = c.args.rule } in
+    subst (λ (w : Violation). Adds (λ v. v ≡ w) c.args.found.now.items c.add_line.new.found.items) same c.in_ok-add_line.ensures
