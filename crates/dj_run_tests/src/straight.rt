@@ -1,14 +1,11 @@
-ghost use Rattle.std.specs.Prelude.{◌≡◌, length, ◌^◌, ◌<◌};
-
 use dj_names::{Kind, Name, Outcome, Thresholds, Value};
 use dj_report::PathFile;
 use dj_rules::RulesError;
 use dj_straight::{
-    Action, Ending, IntOperation, StraightClass, StraightMethod, StraightSet, run_method,
-    shape_fault, straight_set,
+    Action, Ending, IntOperation, StraightMethod, StraightSet, run_method, shape_fault,
+    straight_set,
 };
 use std::alloc::Global;
-use std::test::Fail;
 
 // A class A with a static method verify from an array of bytes to one, which returns what it is given.
 const A: &[u8] =
