@@ -1,6 +1,8 @@
+ghost use Rattle.std.specs.Prelude.{◌<◌, ◌^◌, length, All};
+
 use dj_names::{Kind, Name, Outcome, Thresholds, Value};
 use dj_report::PathFile;
-use dj_rules::RulesError;
+use dj_rules::{Judged, RulesError, judge_files};
 use dj_straight::{
     Action, Ending, IntOperation, StraightMethod, StraightSet, run_method, shape_fault,
     straight_set,
@@ -32,13 +34,23 @@ fn is_class_a(set: &StraightSet) -> bool {
     }
 }
 
+// The straight set that the files are, which are read before.
+fn set_of_files(alloc: Global, files: &[PathFile<'_>]) -> Result<Option<StraightSet>, RulesError>
+    requires { All (λ file. length file.bytes.now < 2 ^ 32) files.now }
+{
+    match judge_files(alloc, files)? {
+        Judged::Built(_, only) => straight_set(alloc, files, only),
+        Judged::Unbuilt(_) => Ok(None),
+    }
+}
+
 #[test]
 fn one_straight_class(rt: HostRuntime) {
     let files = [PathFile {
         path: "A.class",
         bytes: A,
     }];
-    let set = straight_set(rt.alloc(), &files);
+    let set = set_of_files(rt.alloc(), &files);
     assert!(rt; matches!(&set, Ok(Some(set)) if is_class_a(set)));
 }
 
