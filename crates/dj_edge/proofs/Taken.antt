@@ -1,7 +1,7 @@
 -- What several reads of a stream took together.
 use Rattle.std.proofs.Common.{◌≡◌, ℕ, ◌+◌, ◌-◌, ◌<◌, ◌≤◌, List, [], ◌++◌, length, length-append, append-nil, Option, None, Some, IfSome, Err, refl, sym, ap, subst, arith}
 use Rattle.std.specs.Io.KnownBytes.{Consumes, IsAtEnd}
-use Rattle.std.proofs.KnownBytes.{Consumes-nil, Consumes-trans, Consumes-whole}
+use Rattle.std.proofs.KnownBytes.{Consumes-trans, Consumes-whole}
 use Rattle.dj_edge.specs.declared.files.ReadError.{ReadError}
 use Rattle.dj_edge.specs.declared.files.ReadError.TheVariants as read_errors
 use Rattle.dj_edge.specs.Streams.{ReadsMore, TakesAtMost}

@@ -1,4 +1,4 @@
-use Rattle.std.proofs.Common.{◌≡◌, ◌≤◌, ℕ, take}
+use Rattle.std.proofs.Common.{◌≡◌, ◌≤◌, take}
 use Rattle.dj_edge.proofs.Walking.{SoFar}
 use Rattle.dj_edge.proofs.walk.+walk_folder.Given as goal
 
