@@ -3,3 +3,4 @@ pub mod NameLaws
 pub mod TypeLaws
 pub mod DescLaws
 pub mod TestLaws
+mod Facts

@@ -5,3 +5,7 @@ pub mod UnitReading
 pub mod NameReading
 pub mod DescReading
 pub mod Tests
+pub mod Values
+pub mod Types
+pub mod Heaps
+pub mod Library

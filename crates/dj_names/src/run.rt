@@ -21,7 +21,7 @@ pub enum Element {
     Ref,
 }
 
-/// An exception that an instruction raises itself, by its class of `java/lang`.
+/// An exception that an instruction or a native method raises itself, by its class of `java/lang`.
 #[derive(Clone, Copy, Debug, PartialEq, Eq)]
 pub enum Raised {
     Arithmetic,
@@ -30,6 +30,7 @@ pub enum Raised {
     ClassCast,
     NegativeArraySize,
     NullPointer,
+    StringIndexOutOfBounds,
 }
 
 /// What is charged: bytes that are allocated, invocations, jumps, and exceptions that are thrown or caught.

@@ -12,7 +12,8 @@ use Rattle.dj_names.specs.declared.run.Costs.{Costs}
 use Rattle.dj_names.specs.declared.run.Thresholds.{Thresholds}
 use Rattle.dj_names.specs.declared.run.Outcome.{Outcome}
 use Rattle.dj_names.specs.declared.run.Outcome.TheVariants as outcomes
-use Rattle.dj_straight.specs.Objects.{Object, Instance, Array, Text, raised_class}
+use Rattle.dj_names.specs.Values.{raised_class}
+use Rattle.dj_straight.specs.Objects.{Object, Instance, Array, Text}
 use Rattle.dj_names.specs.declared.run.Raised.TheVariants as raises
 use Rattle.dj_straight.specs.Instructions.{Bytes, Chars, Shorts, Ints, Longs, Nop, Return, Add, Subtract, instruction_of, simple}
 use Rattle.dj_straight.specs.Program.{Name, Program, Method, method_in, Abstract, Field, Constant, Int, Long, Text as TextConstant, is_subclass, ancestors_of, field_kind, chain_of, has_initialiser, code_of}

@@ -17,5 +17,4 @@ mod Facts
 mod FrameFacts
 mod ShapeFacts
 mod RunFacts
-mod ObjectFacts
 mod StraightFacts

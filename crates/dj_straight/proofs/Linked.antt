@@ -14,7 +14,8 @@ use Rattle.dj_names.specs.declared.run.Thresholds.{Thresholds}
 use Rattle.dj_names.specs.declared.run.Outcome.{Outcome}
 use Rattle.dj_names.specs.declared.run.Outcome.TheVariants as outcomes
 use Rattle.dj_names.specs.declared.run.Message.TheVariants as messages
-use Rattle.dj_straight.specs.Objects.{Object, Array, value_kind, raised_class}
+use Rattle.dj_names.specs.Values.{value_kind, raised_class}
+use Rattle.dj_straight.specs.Objects.{Object, Array}
 use Rattle.dj_straight.specs.Program.{Name}
 use Rattle.dj_straight.specs.State.{Heap, Static, Literal}
 use Rattle.dj_straight.specs.Instructions as model

@@ -7,7 +7,8 @@ use Rattle.dj_names.specs.declared.run.Value.{Value}
 use Rattle.dj_names.specs.declared.run.Value.TheVariants as values
 use Rattle.dj_names.specs.declared.run.Element.{Element}
 use Rattle.dj_names.specs.declared.run.Element.TheVariants as elements
-use Rattle.dj_straight.specs.Objects.{value_kind, Object, Array}
+use Rattle.dj_names.specs.Values.{value_kind}
+use Rattle.dj_straight.specs.Objects.{Object, Array}
 use Rattle.dj_straight.specs.Program.{Name, Code, Program, MethodName, code_of}
 use Rattle.dj_straight.specs.State.{Heap, Static, Literal}
 use Rattle.dj_straight.specs.Instructions.{Instruction, Nop, Push, Load, Store, LoadElement, StoreElement, Move, Compute, Return, ArrayLength, NewArray, Other, StackOperation, Pop, Dup, IntOperation, Add, Subtract, Multiply, And, Or, Xor, Access, Bytes, Chars, Shorts, Ints, Longs, ends, asks_program}

@@ -12,7 +12,8 @@ use Rattle.dj_names.specs.declared.run.Raised.{Raised}
 use Rattle.dj_names.specs.declared.run.Message.TheVariants as messages
 use Rattle.dj_names.specs.declared.run.Outcome.{Outcome}
 use Rattle.dj_names.specs.declared.run.Outcome.TheVariants as outcomes
-use Rattle.dj_straight.specs.Objects.{Object, raised_class}
+use Rattle.dj_names.specs.Values.{raised_class}
+use Rattle.dj_straight.specs.Objects.{Object}
 use Rattle.dj_straight.specs.Program.{Name, same_name, Program, HasNoFields, Class, MethodName, Code, class_at, fields_of, code_of, chain, has_initialiser, is_initialiser}
 use Rattle.dj_straight.specs.State.{Frame, State}
 use Rattle.dj_straight.specs.Instructions.{Instruction}

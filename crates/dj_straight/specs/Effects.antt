@@ -10,7 +10,8 @@ use Rattle.dj_names.specs.declared.run.Element.TheVariants as elements
 use Rattle.dj_names.specs.declared.run.Raised.{Raised}
 use Rattle.dj_names.specs.declared.run.Raised.TheVariants as raises
 use Rattle.dj_names.specs.declared.run.Thresholds.{Thresholds}
-use Rattle.dj_straight.specs.Objects.{Object, Array, Text, value_kind, element_size}
+use Rattle.dj_names.specs.Values.{value_kind, element_size}
+use Rattle.dj_straight.specs.Objects.{Object, Array, Text}
 use Rattle.dj_straight.specs.Program.{Name, same_name, Program}
 use Rattle.dj_straight.specs.State.{Heap, Static, Literal}
 use Rattle.dj_straight.specs.Instructions.{Instruction, Nop, Push, Load, Store, LoadElement, StoreElement, Move, Compute, Return, ArrayLength, NewArray, Other, IntOperation, Add, Subtract, Multiply, And, Or, Xor, StackOperation, Pop, Dup, Access, Bytes, Chars, Shorts, Ints, Longs}

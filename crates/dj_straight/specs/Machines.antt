@@ -2,7 +2,7 @@
 use Rattle.std.specs.Prelude.{◌≡◌, ◌^◌, ◌<◌, ⊤, [], length, Option, Some, None, codes}
 use Rattle.dj_names.specs.declared.run.Element.TheVariants as elements
 use Rattle.dj_names.specs.declared.run.Value.TheVariants as values
-use Rattle.dj_straight.specs.Objects.{raised_class}
+use Rattle.dj_names.specs.Values.{raised_class}
 use Rattle.dj_straight.specs.Instructions.{Instruction}
 use Rattle.dj_straight.specs.Effects as model
 use Rattle.dj_straight.specs.Effects.{Terms, Part, Effect, effect, goes}

@@ -7,7 +7,8 @@ use Rattle.dj_names.specs.declared.run.Costs.{Costs}
 use Rattle.dj_names.specs.declared.run.Thresholds.{Thresholds}
 use Rattle.dj_names.specs.declared.run.Outcome.{Outcome}
 use Rattle.dj_names.specs.declared.run.Outcome.TheVariants as outcomes
-use Rattle.dj_straight.specs.Objects.{Object, Array, raised_class}
+use Rattle.dj_names.specs.Values.{raised_class}
+use Rattle.dj_straight.specs.Objects.{Object, Array}
 use Rattle.dj_straight.specs.Program.{Program, MethodName}
 use Rattle.dj_straight.specs.State.{Heap, Frame, State}
 use Rattle.dj_straight.specs.Instructions.{byte_array_class}

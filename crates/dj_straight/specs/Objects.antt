@@ -1,13 +1,7 @@
--- The objects of the heap, and the classes of the exceptions that instructions raise (JVMS 2.4, 2.7 and 6.5).
-use Rattle.std.specs.Prelude.{ℕ, ℤ, List, codes}
+-- The objects of the heap (JVMS 2.4 and 2.7).
+use Rattle.std.specs.Prelude.{ℕ, ℤ, List}
 use Rattle.dj_names.specs.declared.run.Value.{Value}
-use Rattle.dj_names.specs.declared.run.Value.TheVariants as values
 use Rattle.dj_names.specs.declared.run.Element.{Element}
-use Rattle.dj_names.specs.declared.run.Element.TheVariants as elements
-use Rattle.dj_names.specs.declared.run.Raised.{Raised}
-use Rattle.dj_names.specs.declared.run.Raised.TheVariants as raises
-use Rattle.dj_names.specs.declared.descriptor.Kind.{Kind}
-use Rattle.dj_names.specs.declared.descriptor.Kind.TheVariants as kinds
 
 pub data Object : Type 0 where
   -- an instance of the class, with its fields, those of the highest superclass first
@@ -16,32 +10,3 @@ pub data Object : Type 0 where
   Array : List ℕ → Element → List ℤ → Object
   -- a text of these UTF-16 units
   Text : List ℕ → Object
-
-abbrev pub value_kind : Value → Kind
-value_kind (values.Int z) = kinds.Int
-value_kind (values.Long z) = kinds.Long
-value_kind (values.Ref r) = kinds.Ref
-
--- the kind of a value that is loaded from such an array, or stored there
-abbrev pub element_kind : Element → Kind
-element_kind elements.Long = kinds.Long
-element_kind elements.Ref = kinds.Ref
-element_kind _ = kinds.Int
-
--- the bytes of an element
-abbrev pub element_size : Element → ℕ
-element_size elements.Boolean = 1
-element_size elements.Byte = 1
-element_size elements.Char = 2
-element_size elements.Short = 2
-element_size elements.Int = 4
-element_size elements.Long = 8
-element_size elements.Ref = 4
-
-abbrev pub raised_class : Raised → List ℕ
-raised_class raises.Arithmetic = codes "java/lang/ArithmeticException"
-raised_class raises.ArrayIndexOutOfBounds = codes "java/lang/ArrayIndexOutOfBoundsException"
-raised_class raises.ArrayStore = codes "java/lang/ArrayStoreException"
-raised_class raises.ClassCast = codes "java/lang/ClassCastException"
-raised_class raises.NegativeArraySize = codes "java/lang/NegativeArraySizeException"
-raised_class raises.NullPointer = codes "java/lang/NullPointerException"

@@ -10,7 +10,8 @@ use Rattle.dj_names.specs.declared.run.Raised.{Raised}
 use Rattle.dj_names.specs.declared.run.Raised.TheVariants as raises
 use Rattle.dj_names.specs.declared.run.Thresholds.{Thresholds}
 use Rattle.dj_names.specs.declared.run.Costs.{Costs}
-use Rattle.dj_straight.specs.Objects.{Object, Text as TextObject, raised_class}
+use Rattle.dj_names.specs.Values.{raised_class}
+use Rattle.dj_straight.specs.Objects.{Object, Text as TextObject}
 use Rattle.dj_ops.specs.declared.instruction.Instr.{Instr}
 use Rattle.dj_ops.specs.declared.instruction.Instr.TheVariants as instrs
 use Rattle.dj_straight.specs.Instructions.{instruction_of}

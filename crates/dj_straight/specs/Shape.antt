@@ -3,7 +3,7 @@
 use Rattle.std.specs.Prelude.{◌≡◌, ℕ, zero, suc, ◌+◌, ◌-◌, ◌<◌, ◌≤◌, ◌⊎◌, ⊤, Bool, true, false, List, [], ◌∷◌, length, set, Option, Some, None, Contains, IsSome, IsNone, slice_get, nat_lt, nat_le, if◌then◌else◌, IsTrue, IsFalse}
 use Rattle.dj_names.specs.declared.descriptor.Kind.{Kind}
 use Rattle.dj_names.specs.declared.descriptor.Kind.TheVariants as kinds
-use Rattle.dj_straight.specs.Objects.{value_kind}
+use Rattle.dj_names.specs.Values.{value_kind}
 use Rattle.dj_straight.specs.Program.{Code, Range}
 use Rattle.dj_straight.specs.Instructions.{Instruction, Nop, Push, Load, Store, LoadElement, StoreElement, Move, Compute, Return, ArrayLength, NewArray, Other, StackOperation, Pop, Dup, ends, targets}
 use Rattle.dj_straight.specs.Effects.{same_kind, slots_of, access_kind}

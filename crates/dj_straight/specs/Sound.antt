@@ -3,7 +3,7 @@ use Rattle.std.specs.Prelude.{◌≡◌, List, [], ◌∷◌, length, map, Optio
 use Rattle.std.specs.Option.{option_map}
 use Rattle.dj_names.specs.declared.descriptor.Kind.{Kind}
 use Rattle.dj_names.specs.declared.run.Value.{Value}
-use Rattle.dj_straight.specs.Objects.{value_kind}
+use Rattle.dj_names.specs.Values.{value_kind}
 use Rattle.dj_straight.specs.Program.{Program, Code}
 use Rattle.dj_straight.specs.Instructions.{Instruction, ends, targets, throws}
 use Rattle.dj_straight.specs.Effects.{Terms, Part, Flow, Next, To, Raise, Throw, Back, Broken, Full, Effect, effect}

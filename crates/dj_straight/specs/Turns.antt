@@ -7,7 +7,7 @@ use Rattle.dj_names.specs.declared.run.Thresholds.{Thresholds}
 use Rattle.dj_names.specs.declared.run.Message.TheVariants as messages
 use Rattle.dj_names.specs.declared.run.Outcome.{Outcome}
 use Rattle.dj_names.specs.declared.run.Outcome.TheVariants as outcomes
-use Rattle.dj_straight.specs.Objects.{raised_class}
+use Rattle.dj_names.specs.Values.{raised_class}
 use Rattle.dj_straight.specs.State.{Heap}
 use Rattle.dj_straight.specs.Instructions.{Instruction}
 use Rattle.dj_straight.specs.Effects.{Part, Flow, Next, Raise, Back, Broken, goes}

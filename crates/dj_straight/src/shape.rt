@@ -1,6 +1,6 @@
 ghost use Rattle.std.specs.Prelude.{◌≡◌, ℕ, ◌+◌, ◌<◌, ◌≤◌, ◌^◌, List, [], ◌∷◌, length, slice_get, Some, IfOk, MatchOption, vec_len};
 ghost use Rattle.dj_names.specs.declared.descriptor.Kind.{Kind};
-ghost use Rattle.dj_straight.specs.Objects.{value_kind};
+ghost use Rattle.dj_names.specs.Values.{value_kind};
 ghost use Rattle.dj_straight.specs.Instructions as model;
 ghost use Rattle.dj_straight.specs.Effects.{same_kind, slots_of};
 ghost use Rattle.dj_straight.specs.Instructions.{ends};

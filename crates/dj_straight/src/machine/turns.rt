@@ -1,6 +1,6 @@
 ghost use Rattle.std.specs.Prelude.{◌≡◌, ◌≤◌, None, Some, Ok, IsSome, IfOk};
 ghost use Rattle.dj_names.specs.declared.run.Value.TheVariants as values;
-ghost use Rattle.dj_straight.specs.Objects.{raised_class};
+ghost use Rattle.dj_names.specs.Values.{raised_class};
 ghost use Rattle.dj_names.specs.declared.run.Costs.{Costs};
 ghost use Rattle.dj_names.specs.declared.run.Charge.TheVariants.{Alloc};
 ghost use Rattle.dj_names.specs.declared.run.Outcome.TheVariants.{Stopped};
@@ -39,6 +39,9 @@ fn raised_text(raised: Raised) -> &'static [u8]
         Raised::ClassCast => b"java/lang/ClassCastException".as_slice(),
         Raised::NegativeArraySize => b"java/lang/NegativeArraySizeException".as_slice(),
         Raised::NullPointer => b"java/lang/NullPointerException".as_slice(),
+        Raised::StringIndexOutOfBounds => {
+            b"java/lang/StringIndexOutOfBoundsException".as_slice()
+        }
     }
 }
 

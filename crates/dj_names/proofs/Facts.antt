@@ -1,4 +1,4 @@
--- What the definitions of specs/Objects say of each value, element and exception, written out from JVMS 2.6, 2.11.1 and 6.5.
+-- What the definitions of specs/Values say of each value, element and exception, written out from JVMS 2.6, 2.11.1 and 6.5.
 use Rattle.std.specs.Prelude.{◌≡◌, ℕ, ℤ, List, [], ◌∷◌, map, codes}
 use Rattle.std.proofs.Common.{refl}
 use Rattle.dj_names.specs.declared.run.Value.TheVariants as values
@@ -6,7 +6,7 @@ use Rattle.dj_names.specs.declared.run.Element.{Element}
 use Rattle.dj_names.specs.declared.run.Element.TheVariants as elements
 use Rattle.dj_names.specs.declared.run.Raised.TheVariants as raises
 use Rattle.dj_names.specs.declared.descriptor.Kind.TheVariants as kinds
-use Rattle.dj_straight.specs.Objects.{value_kind, element_kind, element_size, raised_class}
+use Rattle.dj_names.specs.Values.{value_kind, element_kind, element_size, raised_class}
 
 value_kinds : (z : ℤ) (r : ℕ) → map value_kind (values.Int z ∷ values.Long z ∷ values.Ref r ∷ []) ≡ kinds.Int ∷ kinds.Long ∷ kinds.Ref ∷ []
 value_kinds z r = refl
@@ -38,3 +38,6 @@ negative_size = refl
 
 null_pointer : raised_class raises.NullPointer ≡ codes "java/lang/NullPointerException"
 null_pointer = refl
+
+string_index : raised_class raises.StringIndexOutOfBounds ≡ codes "java/lang/StringIndexOutOfBoundsException"
+string_index = refl

@@ -1,0 +1,236 @@
+-- Whole runs: calls, initialisers, handlers, limits and the accounter.
+use Rattle.std.proofs.Common.{◌≡◌, pos, negsuc, ℕ, List, [], ◌∷◌, ◌++◌, Option, Some, None, codes, refl}
+use Rattle.std.specs.Int.{int_wrap}
+use Rattle.std.specs.Fmt.{digits}
+use Rattle.dj_names.specs.declared.descriptor.Base.TheVariants as bases
+use Rattle.dj_names.specs.declared.descriptor.Of.TheVariants as ofs
+use Rattle.dj_names.specs.declared.descriptor.Ty.{Ty}
+use Rattle.dj_names.specs.declared.run.Charge.TheVariants as charges
+use Rattle.dj_names.specs.declared.run.Message.TheVariants as messages
+use Rattle.dj_names.specs.declared.run.Costs.{Costs}
+use Rattle.dj_names.specs.declared.run.Thresholds.{Thresholds}
+use Rattle.dj_names.specs.declared.run.Outcome.{Outcome}
+use Rattle.dj_names.specs.declared.run.Outcome.TheVariants as outcomes
+use Rattle.dj_names.specs.Types.{Name, class_type}
+use Rattle.dj_names.specs.Library.{object, string, int, long}
+use Rattle.dj_model.specs.Instructions.{Instruction, AText, Another}
+use Rattle.dj_model.specs.Opcodes.{instruction_of, simple}
+use Rattle.dj_model.specs.Program.{Class, Method, Abstract, Int, Long, Text, Unfit, code_of, has_initialiser}
+use Rattle.dj_model.specs.Linking.{most_classes, chain_of, interfaces_from, interfaces_above, is_subclass, is_subtype, field_order, resolve_method, resolve_field, select, special_method, field_count, place_of, static_place}
+use Rattle.dj_model.specs.Libraries.{metered_program, raw_program, sandbox_program}
+use Rattle.dj_model.specs.Numbers.{compute, convert}
+use Rattle.dj_model.specs.Values.{moved, on_values}
+use Rattle.dj_model.specs.Arrays.{load_element, store_element, array_length, make_array}
+use Rattle.dj_model.specs.Charging.{charge_one, charge_all}
+use Rattle.dj_model.specs.Natives.{answer, host_answer}
+use Rattle.dj_model.specs.Performing.{perform, native}
+use Rattle.dj_model.specs.Members.{with_literal, invoke}
+use Rattle.dj_model.specs.Effects.{effect, pays, used_class}
+use Rattle.dj_model.specs.Initialisation.{is_initialised, mark, with_constants, constants_of, initialise}
+use Rattle.dj_model.specs.Step.{unwound, settle, step}
+use Rattle.dj_model.specs.Runs.{Run, Ends, Stuck, begin, amounts, turn, turns, metered_run, steps, plain_run}
+use Rattle.dj_names.specs.Types.{sandbox_prefix, in_sandbox}
+use Rattle.dj_edge.specs.declared.host.HostAnswer.{HostAnswer}
+use Rattle.dj_edge.specs.declared.host.HostAnswer.TheVariants as host
+use Rattle.dj_model.specs.State.{Uncounted, Accounted}
+use Rattle.dj_model.specs.Runs.{Report}
+use Rattle.dj_model.specs.Rows.{entry_of, op, push, ldc, jump, newarray, class, field, method, invokeinterface, construct, bytes, a_type, entry, code, method_with, verify_with, initialiser_with, plain_constructor, class_with, a_with, field_with, catch_all, catch, costs, at_most, usual, lang_name, throws_plainly}
+
+-- how the run of A's verify ends, after a hundred turns at most
+abbrev runs : List Class → List ℕ → Run
+runs classes input = metered_run (metered_program classes) entry input usual 100
+
+-- verify is this code, beside other methods and classes
+abbrev of_code : List Instruction → Run
+of_code instructions = runs (a_with (verify_with instructions [] ∷ []) ∷ []) (1 ∷ 2 ∷ [])
+
+abbrev with_methods : List Method → List Class → List Instruction → Run
+with_methods methods classes instructions = runs (a_with (verify_with instructions [] ∷ methods) ∷ classes) (1 ∷ 2 ∷ [])
+
+-- an int's low byte is returned
+abbrev byte_of : List Instruction → List Instruction
+byte_of instructions = op 4 ∷ newarray 8 ∷ op 89 ∷ op 3 ∷ instructions ++ op 84 ∷ op 176 ∷ []
+
+abbrev free : Outcome → Run
+free outcome = Ends outcome (costs 0 0 0 0)
+
+abbrev raised : Name → Run
+raised name = free (throws_plainly name)
+
+abbrev null_pointer : Name
+null_pointer = codes "NullPointerException"
+
+abbrev outside : Name
+outside = codes "ArrayIndexOutOfBoundsException"
+
+abbrev outside_text : Name
+outside_text = codes "StringIndexOutOfBoundsException"
+
+abbrev i_type : Ty
+i_type = class_type (codes "I")
+
+abbrev j_type : Ty
+j_type = class_type (codes "J")
+
+abbrev c_type : Ty
+c_type = class_type (codes "C")
+
+abbrev d_type : Ty
+d_type = class_type (codes "D")
+
+abbrev e_type : Ty
+e_type = class_type (codes "E")
+
+-- two interfaces; C implements both, D below C takes one method anew, and E has no code for the interface's
+abbrev family : List Class
+family = record (class_with (codes "I") [] (method_with 1025 (codes "m") [] (Some int) Abstract ∷ [])) { flags = 1537 }
+    ∷ record (class_with (codes "J") [] (method_with 1025 (codes "n") [] (Some int) Abstract ∷ [])) { flags = 1537 }
+    ∷ record (class_with (codes "C") [] (plain_constructor ∷ method_with 1 (codes "m") ([]) (Some int) (code (op 8 ∷ op 172 ∷ []) []) ∷ method_with 1 (codes "n") ([]) (Some int) (code (op 5 ∷ op 172 ∷ []) []) ∷ method_with 2 (codes "p") ([]) (Some int) (code (op 4 ∷ op 172 ∷ []) []) ∷ method_with 9 (codes "t") ([]) (Some int) (code (op 6 ∷ op 172 ∷ []) []) ∷ [])) { interfaces = codes "I" ∷ codes "J" ∷ [] }
+    ∷ record (class_with (codes "D") [] (method_with 1 (codes "m") ([]) (Some int) (code (op 7 ∷ op 172 ∷ []) []) ∷ method_with 1 (codes "p") ([]) (Some int) (code (op 5 ∷ op 172 ∷ []) []) ∷ method_with 1 (codes "q") ([]) (Some int) (code (op 42 ∷ method 183 c_type (codes "m") ([]) (Some int) ∷ op 172 ∷ []) [])
+    ∷ method_with 1 (codes "r") ([]) (Some int) (code (op 42 ∷ method 182 c_type (codes "m") ([]) (Some int) ∷ op 172 ∷ []) []) ∷ [])) { superclass = Some (codes "C") }
+    ∷ record (class_with (codes "E") [] (plain_constructor ∷ method_with 1025 (codes "a") [] (Some int) Abstract ∷ method_with 9 (codes "b") [] (Some int) Abstract ∷ [])) { interfaces = codes "I" ∷ []; flags = 1057 } ∷ []
+
+abbrev on_family : List Instruction → Run
+on_family instructions = with_methods [] family instructions
+
+-- a private method is its own selection; invokespecial takes the superclass's; an array has the methods of Object
+selected_methods : on_family (byte_of (class 187 c_type ∷ method 182 c_type (codes "m") ([]) (Some int) ∷ [])) ∷ on_family (byte_of (class 187 d_type ∷ method 182 c_type (codes "m") ([]) (Some int) ∷ [])) ∷ on_family (byte_of (class 187 d_type ∷ method 182 d_type (codes "n") ([]) (Some int) ∷ [])) ∷ on_family (byte_of (class 187 d_type ∷ invokeinterface 1 i_type (codes "m") [] (Some int) ∷ [])) ∷ on_family (byte_of (class 187 d_type ∷ invokeinterface 1 j_type (codes "n") [] (Some int) ∷ [])) ∷ on_family (byte_of (class 187 c_type ∷ invokeinterface 1 i_type (codes "m") [] (Some int) ∷ [])) ∷ on_family (byte_of (class 187 d_type ∷ method 182 c_type (codes "p") ([]) (Some int) ∷ [])) ∷ on_family (byte_of (class 187 d_type ∷ method 182 d_type (codes "p") ([]) (Some int) ∷ [])) ∷ on_family (byte_of (class 187 d_type ∷ method 182 d_type (codes "q") ([]) (Some int) ∷ [])) ∷ on_family (byte_of (class 187 d_type ∷ method 182 d_type (codes "r") ([]) (Some int) ∷ [])) ∷ on_family (byte_of (method 184 d_type (codes "t") ([]) (Some int) ∷ [])) ∷ on_family (byte_of (op 42 ∷ method 182 object (codes "hashCode") ([]) (Some int) ∷ [])) ∷ on_family (byte_of (class 187 c_type ∷ method 183 c_type (codes "m") ([]) (Some int) ∷ [])) ∷ []
+    ≡ Ends (outcomes.OkBytes (5 ∷ [])) (costs 40 1 0 0) ∷ Ends (outcomes.OkBytes (4 ∷ [])) (costs 40 1 0 0) ∷ Ends (outcomes.OkBytes (2 ∷ [])) (costs 40 1 0 0) ∷ Ends (outcomes.OkBytes (4 ∷ [])) (costs 40 1 0 0) ∷ Ends (outcomes.OkBytes (2 ∷ [])) (costs 40 1 0 0) ∷ Ends (outcomes.OkBytes (5 ∷ [])) (costs 40 1 0 0) ∷ Ends (outcomes.OkBytes (1 ∷ [])) (costs 40 1 0 0) ∷ Ends (outcomes.OkBytes (2 ∷ [])) (costs 40 1 0 0) ∷ Ends (outcomes.OkBytes (5 ∷ [])) (costs 40 2 0 0) ∷ Ends (outcomes.OkBytes (4 ∷ [])) (costs 40 2 0 0) ∷ Ends (outcomes.OkBytes (3 ∷ [])) (costs 24 1 0 0) ∷ Ends (outcomes.OkBytes (1 ∷ [])) (costs 24 1 0 0) ∷ Ends (outcomes.OkBytes (5 ∷ [])) (costs 40 1 0 0) ∷ []
+unfolding int_wrap digits instruction_of simple code_of has_initialiser most_classes chain_of interfaces_from interfaces_above is_subclass is_subtype field_order resolve_method resolve_field select special_method field_count place_of static_place metered_program raw_program sandbox_program compute convert moved on_values load_element store_element array_length make_array charge_one charge_all answer host_answer perform native with_literal invoke effect pays used_class is_initialised mark with_constants constants_of initialise unwound settle step begin amounts turn turns metered_run steps plain_run
+selected_methods = refl
+
+-- selection finds no code, or what is called is abstract
+no_code : on_family (class 187 e_type ∷ invokeinterface 1 i_type (codes "m") [] (Some int) ∷ op 87 ∷ op 42 ∷ op 176 ∷ []) ∷ on_family (class 187 e_type ∷ method 182 e_type (codes "a") ([]) (Some int) ∷ op 87 ∷ op 42 ∷ op 176 ∷ []) ∷ on_family (class 187 e_type ∷ method 183 e_type (codes "a") ([]) (Some int) ∷ op 87 ∷ op 42 ∷ op 176 ∷ []) ∷ on_family (method 184 e_type (codes "b") ([]) (Some int) ∷ op 87 ∷ op 42 ∷ op 176 ∷ []) ∷ []
+    ≡ Ends outcomes.Link (costs 16 1 0 0) ∷ Ends outcomes.Link (costs 16 1 0 0) ∷ Ends outcomes.Link (costs 16 1 0 0) ∷ Ends outcomes.Link (costs 0 1 0 0) ∷ []
+unfolding int_wrap digits instruction_of simple code_of has_initialiser most_classes chain_of interfaces_from interfaces_above is_subclass is_subtype field_order resolve_method resolve_field select special_method field_count place_of static_place metered_program raw_program sandbox_program compute convert moved on_values load_element store_element array_length make_array charge_one charge_all answer host_answer perform native with_literal invoke effect pays used_class is_initialised mark with_constants constants_of initialise unwound settle step begin amounts turn turns metered_run steps plain_run
+no_code = refl
+
+-- a receiver of another class, and an argument of a native method of another class
+wrong_receivers : on_family (class 187 object ∷ method 182 c_type (codes "m") ([]) (Some int) ∷ op 87 ∷ op 42 ∷ op 176 ∷ []) ∷ on_family (class 187 c_type ∷ method 182 d_type (codes "m") ([]) (Some int) ∷ op 87 ∷ op 42 ∷ op 176 ∷ []) ∷ on_family (class 187 object ∷ invokeinterface 1 i_type (codes "m") [] (Some int) ∷ op 87 ∷ op 42 ∷ op 176 ∷ []) ∷ on_family (class 187 object ∷ construct c_type [] ∷ op 42 ∷ op 176 ∷ []) ∷ on_family (class 187 object ∷ method 183 c_type (codes "m") ([]) (Some int) ∷ op 87 ∷ op 42 ∷ op 176 ∷ []) ∷ on_family (ldc (AText (codes "ab")) ∷ op 42 ∷ method 182 string (codes "concat") (string ∷ []) (Some string) ∷ op 87 ∷ op 42 ∷ op 176 ∷ []) ∷ on_family (ldc (AText (codes "ab")) ∷ op 1 ∷ method 182 string (codes "concat") (string ∷ []) (Some string) ∷ op 87 ∷ op 42 ∷ op 176 ∷ []) ∷ []
+    ≡ Ends outcomes.Link (costs 16 1 0 0) ∷ Ends outcomes.Link (costs 16 1 0 0) ∷ Ends outcomes.Link (costs 16 1 0 0) ∷ Ends outcomes.Link (costs 16 1 0 0) ∷ Ends outcomes.Link (costs 16 1 0 0) ∷ Ends outcomes.Link (costs 0 1 0 0) ∷ Ends (throws_plainly null_pointer) (costs 0 1 0 0) ∷ []
+unfolding int_wrap digits instruction_of simple code_of has_initialiser most_classes chain_of interfaces_from interfaces_above is_subclass is_subtype field_order resolve_method resolve_field select special_method field_count place_of static_place metered_program raw_program sandbox_program compute convert moved on_values load_element store_element array_length make_array charge_one charge_all answer host_answer perform native with_literal invoke effect pays used_class is_initialised mark with_constants constants_of initialise unwound settle step begin amounts turn turns metered_run steps plain_run
+wrong_receivers = refl
+
+-- a long takes two slots; what stands below the arguments stays
+arguments : with_methods (method_with 9 (codes "f") (long ∷ int ∷ object ∷ []) (Some int) (code (op 28 ∷ op 172 ∷ []) []) ∷ []) [] (byte_of (op 10 ∷ op 7 ∷ op 42 ∷ method 184 a_type (codes "f") (long ∷ int ∷ object ∷ []) (Some int) ∷ [])) ∷ with_methods (method_with 9 (codes "f") (long ∷ int ∷ object ∷ []) (Some int) (code (op 30 ∷ op 136 ∷ op 172 ∷ []) []) ∷ []) [] (byte_of (op 10 ∷ op 7 ∷ op 42 ∷ method 184 a_type (codes "f") (long ∷ int ∷ object ∷ []) (Some int) ∷ [])) ∷ with_methods (method_with 9 (codes "f") (int ∷ long ∷ []) (Some bytes) (code (op 31 ∷ op 136 ∷ newarray 8 ∷ op 176 ∷ []) []) ∷ []) [] (op 7 ∷ op 10 ∷ method 184 a_type (codes "f") (int ∷ long ∷ []) (Some bytes) ∷ op 176 ∷ []) ∷ with_methods (method_with 9 (codes "f") (int ∷ []) None (code (op 177 ∷ []) []) ∷ []) [] (op 42 ∷ op 7 ∷ method 184 a_type (codes "f") (int ∷ []) None ∷ op 176 ∷ []) ∷ []
+    ≡ Ends (outcomes.OkBytes (4 ∷ [])) (costs 24 1 0 0) ∷ Ends (outcomes.OkBytes (1 ∷ [])) (costs 24 1 0 0) ∷ Ends (outcomes.OkBytes (0 ∷ [])) (costs 24 1 0 0) ∷ Ends (outcomes.OkBytes (1 ∷ 2 ∷ [])) (costs 0 1 0 0) ∷ []
+unfolding int_wrap digits instruction_of simple code_of has_initialiser most_classes chain_of interfaces_from interfaces_above is_subclass is_subtype field_order resolve_method resolve_field select special_method field_count place_of static_place metered_program raw_program sandbox_program compute convert moved on_values load_element store_element array_length make_array charge_one charge_all answer host_answer perform native with_literal invoke effect pays used_class is_initialised mark with_constants constants_of initialise unwound settle step begin amounts turn turns metered_run steps plain_run
+arguments = refl
+
+-- no such member, no such family, no operand, and past the end of the code
+no_steps : of_code (op 42 ∷ method 182 object (codes "none") ([]) None ∷ op 42 ∷ op 176 ∷ []) ∷ of_code (field 178 a_type (codes "none") int ∷ op 87 ∷ op 42 ∷ op 176 ∷ []) ∷ of_code (op 11 ∷ op 87 ∷ op 42 ∷ op 176 ∷ []) ∷ of_code (op 87 ∷ op 42 ∷ op 176 ∷ []) ∷ of_code (op 42 ∷ []) ∷ of_code (op 42 ∷ jump 167 9 ∷ []) ∷ of_code (ldc Another ∷ op 42 ∷ op 176 ∷ []) ∷ of_code (op 3 ∷ method 182 object (codes "hashCode") ([]) (Some int) ∷ op 87 ∷ op 42 ∷ op 176 ∷ []) ∷ of_code (class 197 object ∷ op 42 ∷ op 176 ∷ []) ∷ []
+    ≡ Stuck ∷ Stuck ∷ Stuck ∷ Stuck ∷ Stuck ∷ Stuck ∷ Stuck ∷ Stuck ∷ Stuck ∷ []
+unfolding int_wrap digits instruction_of simple code_of has_initialiser most_classes chain_of interfaces_from interfaces_above is_subclass is_subtype field_order resolve_method resolve_field select special_method field_count place_of static_place metered_program raw_program sandbox_program compute convert moved on_values load_element store_element array_length make_array charge_one charge_all answer host_answer perform native with_literal invoke effect pays used_class is_initialised mark with_constants constants_of initialise unwound settle step begin amounts turn turns metered_run steps plain_run
+no_steps = refl
+
+-- B, and C below it, with static fields, constants and initialisers
+abbrev statics_of : List Instruction → List Instruction → List Class
+statics_of above below = class_with (codes "B") (field_with 8 (codes "x") int (Some (Int (pos 7))) ∷ field_with 8 (codes "y") int None ∷ []) (initialiser_with above ∷ method_with 9 (codes "g") ([]) (Some int) (code (field 178 (class_type (codes "B")) (codes "y") int ∷ op 172 ∷ []) []) ∷ [])
+    ∷ record (class_with (codes "C") (field_with 8 (codes "z") int None ∷ []) (plain_constructor ∷ initialiser_with below ∷ [])) { superclass = Some (codes "B") } ∷ []
+
+abbrev b_type : Ty
+b_type = class_type (codes "B")
+
+abbrev init_of : Name → Outcome
+init_of name = outcomes.Init name (lang_name null_pointer) messages.Null
+
+-- the highest superclass first; a static member uses the class that declares it; an array uses none; an initialiser runs once
+initialised : with_methods [] (statics_of (op 8 ∷ field 179 b_type (codes "y") int ∷ op 177 ∷ []) (op 7 ∷ field 179 b_type (codes "y") int ∷ op 177 ∷ [])) (byte_of (class 187 c_type ∷ op 87 ∷ field 178 b_type (codes "y") int ∷ [])) ∷ with_methods [] (statics_of (op 8 ∷ field 179 b_type (codes "y") int ∷ op 177 ∷ []) (op 7 ∷ field 179 b_type (codes "y") int ∷ op 177 ∷ [])) (byte_of (field 178 c_type (codes "y") int ∷ [])) ∷ with_methods [] (statics_of (op 8 ∷ field 179 b_type (codes "y") int ∷ op 177 ∷ []) (op 7 ∷ field 179 b_type (codes "y") int ∷ op 177 ∷ [])) (byte_of (field 178 c_type (codes "z") int ∷ op 87 ∷ field 178 b_type (codes "y") int ∷ [])) ∷ with_methods [] (statics_of (op 8 ∷ field 179 b_type (codes "y") int ∷ op 177 ∷ []) (op 7 ∷ field 179 b_type (codes "y") int ∷ op 177 ∷ [])) (byte_of (method 184 c_type (codes "g") ([]) (Some int) ∷ [])) ∷ with_methods [] (statics_of (op 8 ∷ field 179 b_type (codes "y") int ∷ op 177 ∷ []) (op 7 ∷ field 179 b_type (codes "y") int ∷ op 177 ∷ [])) (byte_of (op 3 ∷ field 179 b_type (codes "y") int ∷ field 178 b_type (codes "y") int ∷ [])) ∷ with_methods [] (statics_of (op 8 ∷ field 179 b_type (codes "y") int ∷ op 177 ∷ []) (op 7 ∷ field 179 b_type (codes "y") int ∷ op 177 ∷ [])) (byte_of (op 3 ∷ class 189 c_type ∷ op 87 ∷ field 178 b_type (codes "y") int ∷ [])) ∷ with_methods [] (statics_of (op 177 ∷ []) (op 177 ∷ [])) (byte_of (field 178 b_type (codes "x") int ∷ [])) ∷ with_methods [] (statics_of (field 178 b_type (codes "y") int ∷ op 4 ∷ op 96 ∷ field 179 b_type (codes "y") int ∷ op 177 ∷ []) (op 177 ∷ [])) (byte_of (field 178 b_type (codes "y") int ∷ field 178 b_type (codes "y") int ∷ op 96 ∷ [])) ∷ with_methods [] (statics_of (op 8 ∷ field 179 b_type (codes "y") int ∷ op 177 ∷ []) (op 1 ∷ op 191 ∷ [])) (byte_of (field 178 b_type (codes "y") int ∷ [])) ∷ []
+    ≡ Ends (outcomes.OkBytes (4 ∷ [])) (costs 40 0 0 0) ∷ Ends (outcomes.OkBytes (5 ∷ [])) (costs 24 0 0 0) ∷ Ends (outcomes.OkBytes (4 ∷ [])) (costs 24 0 0 0) ∷ Ends (outcomes.OkBytes (5 ∷ [])) (costs 24 1 0 0) ∷ Ends (outcomes.OkBytes (0 ∷ [])) (costs 24 0 0 0) ∷ Ends (outcomes.OkBytes (5 ∷ [])) (costs 40 0 0 0) ∷ Ends (outcomes.OkBytes (7 ∷ [])) (costs 24 0 0 0) ∷ Ends (outcomes.OkBytes (2 ∷ [])) (costs 24 0 0 0) ∷ Ends (outcomes.OkBytes (5 ∷ [])) (costs 24 0 0 0) ∷ []
+unfolding int_wrap digits instruction_of simple code_of has_initialiser most_classes chain_of interfaces_from interfaces_above is_subclass is_subtype field_order resolve_method resolve_field select special_method field_count place_of static_place metered_program raw_program sandbox_program compute convert moved on_values load_element store_element array_length make_array charge_one charge_all answer host_answer perform native with_literal invoke effect pays used_class is_initialised mark with_constants constants_of initialise unwound settle step begin amounts turn turns metered_run steps plain_run
+initialised = refl
+
+failing_initialisers : with_methods [] (statics_of (op 1 ∷ op 191 ∷ []) (op 7 ∷ field 179 b_type (codes "y") int ∷ op 177 ∷ [])) (byte_of (class 187 c_type ∷ op 87 ∷ op 3 ∷ [])) ∷ with_methods [] (statics_of (op 8 ∷ field 179 b_type (codes "y") int ∷ op 177 ∷ []) (op 1 ∷ op 191 ∷ [])) (byte_of (class 187 c_type ∷ op 87 ∷ op 3 ∷ [])) ∷ with_methods [] (statics_of (op 1 ∷ op 190 ∷ op 87 ∷ op 177 ∷ []) (op 177 ∷ [])) (byte_of (field 178 b_type (codes "y") int ∷ [])) ∷ []
+    ≡ Ends (init_of (codes "B")) (costs 40 0 0 1) ∷ Ends (init_of (codes "C")) (costs 40 0 0 1) ∷ Ends (init_of (codes "B")) (costs 24 0 0 0) ∷ []
+unfolding int_wrap digits instruction_of simple code_of has_initialiser most_classes chain_of interfaces_from interfaces_above is_subclass is_subtype field_order resolve_method resolve_field select special_method field_count place_of static_place metered_program raw_program sandbox_program compute convert moved on_values load_element store_element array_length make_array charge_one charge_all answer host_answer perform native with_literal invoke effect pays used_class is_initialised mark with_constants constants_of initialise unwound settle step begin amounts turn turns metered_run steps plain_run
+failing_initialisers = refl
+
+-- an initialiser is static, has no parameters and has code
+not_initialisers : with_methods (method_with 8 (codes "<clinit>") (int ∷ []) None (code (op 1 ∷ op 191 ∷ []) []) ∷ []) [] (op 42 ∷ op 176 ∷ []) ∷ with_methods (method_with 0 (codes "<clinit>") [] None (code (op 1 ∷ op 191 ∷ []) []) ∷ []) [] (op 42 ∷ op 176 ∷ []) ∷ with_methods (method_with 1032 (codes "<clinit>") [] None Abstract ∷ []) [] (op 42 ∷ op 176 ∷ []) ∷ with_methods (method_with 8 (codes "clinit") [] None (code (op 1 ∷ op 191 ∷ []) []) ∷ []) [] (op 42 ∷ op 176 ∷ []) ∷ with_methods (initialiser_with (op 1 ∷ op 191 ∷ []) ∷ []) [] (op 42 ∷ op 176 ∷ []) ∷ []
+    ≡ free (outcomes.OkBytes (1 ∷ 2 ∷ [])) ∷ free (outcomes.OkBytes (1 ∷ 2 ∷ [])) ∷ free (outcomes.OkBytes (1 ∷ 2 ∷ [])) ∷ free (outcomes.OkBytes (1 ∷ 2 ∷ [])) ∷ Ends (init_of (codes "A")) (costs 0 0 0 1) ∷ []
+unfolding int_wrap digits instruction_of simple code_of has_initialiser most_classes chain_of interfaces_from interfaces_above is_subclass is_subtype field_order resolve_method resolve_field select special_method field_count place_of static_place metered_program raw_program sandbox_program compute convert moved on_values load_element store_element array_length make_array charge_one charge_all answer host_answer perform native with_literal invoke effect pays used_class is_initialised mark with_constants constants_of initialise unwound settle step begin amounts turn turns metered_run steps plain_run
+not_initialisers = refl
+
+handler_in_initialiser : with_methods (method_with 8 (codes "<clinit>") [] None (code (op 1 ∷ op 190 ∷ op 87 ∷ op 177 ∷ op 87 ∷ op 177 ∷ []) (catch_all 0 2 4 ∷ [])) ∷ []) [] (op 42 ∷ op 176 ∷ []) ∷ []
+    ≡ Ends (outcomes.OkBytes (1 ∷ 2 ∷ [])) (costs 0 0 0 1) ∷ []
+unfolding int_wrap digits instruction_of simple code_of has_initialiser most_classes chain_of interfaces_from interfaces_above is_subclass is_subtype field_order resolve_method resolve_field select special_method field_count place_of static_place metered_program raw_program sandbox_program compute convert moved on_values load_element store_element array_length make_array charge_one charge_all answer host_answer perform native with_literal invoke effect pays used_class is_initialised mark with_constants constants_of initialise unwound settle step begin amounts turn turns metered_run steps plain_run
+handler_in_initialiser = refl
+
+abbrev constants_class : Class
+constants_class = class_with (codes "K") (field_with 24 (codes "i") int (Some (Int (negsuc 4))) ∷ field_with 24 (codes "f") (record { dims = 0; of = ofs.Base bases.Float }) None ∷ field_with 24 (codes "j") long (Some (Long (pos 9)))
+    ∷ field_with 24 (codes "s") string (Some (Text (codes "ab"))) ∷ field_with 24 (codes "t") string (Some (Text (codes "ab"))) ∷ field_with 24 (codes "u") string (Some (Text (codes "cd")))
+    ∷ field_with 0 (codes "n") int (Some (Int (pos 3))) ∷ field_with 24 (codes "w") int (Some Unfit) ∷ field_with 24 (codes "last") int (Some (Int (pos 6))) ∷ []) []
+
+abbrev k_type : Ty
+k_type = class_type (codes "K")
+
+abbrev on_constants : List Instruction → Run
+on_constants instructions = with_methods [] (constants_class ∷ []) instructions
+
+-- one object for each text; two texts of one length are two; a float has a place and no value
+constants : on_constants (byte_of (field 178 k_type (codes "i") int ∷ [])) ∷ on_constants (byte_of (field 178 k_type (codes "j") long ∷ op 136 ∷ [])) ∷ on_constants (byte_of (field 178 k_type (codes "last") int ∷ [])) ∷ on_constants (byte_of (field 178 k_type (codes "w") int ∷ [])) ∷ on_constants (field 178 k_type (codes "f") (record { dims = 0; of = ofs.Base bases.Float }) ∷ op 42 ∷ op 176 ∷ []) ∷ on_constants (byte_of (field 178 k_type (codes "s") string ∷ field 178 k_type (codes "t") string ∷ jump 165 9 ∷ op 3 ∷ jump 167 10 ∷ op 4 ∷ [])) ∷ on_constants (byte_of (field 178 k_type (codes "s") string ∷ field 178 k_type (codes "u") string ∷ jump 165 9 ∷ op 3 ∷ jump 167 10 ∷ op 4 ∷ [])) ∷ on_constants (byte_of (field 178 k_type (codes "s") string ∷ ldc (AText (codes "ab")) ∷ jump 165 9 ∷ op 3 ∷ jump 167 10 ∷ op 4 ∷ [])) ∷ on_constants (byte_of (ldc (AText (codes "xy")) ∷ ldc (AText (codes "xz")) ∷ jump 165 9 ∷ op 3 ∷ jump 167 10 ∷ op 4 ∷ [])) ∷ on_constants (byte_of (ldc (AText (codes "xy")) ∷ ldc (AText (codes "xy")) ∷ jump 165 9 ∷ op 3 ∷ jump 167 10 ∷ op 4 ∷ [])) ∷ []
+    ≡ Ends (outcomes.OkBytes (251 ∷ [])) (costs 24 0 0 0) ∷ Ends (outcomes.OkBytes (9 ∷ [])) (costs 24 0 0 0) ∷ Ends (outcomes.OkBytes (6 ∷ [])) (costs 24 0 0 0) ∷ Ends (outcomes.OkBytes (0 ∷ [])) (costs 24 0 0 0) ∷ Stuck ∷ Ends (outcomes.OkBytes (1 ∷ [])) (costs 24 0 1 0) ∷ Ends (outcomes.OkBytes (0 ∷ [])) (costs 24 0 2 0) ∷ Ends (outcomes.OkBytes (1 ∷ [])) (costs 24 0 1 0) ∷ Ends (outcomes.OkBytes (0 ∷ [])) (costs 24 0 2 0) ∷ Ends (outcomes.OkBytes (1 ∷ [])) (costs 24 0 1 0) ∷ []
+unfolding int_wrap digits instruction_of simple code_of has_initialiser most_classes chain_of interfaces_from interfaces_above is_subclass is_subtype field_order resolve_method resolve_field select special_method field_count place_of static_place metered_program raw_program sandbox_program compute convert moved on_values load_element store_element array_length make_array charge_one charge_all answer host_answer perform native with_literal invoke effect pays used_class is_initialised mark with_constants constants_of initialise unwound settle step begin amounts turn turns metered_run steps plain_run
+constants = refl
+
+-- by place, by class and in order; the stack is the exception alone; each arrival pays
+caught : runs (a_with (verify_with (op 1 ∷ op 190 ∷ op 87 ∷ op 42 ∷ op 176 ∷ op 87 ∷ op 1 ∷ op 176 ∷ []) (catch_all 1 2 5 ∷ []) ∷ []) ∷ []) (1 ∷ 2 ∷ []) ∷ runs (a_with (verify_with (op 1 ∷ op 190 ∷ op 87 ∷ op 42 ∷ op 176 ∷ op 87 ∷ op 1 ∷ op 176 ∷ []) (catch_all 0 1 5 ∷ []) ∷ []) ∷ []) (1 ∷ 2 ∷ []) ∷ runs (a_with (verify_with (op 1 ∷ op 190 ∷ op 87 ∷ op 42 ∷ op 176 ∷ op 87 ∷ op 1 ∷ op 176 ∷ []) (catch_all 2 5 5 ∷ []) ∷ []) ∷ []) (1 ∷ 2 ∷ []) ∷ runs (a_with (verify_with (op 1 ∷ op 190 ∷ op 87 ∷ op 42 ∷ op 176 ∷ op 87 ∷ op 1 ∷ op 176 ∷ []) (catch_all 0 2 5 ∷ []) ∷ []) ∷ []) (1 ∷ 2 ∷ []) ∷ runs (a_with (verify_with (op 1 ∷ op 190 ∷ op 87 ∷ op 42 ∷ op 176 ∷ op 87 ∷ op 1 ∷ op 176 ∷ []) (catch (lang_name null_pointer) 1 2 5 ∷ []) ∷ []) ∷ []) (1 ∷ 2 ∷ []) ∷ runs (a_with (verify_with (op 1 ∷ op 190 ∷ op 87 ∷ op 42 ∷ op 176 ∷ op 87 ∷ op 1 ∷ op 176 ∷ []) (catch (lang_name (codes "RuntimeException")) 1 2 5 ∷ []) ∷ []) ∷ []) (1 ∷ 2 ∷ []) ∷ runs (a_with (verify_with (op 1 ∷ op 190 ∷ op 87 ∷ op 42 ∷ op 176 ∷ op 87 ∷ op 1 ∷ op 176 ∷ []) (catch (lang_name (codes "Object")) 1 2 5 ∷ []) ∷ []) ∷ []) (1 ∷ 2 ∷ []) ∷ runs (a_with (verify_with (op 1 ∷ op 190 ∷ op 87 ∷ op 42 ∷ op 176 ∷ op 87 ∷ op 1 ∷ op 176 ∷ []) (catch (codes "java/io/Serializable") 1 2 5 ∷ []) ∷ []) ∷ []) (1 ∷ 2 ∷ []) ∷ runs (a_with (verify_with (op 1 ∷ op 190 ∷ op 87 ∷ op 42 ∷ op 176 ∷ op 87 ∷ op 1 ∷ op 176 ∷ []) (catch (lang_name (codes "Error")) 1 2 5 ∷ []) ∷ []) ∷ []) (1 ∷ 2 ∷ []) ∷ runs (a_with (verify_with (op 1 ∷ op 190 ∷ op 87 ∷ op 42 ∷ op 176 ∷ op 87 ∷ op 1 ∷ op 176 ∷ []) (catch (lang_name (codes "ArithmeticException")) 1 2 5 ∷ catch_all 1 2 5 ∷ []) ∷ []) ∷ []) (1 ∷ 2 ∷ []) ∷ runs (a_with (verify_with (op 1 ∷ op 190 ∷ op 87 ∷ op 42 ∷ op 176 ∷ op 87 ∷ op 1 ∷ op 176 ∷ []) (record (catch_all 1 2 5) { catches = Some (AText (codes "a")) } ∷ []) ∷ []) ∷ []) (1 ∷ 2 ∷ []) ∷ runs (a_with (verify_with (op 1 ∷ op 190 ∷ op 87 ∷ op 42 ∷ op 176 ∷ op 87 ∷ op 1 ∷ op 176 ∷ []) (catch_all 1 2 2 ∷ catch_all 1 2 5 ∷ []) ∷ []) ∷ []) (1 ∷ 2 ∷ []) ∷ runs (a_with (verify_with (op 3 ∷ op 1 ∷ op 190 ∷ op 87 ∷ op 87 ∷ op 42 ∷ op 176 ∷ []) (catch_all 1 3 3 ∷ []) ∷ []) ∷ []) (1 ∷ 2 ∷ []) ∷ runs (a_with (verify_with (op 0 ∷ op 0 ∷ op 42 ∷ op 176 ∷ []) (catch_all 0 1 1 ∷ []) ∷ []) ∷ []) (1 ∷ 2 ∷ []) ∷ runs (a_with (verify_with (jump 167 2 ∷ op 0 ∷ op 42 ∷ op 176 ∷ []) (catch_all 0 1 2 ∷ []) ∷ []) ∷ []) (1 ∷ 2 ∷ []) ∷ []
+    ≡ Ends outcomes.OkNull (costs 0 0 0 1) ∷ raised null_pointer ∷ raised null_pointer ∷ Ends outcomes.OkNull (costs 0 0 0 1) ∷ Ends outcomes.OkNull (costs 0 0 0 1) ∷ Ends outcomes.OkNull (costs 0 0 0 1) ∷ Ends outcomes.OkNull (costs 0 0 0 1) ∷ Ends outcomes.OkNull (costs 0 0 0 1) ∷ raised null_pointer ∷ Ends outcomes.OkNull (costs 0 0 0 1) ∷ raised null_pointer ∷ Ends (outcomes.OkBytes (1 ∷ 2 ∷ [])) (costs 0 0 0 1) ∷ Stuck ∷ Ends (outcomes.OkBytes (1 ∷ 2 ∷ [])) (costs 0 0 0 1) ∷ Ends (outcomes.OkBytes (1 ∷ 2 ∷ [])) (costs 0 0 1 1) ∷ []
+unfolding int_wrap digits instruction_of simple code_of has_initialiser most_classes chain_of interfaces_from interfaces_above is_subclass is_subtype field_order resolve_method resolve_field select special_method field_count place_of static_place metered_program raw_program sandbox_program compute convert moved on_values load_element store_element array_length make_array charge_one charge_all answer host_answer perform native with_literal invoke effect pays used_class is_initialised mark with_constants constants_of initialise unwound settle step begin amounts turn turns metered_run steps plain_run
+caught = refl
+
+-- at the invoke of the caller
+caught_below : runs (a_with (method_with 9 (codes "f") ([]) None (code (op 3 ∷ op 1 ∷ op 190 ∷ op 177 ∷ []) []) ∷ verify_with (op 8 ∷ method 184 a_type (codes "f") ([]) None ∷ op 42 ∷ op 176 ∷ op 87 ∷ op 1 ∷ op 176 ∷ []) (catch_all 1 2 4 ∷ []) ∷ []) ∷ []) [] ∷ runs (a_with (method_with 9 (codes "f") ([]) None (code (op 1 ∷ op 190 ∷ op 177 ∷ []) []) ∷ verify_with (op 8 ∷ method 184 a_type (codes "f") ([]) None ∷ op 42 ∷ op 176 ∷ op 87 ∷ op 1 ∷ op 176 ∷ []) (catch_all 2 3 4 ∷ []) ∷ []) ∷ []) [] ∷ []
+    ≡ Ends outcomes.OkNull (costs 0 1 0 1) ∷ Ends (throws_plainly null_pointer) (costs 0 1 0 0) ∷ []
+unfolding int_wrap digits instruction_of simple code_of has_initialiser most_classes chain_of interfaces_from interfaces_above is_subclass is_subtype field_order resolve_method resolve_field select special_method field_count place_of static_place metered_program raw_program sandbox_program compute convert moved on_values load_element store_element array_length make_array charge_one charge_all answer host_answer perform native with_literal invoke effect pays used_class is_initialised mark with_constants constants_of initialise unwound settle step begin amounts turn turns metered_run steps plain_run
+caught_below = refl
+
+-- a plain run without a host, whose heap has this limit
+abbrev limited : ℕ → List Instruction → Option Report
+limited limit instructions =
+    plain_run (raw_program (a_with (verify_with instructions [] ∷ []) ∷ [])) [] (record { limit = Some limit; counting = Uncounted }) entry (1 ∷ 2 ∷ []) [] 100
+
+abbrev ran : Outcome → ℕ → Option Report
+ran outcome n = Some (record { outcome = outcome; costs = costs 0 0 0 0; steps = n; taken = 0 })
+
+-- an object that fits exactly is made
+limits : limited 24 (op 42 ∷ op 176 ∷ []) ∷ limited 23 (op 42 ∷ op 176 ∷ []) ∷ limited 48 (op 4 ∷ newarray 8 ∷ op 87 ∷ op 42 ∷ op 176 ∷ []) ∷ limited 47 (op 4 ∷ newarray 8 ∷ op 87 ∷ op 42 ∷ op 176 ∷ []) ∷ limited 40 (class 187 object ∷ op 87 ∷ op 42 ∷ op 176 ∷ []) ∷ limited 39 (class 187 object ∷ op 87 ∷ op 42 ∷ op 176 ∷ []) ∷ limited 48 (ldc (AText (codes "abcd")) ∷ op 87 ∷ op 42 ∷ op 176 ∷ []) ∷ limited 47 (ldc (AText (codes "abcd")) ∷ op 87 ∷ op 42 ∷ op 176 ∷ []) ∷ limited 56 (op 1 ∷ op 190 ∷ []) ∷ limited 55 (op 1 ∷ op 190 ∷ []) ∷ limited 72 (op 7 ∷ method 184 string (codes "valueOf") (int ∷ []) (Some string) ∷ op 87 ∷ op 42 ∷ op 176 ∷ []) ∷ limited 47 (op 7 ∷ method 184 string (codes "valueOf") (int ∷ []) (Some string) ∷ op 87 ∷ op 42 ∷ op 176 ∷ []) ∷ limited 56 (op 2 ∷ newarray 8 ∷ op 176 ∷ []) ∷ []
+    ≡ ran (outcomes.OkBytes (1 ∷ 2 ∷ [])) 2 ∷ ran (outcomes.HeapFull 0 24) 0 ∷ ran (outcomes.OkBytes (1 ∷ 2 ∷ [])) 5 ∷ ran (outcomes.HeapFull 24 24) 2 ∷ ran (outcomes.OkBytes (1 ∷ 2 ∷ [])) 4 ∷ ran (outcomes.HeapFull 24 16) 1 ∷ ran (outcomes.OkBytes (1 ∷ 2 ∷ [])) 4 ∷ ran (outcomes.HeapFull 24 24) 1 ∷ ran (throws_plainly null_pointer) 2 ∷ ran (outcomes.HeapFull 24 32) 2 ∷ ran (outcomes.OkBytes (1 ∷ 2 ∷ [])) 5 ∷ ran (outcomes.HeapFull 24 24) 2 ∷ ran (throws_plainly (codes "NegativeArraySizeException")) 2 ∷ []
+unfolding int_wrap digits instruction_of simple code_of has_initialiser most_classes chain_of interfaces_from interfaces_above is_subclass is_subtype field_order resolve_method resolve_field select special_method field_count place_of static_place metered_program raw_program sandbox_program compute convert moved on_values load_element store_element array_length make_array charge_one charge_all answer host_answer perform native with_literal invoke effect pays used_class is_initialised mark with_constants constants_of initialise unwound settle step begin amounts turn turns metered_run steps plain_run
+limits = refl
+
+abbrev hosted : List HostAnswer → List Instruction → Option Report
+hosted answers instructions =
+    plain_run (raw_program (a_with (verify_with (byte_of instructions) [] ∷ []) ∷ [])) [] (record { limit = None; counting = Uncounted }) entry (1 ∷ []) answers 100
+
+abbrev asked : ℕ → ℕ → ℕ → Option Report
+asked byte n taken = Some (record { outcome = outcomes.OkBytes (byte ∷ []); costs = costs 0 0 0 0; steps = n; taken = taken })
+
+-- taken from the front, and missing or of another kind there is no step
+host_answers : hosted (host.Word (pos 7) ∷ []) (op 42 ∷ method 182 object (codes "hashCode") ([]) (Some int) ∷ []) ∷ hosted (host.Word (pos 7) ∷ []) (op 42 ∷ method 184 (class_type (lang_name (codes "System"))) (codes "identityHashCode") (object ∷ []) (Some int) ∷ []) ∷ hosted (host.Word (pos 7) ∷ []) (op 1 ∷ method 184 (class_type (lang_name (codes "System"))) (codes "identityHashCode") (object ∷ []) (Some int) ∷ []) ∷ hosted (host.Nanos (pos 9) ∷ []) (method 184 (class_type (lang_name (codes "System"))) (codes "nanoTime") ([]) (Some long) ∷ op 136 ∷ []) ∷ hosted (host.Millis (pos 9) ∷ []) (method 184 (class_type (lang_name (codes "System"))) (codes "currentTimeMillis") ([]) (Some long) ∷ op 136 ∷ []) ∷ hosted (host.Word (negsuc 0) ∷ []) (op 42 ∷ method 182 object (codes "toString") ([]) (Some string) ∷ method 182 string (codes "length") ([]) (Some int) ∷ []) ∷ hosted [] (op 42 ∷ method 182 object (codes "hashCode") ([]) (Some int) ∷ []) ∷ hosted (host.Nanos (pos 7) ∷ []) (op 42 ∷ method 182 object (codes "hashCode") ([]) (Some int) ∷ []) ∷ hosted (host.Word (pos 7) ∷ []) (method 184 (class_type (lang_name (codes "System"))) (codes "nanoTime") ([]) (Some long) ∷ op 136 ∷ []) ∷ hosted (host.Word (pos 1) ∷ host.Word (pos 2) ∷ host.Word (pos 3) ∷ []) (op 42 ∷ method 182 object (codes "hashCode") ([]) (Some int) ∷ op 87 ∷ op 42 ∷ method 182 object (codes "hashCode") ([]) (Some int) ∷ []) ∷ []
+    ≡ asked 7 8 1 ∷ asked 7 8 1 ∷ asked 0 8 0 ∷ asked 9 8 1 ∷ asked 9 8 1 ∷ asked 11 9 1 ∷ None ∷ None ∷ None ∷ asked 2 11 2 ∷ []
+unfolding int_wrap digits instruction_of simple code_of has_initialiser most_classes chain_of interfaces_from interfaces_above is_subclass is_subtype field_order resolve_method resolve_field select special_method field_count place_of static_place metered_program raw_program sandbox_program compute convert moved on_values load_element store_element array_length make_array charge_one charge_all answer host_answer perform native with_literal invoke effect pays used_class is_initialised mark with_constants constants_of initialise unwound settle step begin amounts turn turns metered_run steps plain_run
+host_answers = refl
+
+abbrev s_type : Ty
+s_type = class_type (in_sandbox (codes "A"))
+
+abbrev accounter : Ty
+accounter = class_type (codes "djvm/Accounter")
+
+abbrev sandboxed : Class → Class
+sandboxed c = record c { superclass = Some (in_sandbox (lang_name (codes "Object"))) }
+
+-- rewritten code under these thresholds and this limit
+abbrev accounted : Thresholds → Option ℕ → List Method → Option Report
+accounted most limit methods =
+    plain_run (sandbox_program (sandboxed (class_with (in_sandbox (codes "A")) [] methods) ∷ [])) sandbox_prefix (record { limit = limit; counting = Accounted most }) (entry_of (in_sandbox (codes "A"))) (1 ∷ 2 ∷ []) [] 100
+
+abbrev counted : Outcome → Costs → ℕ → Option Report
+counted outcome charged n = Some (record { outcome = outcome; costs = charged; steps = n; taken = 0 })
+
+-- the object that stops a run is thrown where a sum passes, is thrown again by checkCatch alone, and leaves an initialiser too
+accounted_runs : accounted (at_most 99 9 9 9) None (verify_with (method 184 accounter (codes "recordJump") ([]) None ∷ method 184 accounter (codes "recordInvocation") ([]) None ∷ method 184 accounter (codes "recordInvocation") ([]) None ∷ method 184 accounter (codes "recordThrow") ([]) None ∷ method 184 accounter (codes "recordThrow") ([]) None ∷ method 184 accounter (codes "recordThrow") ([]) None ∷ op 42 ∷ op 176 ∷ []) ([]) ∷ []) ∷ accounted (at_most 99 9 9 9) None (verify_with (push 16 (pos 24) ∷ method 184 accounter (codes "recordAllocation") (int ∷ []) None ∷ op 2 ∷ method 184 accounter (codes "recordAllocation") (int ∷ []) None ∷ op 8 ∷ op 8 ∷ method 184 accounter (codes "recordArray") (int ∷ int ∷ []) None ∷ op 2 ∷ op 8 ∷ method 184 accounter (codes "recordArray") (int ∷ int ∷ []) None ∷ op 8 ∷ op 2 ∷ method 184 accounter (codes "recordArray") (int ∷ int ∷ []) None ∷ op 42 ∷ op 176 ∷ []) ([]) ∷ []) ∷ accounted (at_most 99 9 1 9) None (verify_with (method 184 accounter (codes "recordJump") ([]) None ∷ method 184 accounter (codes "recordJump") ([]) None ∷ op 42 ∷ op 176 ∷ []) ([]) ∷ []) ∷ accounted (at_most 99 1 9 9) None (verify_with (method 184 accounter (codes "recordInvocation") ([]) None ∷ method 184 accounter (codes "recordInvocation") ([]) None ∷ op 42 ∷ op 176 ∷ []) ([]) ∷ []) ∷ accounted (at_most 23 9 9 9) None (verify_with (push 16 (pos 24) ∷ method 184 accounter (codes "recordAllocation") (int ∷ []) None ∷ op 42 ∷ op 176 ∷ []) ([]) ∷ []) ∷ accounted (at_most 24 9 9 9) None (verify_with (push 16 (pos 24) ∷ method 184 accounter (codes "recordAllocation") (int ∷ []) None ∷ op 42 ∷ op 176 ∷ []) ([]) ∷ []) ∷ accounted (at_most 99 9 0 9) None (verify_with (method 184 accounter (codes "recordJump") ([]) None ∷ op 42 ∷ op 176 ∷ op 87 ∷ op 42 ∷ op 176 ∷ []) (catch_all 0 1 3 ∷ []) ∷ []) ∷ accounted (at_most 99 9 0 9) None (verify_with (method 184 accounter (codes "recordJump") ([]) None ∷ op 42 ∷ op 176 ∷ op 89 ∷ method 184 accounter (codes "checkCatch") (class_type (in_sandbox (lang_name (codes "Object"))) ∷ []) None ∷ op 87 ∷ op 42 ∷ op 176 ∷ []) (catch_all 0 1 3 ∷ []) ∷ []) ∷ accounted (at_most 99 9 0 9) None (verify_with (op 1 ∷ op 190 ∷ op 176 ∷ op 89 ∷ method 184 accounter (codes "checkCatch") (class_type (in_sandbox (lang_name (codes "Object"))) ∷ []) None ∷ op 87 ∷ op 42 ∷ op 176 ∷ []) (catch_all 0 2 3 ∷ []) ∷ []) ∷ accounted (at_most 99 9 0 9) None (verify_with (method 184 accounter (codes "recordJump") ([]) None ∷ op 42 ∷ op 176 ∷ op 87 ∷ method 184 accounter (codes "recordThrow") ([]) None ∷ op 42 ∷ op 176 ∷ []) (catch_all 0 1 3 ∷ []) ∷ []) ∷ accounted (at_most 99 9 0 9) (Some 40) (verify_with (method 184 accounter (codes "recordJump") ([]) None ∷ op 42 ∷ op 176 ∷ []) ([]) ∷ []) ∷ accounted (at_most 99 9 0 9) (Some 39) (verify_with (method 184 accounter (codes "recordJump") ([]) None ∷ op 42 ∷ op 176 ∷ []) ([]) ∷ []) ∷ accounted (at_most 99 9 0 9) None (initialiser_with (method 184 accounter (codes "recordJump") ([]) None ∷ op 177 ∷ []) ∷ verify_with (op 42 ∷ op 176 ∷ []) ([]) ∷ []) ∷ accounted (at_most 23 9 9 9) None (verify_with (op 7 ∷ method 184 (class_type (in_sandbox (lang_name (codes "String")))) (codes "valueOf") (int ∷ []) (Some (class_type (in_sandbox (lang_name (codes "String"))))) ∷ op 87 ∷ op 42 ∷ op 176 ∷ []) ([]) ∷ []) ∷ accounted (at_most 24 9 9 9) None (verify_with (op 7 ∷ method 184 (class_type (in_sandbox (lang_name (codes "String")))) (codes "valueOf") (int ∷ []) (Some (class_type (in_sandbox (lang_name (codes "String"))))) ∷ op 87 ∷ op 42 ∷ op 176 ∷ []) ([]) ∷ []) ∷ accounted (at_most 99 9 9 9) None (verify_with (op 1 ∷ op 190 ∷ []) ([]) ∷ []) ∷ []
+    ≡ counted (outcomes.OkBytes (1 ∷ 2 ∷ [])) (costs 0 2 1 3) 8 ∷ counted (outcomes.OkBytes (1 ∷ 2 ∷ [])) (costs 72 0 0 0) 15 ∷ counted (outcomes.Stopped charges.Jump) (costs 0 0 2 0) 2 ∷ counted (outcomes.Stopped charges.Invoke) (costs 0 2 0 0) 2 ∷ counted (outcomes.Stopped charges.Alloc) (costs 24 0 0 0) 2 ∷ counted (outcomes.OkBytes (1 ∷ 2 ∷ [])) (costs 24 0 0 0) 4 ∷ counted (outcomes.OkBytes (1 ∷ 2 ∷ [])) (costs 0 0 1 0) 4 ∷ counted (outcomes.Stopped charges.Jump) (costs 0 0 1 0) 3 ∷ counted (outcomes.OkBytes (1 ∷ 2 ∷ [])) (costs 0 0 0 0) 7 ∷ counted (outcomes.Stopped charges.Jump) (costs 0 0 1 0) 3 ∷ counted (outcomes.Stopped charges.Jump) (costs 0 0 1 0) 1 ∷ counted (outcomes.HeapFull 24 16) (costs 0 0 1 0) 1 ∷ counted (outcomes.Stopped charges.Jump) (costs 0 0 1 0) 1 ∷ counted (outcomes.Stopped charges.Alloc) (costs 24 0 0 0) 2 ∷ counted (outcomes.OkBytes (1 ∷ 2 ∷ [])) (costs 24 0 0 0) 5 ∷ counted (outcomes.Threw (in_sandbox (lang_name null_pointer)) messages.Null) (costs 0 0 0 0) 2 ∷ []
+unfolding int_wrap digits instruction_of simple code_of has_initialiser most_classes chain_of interfaces_from interfaces_above is_subclass is_subtype field_order resolve_method resolve_field select special_method field_count place_of static_place metered_program raw_program sandbox_program compute convert moved on_values load_element store_element array_length make_array charge_one charge_all answer host_answer perform native with_literal invoke effect pays used_class is_initialised mark with_constants constants_of initialise unwound settle step begin amounts turn turns metered_run steps plain_run
+accounted_runs = refl

@@ -1,0 +1,71 @@
+-- The laws of the model, from the lemmas.
+use Rattle.std.proofs.Common.{◌≡◌, [], ◌++◌, refl, sym, ap, ◌∙◌}
+use Rattle.std.specs.Option.{option_map}
+use Rattle.dj_names.specs.declared.descriptor.Desc.{Desc}
+use Rattle.dj_names.specs.Types.{Name, desc_map}
+use Rattle.dj_model.specs.Types.{Prefix}
+use Rattle.dj_model.specs.Instructions.{instruction_map}
+use Rattle.dj_model.specs.Program.{Program, Code, class_at, class_map, program_map}
+use Rattle.dj_model.specs.Linking.{static_place}
+use Rattle.dj_model.specs.Effects.{effect, pays, used_class}
+use Rattle.dj_model.specs.Mapping.{IsNameMap, same_names_map}
+use Rattle.dj_model.specs.Laws.{IsMapped, CommutesWithNames, ReadsNoCode, StepCommutesWithNames, SandboxHasNames, HasFewFrames, InitialisesOnce, HasOneEnd, IsJudged}
+use Rattle.dj_model.specs.Rows.{WorkedRuns}
+use Rattle.dj_model.proofs.Frames.{begin_few, step_few, marked}
+use Rattle.dj_model.proofs.Once.{not_yet, all_differ, stays}
+use Rattle.dj_model.proofs.Turns.{same_end}
+use Rattle.dj_model.proofs.Shapes.{one_shape_fault, no_fault_with_shape, shape_or_fault}
+use Rattle.dj_model.proofs.Rows as rows
+use Rattle.dj_model.proofs.MappedNames as names
+use Rattle.dj_model.proofs.MappedEffects as effects
+use Rattle.dj_model.proofs.MappedSteps as steps
+use Rattle.dj_model.proofs.NameMaps.{front_at, front_statics, same_map, sandbox_map, accounter_apart, instruction_same, part_same, effect_same, option_same}
+
+mapped_from : (f : Name → Name) (g : Code → Code) (p q : Prefix) (is : IsNameMap f p q) (program other : Program)
+    → ((name : Name) → class_at other (f name) ≡ option_map (class_map f g) (class_at program name))
+    → ((class name : Name) (desc : Desc) → static_place other (f class) name (desc_map f desc) ≡ static_place program class name desc)
+    → IsMapped f p q program other
+mapped_from f g p q is program other at statics = record {
+  does = effects.effect_mapped f g p q is program other at statics;
+  paid = effects.pays_alike f g p q is program other at statics;
+  used = effects.used_mapped f g p q is program other at statics;
+}
+
+pub effect_commutes_with_names : CommutesWithNames
+effect_commutes_with_names f g p q program front is apart = mapped_from f g p q is program (front ++ program_map f g program)
+    (λ name. front_at f front (program_map f g program) apart name ∙ names.class_mapped f g p q is program name)
+    (λ class name desc. front_statics f front (program_map f g program) apart class name (desc_map f desc) ∙ names.static_place_alike f g p q is program class name desc)
+
+pub effect_reads_no_code : ReadsNoCode
+effect_reads_no_code g p program =
+    let m : IsMapped same_names_map p p program (program_map same_names_map g program) =
+    effect_commutes_with_names same_names_map g p p program [] (same_map p) tt in
+    record {
+      does = λ terms own i x.
+          ap (λ j. effect (program_map same_names_map g program) p terms own j x) (sym (instruction_same i))
+          ∙ (ap (λ y. effect (program_map same_names_map g program) p terms own (instruction_map same_names_map i) y) (sym (part_same x))
+          ∙ (m.does terms own i x ∙ effect_same (effect program p terms own i x)));
+      paid = λ i operands. ap (λ j. pays (program_map same_names_map g program) p j operands) (sym (instruction_same i)) ∙ m.paid i operands;
+      used = λ i. ap (λ j. used_class (program_map same_names_map g program) p j) (sym (instruction_same i)) ∙ (m.used i ∙ option_same same_names_map (λ x. refl) (used_class program p i));
+    }
+
+pub step_commutes_with_names : StepCommutesWithNames
+step_commutes_with_names f p q program terms s is keeps = steps.step_mapped f p q is program terms keeps s
+
+pub sandbox_has_names : SandboxHasNames
+sandbox_has_names = (sandbox_map, accounter_apart)
+
+pub worked_runs : WorkedRuns
+worked_runs = record { metered = rows.metered; plain = rows.plain }
+
+pub few_frames : HasFewFrames
+few_frames = record { begins = begin_few; goes_on = step_few }
+
+pub initialised_once : InitialisesOnce
+initialised_once = record { not_before = not_yet; differ = all_differ; marked = marked; stays = stays }
+
+pub one_end : HasOneEnd
+one_end = same_end
+
+pub shape_is_judged : IsJudged
+shape_is_judged = record { one = one_shape_fault; none = no_fault_with_shape; decided = shape_or_fault }

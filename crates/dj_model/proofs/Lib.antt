@@ -1,0 +1,21 @@
+mod Rows
+pub mod MappedNames
+pub mod MappedHeaps
+pub mod MappedMembers
+pub mod MappedEffects
+pub mod Flows
+pub mod MappedSteps
+pub mod NameMaps
+pub mod LawProofs
+pub mod Shapes
+pub mod Turns
+pub mod Frames
+pub mod Once
+mod OpcodeFacts
+mod ValueFacts
+mod RunFacts
+mod CallFacts
+mod NativeFacts
+mod LinkFacts
+mod ShapeFacts
+pub mod Growth

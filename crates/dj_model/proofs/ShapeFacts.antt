@@ -1,0 +1,177 @@
+-- The shape of small codes.
+use Rattle.std.proofs.Common.{◌≡◌, true, false, pos, ℕ, zero, suc, List, [], ◌∷◌, length, Option, Some, None, nat_le, codes, refl, if◌then◌else◌}
+use Rattle.dj_names.specs.declared.descriptor.Kind.{Kind}
+use Rattle.dj_names.specs.declared.descriptor.Kind.TheVariants as kinds
+use Rattle.dj_names.specs.declared.descriptor.Base.TheVariants as bases
+use Rattle.dj_names.specs.declared.descriptor.Ty.{Ty}
+use Rattle.dj_names.specs.Types.{base_type}
+use Rattle.dj_names.specs.Library.{object, int, long}
+use Rattle.dj_ops.specs.declared.frames.VType.{VType}
+use Rattle.dj_ops.specs.declared.frames.VType.TheVariants as types
+use Rattle.dj_ops.specs.declared.frames.Form.{Form}
+use Rattle.dj_ops.specs.declared.frames.Form.TheVariants as forms
+use Rattle.dj_ops.specs.declared.frames.Frame.{Frame}
+use Rattle.dj_model.specs.Instructions.{Instruction}
+use Rattle.dj_model.specs.Opcodes.{instruction_of, simple}
+use Rattle.dj_model.specs.Numbers.{is_wide}
+use Rattle.dj_model.specs.Program.{Code, Range}
+use Rattle.dj_model.specs.Values.{in_slots, moved}
+use Rattle.dj_model.specs.Kinds.{Signature, signature_of, Placed, Map, Read, Faulty, NoMap, frames_after, map_of}
+use Rattle.dj_model.specs.Shape.{after, state_before}
+use Rattle.dj_model.specs.Rows.{op, iinc, jump, class, field, method, invokeinterface, catch_all, method_desc}
+use Rattle.dj_model.proofs.Shapes.{holds_test}
+
+-- the number of the first of so many instructions that doesn't hold, from this one on
+abbrev first_from : Signature → Code → List Placed → ℕ → ℕ → Option ℕ
+first_from signature code placed n zero = None
+first_from signature code placed n (suc more) = if holds_test signature code placed n then first_from signature code placed (suc n) more else Some n
+
+pub data Judged : Type 0 where
+  Shape : Judged
+  Fault : Option ℕ → Judged
+
+abbrev judged_by : Option ℕ → Judged
+judged_by None = Shape
+judged_by (Some n) = Fault (Some n)
+
+abbrev judged_map : Signature → Code → Map → Judged
+judged_map signature code (Read placed) = judged_by (first_from signature code placed 0 (length code.instructions))
+judged_map signature code (Faulty at) = Fault (Some at)
+judged_map signature code NoMap = Fault None
+
+abbrev judged : Signature → Code → Judged
+judged signature code =
+    if nat_le (length (in_slots is_wide signature.parameters)) code.max_locals then judged_map signature code (map_of signature code) else Fault (Some 0)
+
+-- a method that takes and gives a reference
+abbrev takes_array : Signature
+takes_array = record { parameters = kinds.Ref ∷ []; result = Some kinds.Ref }
+
+abbrev of : List Instruction → List Frame → List Range → Judged
+of instructions frames ranges = judged takes_array (record { max_stack = 2; max_locals = 3; instructions = instructions; ranges = ranges; frames = Some frames })
+
+abbrev frame : ℕ → Form → Frame
+frame at form = record { at = at; form = form }
+
+abbrev plain : List Instruction → Judged
+plain instructions = of instructions [] []
+
+straight : plain (op 42 ∷ op 176 ∷ []) ∷ plain (op 176 ∷ []) ∷ plain (op 42 ∷ []) ∷ plain (op 3 ∷ op 172 ∷ []) ∷ plain (op 3 ∷ op 176 ∷ []) ∷ plain (op 177 ∷ []) ∷ plain (op 0 ∷ op 11 ∷ op 176 ∷ [])
+    ∷ plain (op 42 ∷ op 42 ∷ op 42 ∷ op 176 ∷ []) ∷ plain (op 42 ∷ op 176 ∷ op 42 ∷ op 176 ∷ []) ∷ []
+    ≡ Shape ∷ Fault (Some 0) ∷ Fault (Some 0) ∷ Fault (Some 1) ∷ Fault (Some 1) ∷ Fault (Some 0) ∷ Fault (Some 1) ∷ Fault (Some 2) ∷ Fault (Some 2) ∷ []
+unfolding after instruction_of simple state_before frames_after moved
+straight = refl
+
+-- iconst_0, istore_1, L: iload_1, ifeq E, iinc 1 1, goto L, E: aload_0, areturn
+abbrev loop : List Instruction
+loop = op 3 ∷ op 60 ∷ op 27 ∷ jump 153 6 ∷ iinc 1 (pos 1) ∷ jump 167 2 ∷ op 42 ∷ op 176 ∷ []
+
+loops : of loop (frame 2 (forms.Append (types.Integer ∷ [])) ∷ frame 6 forms.Same ∷ []) []
+    ∷ of loop (frame 6 (forms.Append (types.Integer ∷ [])) ∷ []) []
+    ∷ of loop (frame 2 (forms.Append (types.Integer ∷ [])) ∷ []) []
+    ∷ of loop (frame 2 (forms.Append (types.Null ∷ [])) ∷ frame 6 forms.Same ∷ []) []
+    ∷ of loop (frame 2 (forms.Append (types.Integer ∷ [])) ∷ frame 6 (forms.Chop 1) ∷ []) []
+    ∷ of loop (frame 2 (forms.Append (types.Integer ∷ [])) ∷ frame 6 (forms.Append (types.Integer ∷ [])) ∷ []) []
+    ∷ of loop (frame 2 (forms.Append (types.Integer ∷ [])) ∷ frame 6 (forms.Append (types.Top ∷ [])) ∷ []) []
+    ∷ of loop (frame 2 (forms.Append (types.Integer ∷ [])) ∷ frame 6 (forms.Stack1 types.Null) ∷ []) []
+    ∷ of loop (frame 2 forms.Same ∷ frame 6 forms.Same ∷ []) []
+    ∷ of loop (frame 2 (forms.Full (types.Object 5 ∷ types.Integer ∷ []) []) ∷ frame 6 (forms.Full (types.UninitializedThis ∷ []) []) ∷ []) []
+    ∷ []
+    ≡ Shape ∷ Fault (Some 5) ∷ Fault (Some 3) ∷ Fault (Some 1) ∷ Shape ∷ Fault (Some 3) ∷ Shape ∷ Fault (Some 3) ∷ Fault (Some 2) ∷ Shape ∷ []
+unfolding after instruction_of simple state_before frames_after moved
+loops = refl
+
+-- after a jump there has to be a frame; a jump to itself is one; a switch has all its targets
+ends_need_frames : of (jump 167 2 ∷ op 0 ∷ op 42 ∷ op 176 ∷ []) (frame 2 forms.Same ∷ []) [] ∷ of (jump 167 2 ∷ op 0 ∷ op 42 ∷ op 176 ∷ []) (frame 1 forms.Same ∷ frame 2 forms.Same ∷ []) []
+    ∷ of (jump 167 0 ∷ []) (frame 0 forms.Same ∷ []) [] ∷ of (jump 167 0 ∷ []) [] [] ∷ of (op 1 ∷ op 191 ∷ []) [] [] ∷ of (op 1 ∷ op 191 ∷ op 42 ∷ op 176 ∷ []) [] [] ∷ []
+    ≡ Fault (Some 1) ∷ Shape ∷ Shape ∷ Fault (Some 0) ∷ Shape ∷ Fault (Some 2) ∷ []
+unfolding after instruction_of simple state_before frames_after moved
+ends_need_frames = refl
+
+-- the parameters flow into a frame of the first instruction
+first_frames : of (op 42 ∷ op 176 ∷ []) (frame 0 (forms.Append (types.Integer ∷ [])) ∷ []) [] ∷ of (op 42 ∷ op 176 ∷ []) (frame 0 (forms.Append (types.Top ∷ [])) ∷ []) []
+    ∷ of (op 1 ∷ op 176 ∷ []) (frame 0 (forms.Chop 1) ∷ []) [] ∷ of (op 42 ∷ op 176 ∷ []) (frame 0 (forms.Chop 1) ∷ []) [] ∷ of (op 42 ∷ op 176 ∷ []) (frame 0 (forms.Stack1 types.Null) ∷ []) [] ∷ []
+    ≡ Fault (Some 0) ∷ Shape ∷ Shape ∷ Fault (Some 0) ∷ Fault (Some 0) ∷ []
+unfolding after instruction_of simple state_before frames_after moved
+first_frames = refl
+
+-- frames that tell no kinds, or don't fit; two slots each for two longs
+abbrev before_end : Form → Judged
+before_end form = of (op 0 ∷ op 0 ∷ op 1 ∷ op 176 ∷ []) (frame 2 form ∷ []) []
+
+told_frames : before_end (forms.Append (types.Float ∷ [])) ∷ before_end (forms.Append (types.Double ∷ [])) ∷ before_end (forms.Append (types.Uninitialized 0 ∷ [])) ∷ before_end (forms.Append (types.Uninitialized 9 ∷ []))
+    ∷ before_end (forms.Chop 1) ∷ before_end (forms.Chop 2) ∷ before_end (forms.Stack1 types.Top) ∷ before_end (forms.Append (types.Top ∷ types.Top ∷ types.Top ∷ [])) ∷ before_end (forms.Append (types.Top ∷ types.Top ∷ []))
+    ∷ before_end (forms.Full [] (types.Null ∷ types.Null ∷ types.Null ∷ [])) ∷ before_end (forms.Full (types.Long ∷ types.Long ∷ []) []) ∷ before_end (forms.Full [] (types.Long ∷ types.Null ∷ [])) ∷ []
+    ≡ Fault (Some 2) ∷ Fault (Some 2) ∷ Fault (Some 2) ∷ Fault (Some 2) ∷ Shape ∷ Fault (Some 2) ∷ Fault (Some 2) ∷ Fault (Some 2) ∷ Shape
+    ∷ Fault (Some 2) ∷ Fault (Some 2) ∷ Fault (Some 2) ∷ []
+unfolding after instruction_of simple state_before frames_after moved
+told_frames = refl
+
+-- goto N, D: aload_0, areturn, N: new, goto D: what new made is named by its number
+abbrev made_at : ℕ → Judged
+made_at n = of (jump 167 3 ∷ op 42 ∷ op 176 ∷ class 187 object ∷ jump 167 5 ∷ op 87 ∷ jump 167 1 ∷ [])
+    (frame 1 forms.Same ∷ frame 3 forms.Same ∷ frame 5 (forms.Stack1 (types.Uninitialized n)) ∷ []) []
+
+uninitialised : made_at 3 ∷ made_at 1 ∷ made_at 7 ∷ [] ≡ Shape ∷ Fault (Some 5) ∷ Fault (Some 5) ∷ []
+unfolding after instruction_of simple state_before frames_after moved
+uninitialised = refl
+
+-- frames are told from the one before, and the first from the parameters
+abbrev two_frames : Form → Form → Judged
+two_frames a b = of (op 3 ∷ op 60 ∷ op 0 ∷ op 0 ∷ op 42 ∷ op 176 ∷ []) (frame 2 a ∷ frame 3 b ∷ []) []
+
+frames_in_order : two_frames (forms.Append (types.Integer ∷ [])) (forms.Chop 2) ∷ two_frames (forms.Append (types.Integer ∷ [])) (forms.Chop 1) ∷ two_frames forms.Same (forms.Append (types.Integer ∷ []))
+    ∷ two_frames (forms.Append (types.Integer ∷ [])) (forms.Append (types.Top ∷ types.Top ∷ [])) ∷ two_frames (forms.Chop 1) (forms.Append (types.Null ∷ [])) ∷ []
+    ≡ Fault (Some 4) ∷ Shape ∷ Fault (Some 2) ∷ Fault (Some 3) ∷ Fault (Some 2) ∷ []
+unfolding after instruction_of simple state_before frames_after moved
+frames_in_order = refl
+
+-- handlers: iconst_0, istore_1, iconst_0, istore_1, aload_0, areturn, H: pop, aload_0, areturn
+abbrev handling : List Frame → ℕ → ℕ → Judged
+handling frames start end =
+    of (op 3 ∷ op 60 ∷ op 3 ∷ op 60 ∷ op 42 ∷ op 176 ∷ op 87 ∷ op 42 ∷ op 176 ∷ []) frames (catch_all start end 6 ∷ [])
+
+abbrev caught_with : List VType → List VType → List Frame
+caught_with locals stack = frame 6 (forms.Full locals stack) ∷ []
+
+handlers : handling (caught_with (types.Null ∷ []) (types.Null ∷ [])) 0 6 ∷ handling [] 0 6 ∷ handling (caught_with (types.Null ∷ []) (types.Integer ∷ [])) 0 6
+    ∷ handling (caught_with (types.Null ∷ []) []) 0 6 ∷ handling (caught_with (types.Null ∷ []) (types.Null ∷ types.Null ∷ [])) 0 6
+    ∷ handling (caught_with (types.Null ∷ types.Integer ∷ []) (types.Null ∷ [])) 2 6 ∷ handling (caught_with (types.Null ∷ types.Integer ∷ []) (types.Null ∷ [])) 1 6
+    ∷ handling (caught_with (types.Null ∷ types.Integer ∷ []) (types.Null ∷ [])) 0 2 ∷ []
+    ≡ Shape ∷ Fault (Some 6) ∷ Fault (Some 6) ∷ Fault (Some 6) ∷ Fault (Some 6) ∷ Shape ∷ Fault (Some 1) ∷ Fault (Some 0) ∷ []
+unfolding after instruction_of simple state_before frames_after moved
+handlers = refl
+
+-- parameters
+abbrev with_parameters : List Kind → ℕ → Judged
+with_parameters parameters max_locals =
+    judged (record { parameters = parameters; result = None }) (record { max_stack = 0; max_locals = max_locals; instructions = op 177 ∷ []; ranges = []; frames = Some [] })
+
+parameters_fit : with_parameters [] 0 ∷ with_parameters (kinds.Ref ∷ []) 0 ∷ with_parameters (kinds.Ref ∷ kinds.Long ∷ []) 2 ∷ with_parameters (kinds.Ref ∷ kinds.Long ∷ []) 3 ∷ []
+    ≡ Shape ∷ Fault (Some 0) ∷ Fault (Some 0) ∷ Shape ∷ []
+unfolding after instruction_of simple state_before frames_after
+parameters_fit = refl
+
+no_map : judged takes_array (record { max_stack = 2; max_locals = 3; instructions = op 42 ∷ op 176 ∷ []; ranges = []; frames = None }) ≡ Fault None
+no_map = refl
+
+-- calls and fields, by their descriptors
+abbrev f_type : Ty
+f_type = base_type bases.Float
+
+calls_and_fields : plain (op 42 ∷ op 3 ∷ method 182 object (codes "m") (int ∷ []) (Some object) ∷ op 176 ∷ []) ∷ plain (op 42 ∷ op 42 ∷ method 182 object (codes "m") (int ∷ []) (Some object) ∷ op 176 ∷ [])
+    ∷ plain (op 3 ∷ op 3 ∷ method 182 object (codes "m") (int ∷ []) (Some object) ∷ op 176 ∷ []) ∷ plain (op 3 ∷ method 184 object (codes "m") (int ∷ []) (Some object) ∷ op 176 ∷ [])
+    ∷ plain (op 42 ∷ method 184 object (codes "m") [] None ∷ op 176 ∷ []) ∷ plain (op 42 ∷ method 184 object (codes "m") [] (Some long) ∷ op 88 ∷ op 176 ∷ []) ∷ plain (op 42 ∷ method 184 object (codes "m") [] (Some f_type) ∷ op 87 ∷ op 176 ∷ [])
+    ∷ plain (method 184 object (codes "m") [] (Some long) ∷ op 88 ∷ op 42 ∷ op 176 ∷ []) ∷ plain (op 42 ∷ method 184 object (codes "m") (f_type ∷ []) None ∷ op 176 ∷ [])
+    ∷ plain (op 42 ∷ op 3 ∷ invokeinterface 2 object (codes "m") (int ∷ []) (Some object) ∷ op 176 ∷ []) ∷ plain (op 42 ∷ op 3 ∷ invokeinterface 1 object (codes "m") (int ∷ []) (Some object) ∷ op 176 ∷ [])
+    ∷ plain (op 42 ∷ field 180 object (codes "f") object ∷ op 176 ∷ []) ∷ plain (op 3 ∷ field 180 object (codes "f") object ∷ op 176 ∷ []) ∷ plain (op 42 ∷ op 3 ∷ field 181 object (codes "f") int ∷ op 42 ∷ op 176 ∷ [])
+    ∷ plain (op 42 ∷ op 42 ∷ field 181 object (codes "f") int ∷ op 42 ∷ op 176 ∷ []) ∷ plain (field 178 object (codes "f") object ∷ op 176 ∷ []) ∷ plain (op 3 ∷ field 179 object (codes "f") int ∷ op 42 ∷ op 176 ∷ [])
+    ∷ plain (op 42 ∷ field 179 object (codes "f") int ∷ op 42 ∷ op 176 ∷ []) ∷ plain (field 178 object (codes "f") f_type ∷ op 87 ∷ op 42 ∷ op 176 ∷ []) ∷ []
+    ≡ Shape ∷ Fault (Some 2) ∷ Fault (Some 2) ∷ Shape ∷ Shape ∷ Fault (Some 1) ∷ Fault (Some 1) ∷ Shape ∷ Fault (Some 1) ∷ Shape ∷ Fault (Some 2) ∷ Shape ∷ Fault (Some 1) ∷ Shape ∷ Fault (Some 2)
+    ∷ Shape ∷ Shape ∷ Fault (Some 1) ∷ Fault (Some 0) ∷ []
+unfolding after instruction_of simple state_before frames_after moved
+calls_and_fields = refl
+
+signatures : signature_of true (method_desc (int ∷ long ∷ object ∷ []) None) ∷ signature_of false (method_desc (int ∷ []) (Some long)) ∷ signature_of true (method_desc (f_type ∷ []) None) ∷ signature_of true (method_desc [] (Some f_type)) ∷ []
+    ≡ Some (record { parameters = kinds.Int ∷ kinds.Long ∷ kinds.Ref ∷ []; result = None }) ∷ Some (record { parameters = kinds.Ref ∷ kinds.Int ∷ []; result = Some kinds.Long }) ∷ None ∷ None ∷ []
+signatures = refl

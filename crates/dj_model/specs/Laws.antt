@@ -1,0 +1,187 @@
+-- Laws of the model.
+use Rattle.std.specs.Prelude.{◌≡◌, ◌≢◌, ℕ, ◌+◌, ◌≤◌, ◌<◌, ◌⊎◌, ⊤, pos, List, [], ◌∷◌, ◌++◌, map, length, replicate, Option, Some, None, Bool, IsTrue, IsFalse}
+use Rattle.std.specs.Option.{option_map}
+use Rattle.std.specs.List.{AllByRecursion}
+use Rattle.dj_names.specs.declared.run.Value.{Value}
+use Rattle.dj_names.specs.declared.run.Outcome.{Outcome}
+use Rattle.dj_names.specs.declared.run.Costs.{Costs}
+use Rattle.dj_names.specs.declared.run.Thresholds.{Thresholds}
+use Rattle.dj_edge.specs.declared.host.HostAnswer.{HostAnswer}
+use Rattle.dj_names.specs.declared.run.Outcome.TheVariants as outcomes
+use Rattle.dj_names.specs.declared.run.Charge.{Charge}
+use Rattle.dj_names.specs.declared.run.Charge.TheVariants as charges
+use Rattle.dj_names.specs.declared.descriptor.Ty.{Ty}
+use Rattle.dj_names.specs.Heaps.{Object, Instance, Array, Text, Heap, object_size}
+use Rattle.dj_names.specs.Types.{Name, in_sandbox, sandbox_prefix}
+use Rattle.dj_names.specs.Library.{below_object, accounter_class, accounter_methods, stop_class}
+use Rattle.dj_model.specs.Types.{Prefix, Declared}
+use Rattle.dj_model.specs.Instructions.{Instruction, instruction_map}
+use Rattle.dj_model.specs.Program.{Program, Class, Code, code_map, program_map}
+use Rattle.dj_model.specs.Libraries.{library_class}
+use Rattle.dj_model.specs.State.{Terms, State, state_map, Part, part_map, effect_map, Account}
+use Rattle.dj_model.specs.Effects.{effect, pays, used_class}
+use Rattle.dj_model.specs.Mapping.{IsNameMap, same_names_map, AreApart, KeepsStop, answer_map}
+use Rattle.dj_model.specs.Initialisation.{most_frames, is_initialised, mark, not_initialised}
+use Rattle.dj_model.specs.Step.{Answer, Went, Ended, IllFormed, step}
+use Rattle.dj_model.specs.Charging.{no_costs}
+use Rattle.dj_model.specs.Runs.{begin, RunsTo, empty_heap, Run, Goes, Ends, Stuck, turn, metered_run}
+use Rattle.dj_model.specs.Kinds.{Signature}
+use Rattle.dj_model.specs.Shape.{HasShape, IsShapeFault}
+
+-- ---- names and code
+
+-- what an instruction does, pays and uses where each class has another name, each method other code, and more classes stand in front, is what
+-- it does, pays and uses, with the other names
+pub record IsMapped (f : Name → Name) (p q : Prefix) (program other : Program) : Type 0 where
+  pub does : (terms : Terms) (own : Name) (i : Instruction) (x : Part)
+      → effect other q terms (f own) (instruction_map f i) (part_map f x) ≡ option_map (effect_map f) (effect program p terms own i x)
+  pub paid : (i : Instruction) (operands : List Value) → pays other q (instruction_map f i) operands ≡ pays program p i operands
+  pub used : (i : Instruction) → used_class other q (instruction_map f i) ≡ option_map f (used_class program p i)
+
+abbrev pub CommutesWithNames : Type 0
+CommutesWithNames = (f : Name → Name) (g : Code → Code) (p q : Prefix) (program : Program) (front : List Class)
+    → IsNameMap f p q → AreApart f front → IsMapped f p q program (front ++ program_map f g program)
+
+-- no code is read
+pub record IsSame (p : Prefix) (program other : Program) : Type 0 where
+  pub does : (terms : Terms) (own : Name) (i : Instruction) (x : Part) → effect other p terms own i x ≡ effect program p terms own i x
+  pub paid : (i : Instruction) (operands : List Value) → pays other p i operands ≡ pays program p i operands
+  pub used : (i : Instruction) → used_class other p i ≡ used_class program p i
+
+abbrev pub ReadsNoCode : Type 0
+ReadsNoCode = (g : Code → Code) (p : Prefix) (program : Program) → IsSame p program (program_map same_names_map g program)
+
+abbrev pub StepCommutesWithNames : Type 0
+StepCommutesWithNames = (f : Name → Name) (p q : Prefix) (program : Program) (terms : Terms) (s : State) → IsNameMap f p q → KeepsStop f terms.counting
+    → step (program_map f (code_map f) program) q terms (state_map f s) ≡ answer_map f (step program p terms s)
+
+-- the names of rewritten classes are such, and the accounter and the object that stops a run have others
+abbrev pub SandboxHasNames : Type 0
+SandboxHasNames = IsNameMap in_sandbox [] sandbox_prefix
+    × AreApart in_sandbox (library_class (below_object accounter_class accounter_methods) ∷ library_class (below_object stop_class []) ∷ [])
+
+-- ---- frames and ends
+
+abbrev pub AnswerFew : Answer → Type 0
+AnswerFew (Went s) = length s.frames ≤ most_frames
+AnswerFew (Ended outcome s) = ⊤
+AnswerFew IllFormed = ⊤
+
+-- never more than 1,024 frames stand above each other
+pub record HasFewFrames : Type 0 where
+  pub begins : (program : Program) (prefix : Prefix) (terms : Terms) (entry : Declared) (input : List ℕ) (answers : List HostAnswer)
+      → AnswerFew (begin program prefix terms entry input answers)
+  pub goes_on : (program : Program) (prefix : Prefix) (terms : Terms) (s : State) → length s.frames ≤ most_frames → AnswerFew (step program prefix terms s)
+
+abbrev pub DifferFrom : Name → List Name → Type 0
+DifferFrom class [] = ⊤
+DifferFrom class (other ∷ classes) = (class ≢ other) × DifferFrom class classes
+
+abbrev pub AllDiffer : List Name → Type 0
+AllDiffer [] = ⊤
+AllDiffer (class ∷ classes) = DifferFrom class classes × AllDiffer classes
+
+-- each class is initialised at most once: those that are initialised now weren't before, differ and count as initialised from then on
+pub record InitialisesOnce : Type 0 where
+  pub not_before : (program : Program) (flags : List Bool) (classes : List Name)
+      → AllByRecursion (λ class. IsFalse (is_initialised program flags class)) (not_initialised program flags classes)
+  pub differ : (program : Program) (flags : List Bool) (classes : List Name) → AllDiffer (not_initialised program flags classes)
+  pub marked : (program : Program) (class : Name) (flags : List Bool) → IsTrue (is_initialised program (mark program class flags) class)
+  pub stays : (program : Program) (prefix : Prefix) (terms : Terms) (class : Name) (s t : State) → step program prefix terms s ≡ Went t
+      → IsTrue (is_initialised program s.initialised class) → IsTrue (is_initialised program t.initialised class)
+
+-- a metered run ends in one way, at one cost
+abbrev pub HasOneEnd : Type 0
+HasOneEnd = (program : Program) (entry : Declared) (input : List ℕ) (most : Thresholds) (a b : Outcome) (c d : Costs)
+    → RunsTo program entry input most a c → RunsTo program entry input most b d → (a ≡ b) × (c ≡ d)
+
+-- ---- shape
+
+-- code without shape is reported in one way, code with shape in none, and each code is one of them
+pub record IsJudged : Type 0 where
+  pub one : (signature : Signature) (code : Code) (a b : Option ℕ) → IsShapeFault signature code a → IsShapeFault signature code b → a ≡ b
+  pub none : (signature : Signature) (code : Code) (n : Option ℕ) → HasShape signature code → IsShapeFault signature code n → ⊥
+  pub decided : (signature : Signature) (code : Code) → HasShape signature code ⊎ ((n : Option ℕ) × IsShapeFault signature code n)
+
+-- ---- heaps
+
+-- an object of the same class that holds as much: fields and elements of 0; a text is as it is
+abbrev pub blank : Object Ty → Object Ty
+blank (Instance class fields) = Instance class (replicate (length fields) 0)
+blank (Array class element contents) = Array class element (replicate (length contents) (pos 0))
+blank (Text class units) = Text class units
+
+-- the sum of the sizes
+abbrev pub sizes_of : List (Object Ty) → ℕ
+sizes_of [] = 0
+sizes_of (object ∷ objects) = object_size object + sizes_of objects
+
+-- objects keep their class, their length and their place, others come after them, and their sizes are added
+pub record Grows (before after : Heap Ty) : Type 0 where
+  pub more : List (Object Ty)
+  pub objects : map blank after.objects ≡ map blank before.objects ++ map blank more
+  pub used : after.used ≡ before.used + sizes_of more
+
+abbrev pub IsSum : Heap Ty → Type 0
+IsSum heap = heap.used ≡ sizes_of heap.objects
+
+abbrev pub AnswerGrows : Heap Ty → Answer → Type 0
+AnswerGrows heap (Went t) = Grows heap t.heap
+AnswerGrows heap (Ended outcome t) = Grows heap t.heap
+AnswerGrows heap IllFormed = ⊤
+
+pub record HeapsGrow : Type 0 where
+  pub steps : (program : Program) (prefix : Prefix) (terms : Terms) (s : State) → AnswerGrows s.heap (step program prefix terms s)
+  -- so the used bytes stay the sum of the objects' sizes
+  pub sums : (before after : Heap Ty) → Grows before after → IsSum before → IsSum after
+  pub begins : (program : Program) (prefix : Prefix) (terms : Terms) (entry : Declared) (input : List ℕ) (answers : List HostAnswer)
+      → AnswerGrows empty_heap (begin program prefix terms entry input answers)
+
+-- ---- costs
+
+pub record IsLess (before after : Costs) : Type 0 where
+  pub alloc : before.alloc ≤ after.alloc
+  pub invoke : before.invoke ≤ after.invoke
+  pub jump : before.jump ≤ after.jump
+  pub throw : before.throw ≤ after.throw
+
+-- no sum is above its threshold
+pub record IsWithin (most : Thresholds) (c : Costs) : Type 0 where
+  pub alloc : c.alloc ≤ most.alloc
+  pub invoke : c.invoke ≤ most.invoke
+  pub jump : c.jump ≤ most.jump
+  pub throw : c.throw ≤ most.throw
+
+-- this sum is, and no other
+abbrev pub IsOver : Thresholds → Charge → Costs → Type 0
+IsOver most charges.Alloc c = (most.alloc < c.alloc) × (c.invoke ≤ most.invoke) × (c.jump ≤ most.jump) × (c.throw ≤ most.throw)
+IsOver most charges.Invoke c = (c.alloc ≤ most.alloc) × (most.invoke < c.invoke) × (c.jump ≤ most.jump) × (c.throw ≤ most.throw)
+IsOver most charges.Jump c = (c.alloc ≤ most.alloc) × (c.invoke ≤ most.invoke) × (most.jump < c.jump) × (c.throw ≤ most.throw)
+IsOver most charges.Throw c = (c.alloc ≤ most.alloc) × (c.invoke ≤ most.invoke) × (c.jump ≤ most.jump) × (most.throw < c.throw)
+
+-- a run that is stopped by a charge has that sum above its threshold, and any other end none
+abbrev pub IsEndWithin : Thresholds → Costs → Outcome → Type 0
+IsEndWithin most c (outcomes.Stopped charge) = IsOver most charge c
+IsEndWithin most c outcomes.OkNull = IsWithin most c
+IsEndWithin most c (outcomes.OkBytes bytes) = IsWithin most c
+IsEndWithin most c (outcomes.Threw class message) = IsWithin most c
+IsEndWithin most c (outcomes.Init class exception message) = IsWithin most c
+IsEndWithin most c outcomes.Link = IsWithin most c
+IsEndWithin most c outcomes.TooDeep = IsWithin most c
+IsEndWithin most c (outcomes.HeapFull used size) = IsWithin most c
+IsEndWithin most c (outcomes.OutOfSteps steps) = IsWithin most c
+
+-- nothing was exceeded so far
+pub record IsPaid (most : Thresholds) (a : Account) : Type 0 where
+  pub none : a.exceeded ≡ None
+  pub within : IsWithin most a.costs
+
+abbrev pub RunWithin : Thresholds → Costs → Run → Type 0
+RunWithin most before (Goes s) = IsPaid most s.account × IsLess before s.account.costs
+RunWithin most before (Ends outcome c) = IsEndWithin most c outcome × IsLess before c
+RunWithin most before Stuck = ⊤
+
+-- a turn of a metered run only adds to the sums, and none passes its threshold but the one by which the run is stopped
+pub record CostsStayWithin : Type 0 where
+  pub turns : (program : Program) (most : Thresholds) (s : State) → IsPaid most s.account → RunWithin most s.account.costs (turn program most s)
+  pub runs : (program : Program) (entry : Declared) (input : List ℕ) (most : Thresholds) (n : ℕ) → RunWithin most no_costs (metered_run program entry input most n)

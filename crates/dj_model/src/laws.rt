@@ -1,0 +1,47 @@
+ghost use Rattle.dj_model.specs.Laws.{CommutesWithNames, ReadsNoCode, StepCommutesWithNames, SandboxHasNames, HasFewFrames, InitialisesOnce, HasOneEnd, IsJudged};
+ghost use Rattle.dj_model.specs.Rows.{WorkedRuns};
+
+/// What an instruction does, pays and uses commutes with a map of class names, whatever the code of methods and whatever classes stand in front.
+pub fn effect_commutes_with_names()
+    ensures { CommutesWithNames }
+{}
+
+/// What an instruction does, pays and uses depends on no code.
+pub fn effect_reads_no_code()
+    ensures { ReadsNoCode }
+{}
+
+/// A step commutes with a map of class names.
+pub fn step_commutes_with_names()
+    ensures { StepCommutesWithNames }
+{}
+
+/// The names of rewritten classes are a map of class names.
+pub fn sandbox_has_names()
+    ensures { SandboxHasNames }
+{}
+
+/// Never more than 1,024 frames stand above each other.
+pub fn few_frames()
+    ensures { HasFewFrames }
+{}
+
+/// Each class is initialised at most once.
+pub fn initialised_once()
+    ensures { InitialisesOnce }
+{}
+
+/// A metered run ends in one way, at one cost.
+pub fn one_end()
+    ensures { HasOneEnd }
+{}
+
+/// Code has shape or one fault, and which of them is decided.
+pub fn shape_is_judged()
+    ensures { IsJudged }
+{}
+
+/// The worked runs end as they are told.
+pub fn worked_runs()
+    ensures { WorkedRuns }
+{}

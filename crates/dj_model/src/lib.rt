@@ -1,0 +1,9 @@
+//! The model of a run: the program, the state of the machine, its steps, what they are charged, and the shape of code.
+#![tactic(auto)]
+
+mod laws;
+
+pub use laws::{
+    effect_commutes_with_names, effect_reads_no_code, few_frames, initialised_once, one_end,
+    sandbox_has_names, shape_is_judged, step_commutes_with_names, worked_runs,
+};
