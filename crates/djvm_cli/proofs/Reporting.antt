@@ -213,12 +213,18 @@ module _ (job : Job) (held : Option Held) where
     judged sources within bytes report few there is all cut decided =
         both_told held (λ h. CountsFiles (class_files (folder_of job) h) None × (FindsInput job h None × (bytes.items ≡ input_of job h)))
         (λ h. IsLoaded (class_files (folder_of job) h) (loads.Files sources)) (λ h. IsDecided (stages (Some job) h) report)
-        (λ h on view. inr (on.0, inr (on.1.0, inr (
-          subst AreWithin view (subst (AreRead (map string_bytes list)) is all).1,
-          subst (λ input. IsDecided (judging job (files_within (folder_of job) h) input) report) on.1.1
-              (subst (λ files. IsDecided (judging job files bytes.items) report)
-              (cut ∙ ap (λ f. map (within_folder f) (map source_view sources.items)) same ∙ ap (map (within_folder (folder_of job))) view) decided),
-        ))))
+        (λ h on view. inr (
+          on.0,
+          inr (
+            on.1.0,
+            inr (
+              subst AreWithin view (subst (AreRead (map string_bytes list)) is all).1,
+              subst (λ input. IsDecided (judging job (files_within (folder_of job) h) input) report) on.1.1
+                  (subst (λ files. IsDecided (judging job files bytes.items) report)
+                  (cut ∙ ap (λ f. map (within_folder f) (map source_view sources.items)) same ∙ ap (map (within_folder (folder_of job))) view) decided),
+            ),
+          ),
+        ))
         (both_told held (λ h. CountsFiles (class_files (folder_of job) h) None) (λ h. FindsInput job h None × (bytes.items ≡ input_of job h))
         (λ h. CountsFiles (class_files (folder_of job) h) None × (FindsInput job h None × (bytes.items ≡ input_of job h))) (λ h a b. (a, b)) few there)
         (files_told (loads.Files sources) is)

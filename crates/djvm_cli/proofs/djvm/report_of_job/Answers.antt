@@ -103,7 +103,7 @@ returns-clause-right g c =
     (paths_listed c.folder.result.now c.deref.result.now c.in-Paths.paths c.in_ok-paths.field-0 c.deref.ensures.value c.in-Paths.is
     (g.F.Files.held c.args.files.now) c.in_ok-paths.ensures.told) c.in_ok-sources.field-0 c.in_ok-sources.ensures.told c.in-Files.sources c.in_ok-within.within.items c.in-Bytes.input report few there c.in-Files.is c.in_ok-sources.ensures.read
     (c.in_ok-within.ensures.cut ∙ ap (λ files. map (within_folder c.folder-2.result.now) (map source_view files)) c.deref-2.ensures.value
-        ∙ ap (λ folder. map (within_folder folder) (map source_view c.in-Files.sources.items)) (c.folder-2.ensures ∙ sym c.folder.ensures))
+    ∙ ap (λ folder. map (within_folder folder) (map source_view c.in-Files.sources.items)) (c.folder-2.ensures ∙ sym c.folder.ensures))
     (subst (λ (files : List PathFile). IsDecided (judging job (map path_file_view files) c.in-Bytes.input.items) report) c.deref-3.ensures.value
     (subst (λ (input : List ℕ). IsDecided (judging job (map path_file_view c.deref-3.result.now) input) report) c.deref-4.ensures.value decided)))
     c.judge.ensures.decided
