@@ -1,11 +1,10 @@
 -- Heaps that keep their objects' classes and lengths.
-use Rattle.std.proofs.Common.{◌≡◌, ℕ, zero, suc, ◌+◌, ◌-◌, ◌*◌, Bool, true, false, ℤ, pos, negsuc, List, [], ◌∷◌, ◌++◌, map, set, length, replicate, Option, Some, None, nat_eq, refl, sym, ap, ◌∙◌, ◌⊎◌, inl, inr, arith}
+use Rattle.std.proofs.Common.{◌≡◌, ℕ, zero, suc, ◌+◌, ◌-◌, ℤ, pos, negsuc, List, [], ◌∷◌, ◌++◌, map, set, length, replicate, Some, None, nat_eq, refl, sym, ap, ◌∙◌, inl, inr, arith}
 use Rattle.std.proofs.lemmas.List.{map-append, map-set, length-set, append_assoc, append-nil, length-replicate}
 use Rattle.std.specs.Prelude.{slice_get}
 use Rattle.dj_names.specs.declared.descriptor.Ty.{Ty}
-use Rattle.dj_names.specs.declared.run.Value.{Value}
 use Rattle.dj_names.specs.declared.run.Element.{Element}
-use Rattle.dj_names.specs.Heaps.{Object, Instance, Array, Text, Heap, object_at, object_size, with_new, with_object, with_element, instance_size, array_size, field_bits}
+use Rattle.dj_names.specs.Heaps.{Object, Instance, Array, Text, Heap, object_at, object_size, with_new, with_object, with_element, instance_size, array_size}
 use Rattle.dj_model.specs.Laws.{blank, sizes_of, Grows, IsSum}
 use Rattle.dj_model.proofs.MappedNames.{either}
 

@@ -19,3 +19,6 @@ mod NativeFacts
 mod LinkFacts
 mod ShapeFacts
 pub mod Growth
+pub mod Fits
+pub mod EffectFits
+pub mod StepFits

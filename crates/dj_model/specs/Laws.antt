@@ -1,5 +1,5 @@
 -- Laws of the model.
-use Rattle.std.specs.Prelude.{◌≡◌, ◌≢◌, ℕ, ◌+◌, ◌≤◌, ◌<◌, ◌⊎◌, ⊤, pos, List, [], ◌∷◌, ◌++◌, map, length, replicate, Option, Some, None, Bool, IsTrue, IsFalse}
+use Rattle.std.specs.Prelude.{◌≡◌, ◌≢◌, ℕ, ◌+◌, ◌≤◌, ◌<◌, ◌⊎◌, ⊤, pos, List, [], ◌∷◌, ◌++◌, map, length, replicate, Option, None, Bool, IsTrue, IsFalse}
 use Rattle.std.specs.Option.{option_map}
 use Rattle.std.specs.List.{AllByRecursion}
 use Rattle.dj_names.specs.declared.run.Value.{Value}

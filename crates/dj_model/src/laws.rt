@@ -1,4 +1,4 @@
-ghost use Rattle.dj_model.specs.Laws.{CommutesWithNames, ReadsNoCode, StepCommutesWithNames, SandboxHasNames, HasFewFrames, InitialisesOnce, HasOneEnd, IsJudged};
+ghost use Rattle.dj_model.specs.Laws.{CommutesWithNames, ReadsNoCode, StepCommutesWithNames, SandboxHasNames, HasFewFrames, InitialisesOnce, HasOneEnd, IsJudged, HeapsGrow, CostsStayWithin};
 ghost use Rattle.dj_model.specs.Rows.{WorkedRuns};
 
 /// What an instruction does, pays and uses commutes with a map of class names, whatever the code of methods and whatever classes stand in front.
@@ -34,6 +34,16 @@ pub fn initialised_once()
 /// A metered run ends in one way, at one cost.
 pub fn one_end()
     ensures { HasOneEnd }
+{}
+
+/// Objects keep their class, their length and their place, and the used bytes are the sum of their sizes.
+pub fn heaps_grow()
+    ensures { HeapsGrow }
+{}
+
+/// The sums of a metered run only grow, and none passes its threshold but the one by which the run is stopped.
+pub fn costs_stay_within()
+    ensures { CostsStayWithin }
 {}
 
 /// Code has shape or one fault, and which of them is decided.

@@ -4,6 +4,7 @@
 mod laws;
 
 pub use laws::{
-    effect_commutes_with_names, effect_reads_no_code, few_frames, initialised_once, one_end,
-    sandbox_has_names, shape_is_judged, step_commutes_with_names, worked_runs,
+    costs_stay_within, effect_commutes_with_names, effect_reads_no_code, few_frames, heaps_grow,
+    initialised_once, one_end, sandbox_has_names, shape_is_judged, step_commutes_with_names,
+    worked_runs,
 };
