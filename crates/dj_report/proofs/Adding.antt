@@ -50,9 +50,6 @@ adds_both P Q a b c first second v = (
 pub adds_when : {L : Type 0} (H : Type 0) (P : L → Type 0) (a b : List L) → H → Gains P a b → Gains (λ v. H × P v) a b
 adds_when H P a b h = adds_same P (λ v. H × P v) a b (λ v. (λ p. (h, p), λ hp. hp.1))
 
-pub adds_unless : {L : Type 0} (H : Type 0) (P : L → Type 0) (a : List L) → (H → ⊥) → Gains (λ v. H × P v) a a
-adds_unless H P a not_h = adds_nothing (λ v. H × P v) a (λ v hp. not_h hp.0)
-
 -- the members of a list, appended as a list that has the same
 pub adds_members : {L : Type 0} (a b c : List L) → ((v : L) → Contains c v ↔ Contains b v) → Gains (λ v. Contains b v) a (a ++ c)
 adds_members a b c members v = (
