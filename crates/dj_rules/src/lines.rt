@@ -17,24 +17,30 @@ fn text_of(alloc: Global, pool: &Pool<'_>, pair: (u16, u16)) -> Result<Name, Rul
     Ok(text)
 }
 
+/// What lines of members have in common: the file's path, the pool that has their names, and the rule.
+#[derive(Clone, Copy)]
+pub struct MemberLines<'a, 'p> {
+    pub path: &'a str,
+    pub pool: &'a Pool<'p>,
+    pub rule: u8,
+}
+
 /// Appends a line of the members whose name and descriptor have these indexes.
 pub fn add_member_line(
     alloc: Global,
     found: &mut Vec<Violation>,
-    path: &str,
-    pool: &Pool<'_>,
+    lines: &MemberLines<'_, '_>,
     pair: (u16, u16),
-    rule: u8,
 ) -> Result<(), RulesError>
-    ensures { OnOk result (Adds (IsPairLine path.now rule pool.now pair) found.old.items found.new.items) }
+    ensures { OnOk result (Adds (IsPairLine lines.now.path.now lines.now.rule lines.now.pool.now pair) found.old.items found.new.items) }
 {
-    let path = Name::from_slice(alloc, path.as_bytes())?;
-    let member = text_of(alloc, pool, pair)?;
+    let path = Name::from_slice(alloc, lines.path.as_bytes())?;
+    let member = text_of(alloc, lines.pool, pair)?;
     let line = Violation {
         path,
         member,
         number: None,
-        rule,
+        rule: lines.rule,
     };
     add_line(found, line)?;
     Ok(())

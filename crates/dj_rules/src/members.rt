@@ -7,7 +7,7 @@ ghost use Rattle.dj_rules.specs.Lines.{IsPairLine, pair_of};
 ghost use Rattle.dj_rules.specs.Violations.{IsNative, IsFinalizer, IsMethodLine};
 
 use crate::error::RulesError;
-use crate::lines::add_member_line;
+use crate::lines::{MemberLines, add_member_line};
 use dj_class::{ClassView, MemberView, Pool};
 use dj_report::Violation;
 use std::alloc::Global;
@@ -78,15 +78,13 @@ fn each_once(mut pairs: Vec<(u16, u16)>) -> Vec<(u16, u16)>
 fn add_pair_lines(
     alloc: Global,
     found: &mut Vec<Violation>,
-    path: &str,
-    pool: &Pool<'_>,
+    lines: &MemberLines<'_, '_>,
     pairs: &[(u16, u16)],
-    rule: u8,
 ) -> Result<(), RulesError>
-    ensures { OnOk result (Adds (IsLineAmong (IsPairLine path.now rule pool.now) pairs.now) found.old.items found.new.items) }
+    ensures { OnOk result (Adds (IsLineAmong (IsPairLine lines.now.path.now lines.now.rule lines.now.pool.now) pairs.now) found.old.items found.new.items) }
 {
     for pair in pairs {
-        add_member_line(alloc, found, path, pool, *pair, rule)?;
+        add_member_line(alloc, found, lines, *pair)?;
     }
     Ok(())
 }
@@ -104,7 +102,12 @@ pub fn add_native_lines(
     for method in view.methods.as_slice() {
         add_native_pair(&mut pairs, method)?;
     }
-    add_pair_lines(alloc, found, path, &view.pool, &each_once(pairs), NATIVE)
+    let lines = MemberLines {
+        path,
+        pool: &view.pool,
+        rule: NATIVE,
+    };
+    add_pair_lines(alloc, found, &lines, &each_once(pairs))
 }
 
 /// Appends the lines of the rule FINALIZER.
@@ -120,5 +123,10 @@ pub fn add_finalizer_lines(
     for method in view.methods.as_slice() {
         add_finalizer_pair(&mut pairs, &view.pool, method)?;
     }
-    add_pair_lines(alloc, found, path, &view.pool, &each_once(pairs), FINALIZER)
+    let lines = MemberLines {
+        path,
+        pool: &view.pool,
+        rule: FINALIZER,
+    };
+    add_pair_lines(alloc, found, &lines, &each_once(pairs))
 }

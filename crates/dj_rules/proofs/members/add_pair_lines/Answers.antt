@@ -7,10 +7,10 @@ use Rattle.dj_rules.proofs.members.add_pair_lines.Goals as goal
 
 pub loop-pair-preserved : goal.loop-pair-preserved
 loop-pair-preserved c =
-    adds_one_more (IsPairLine c.args.path.now c.args.rule c.args.pool.now) c.args.pairs.now c.loop-pair.pair-index _ c.args.found.now.items c.loop-pair.found.items c.add_member_line.new.found.items
+    adds_one_more (IsPairLine c.args.lines.now.path.now c.args.lines.now.rule c.args.lines.now.pool.now) c.args.pairs.now c.loop-pair.pair-index _ c.args.found.now.items c.loop-pair.found.items c.add_member_line.new.found.items
     c.loop-pair-test.true c.loop-pair.invariant c.in_ok-add_member_line.ensures
 
 pub returns : goal.returns
 returns c =
-    subst (λ pairs. Adds (IsLineAmong (IsPairLine c.args.path.now c.args.rule c.args.pool.now) pairs) c.args.found.now.items c.loop-pair.found.items)
+    subst (λ pairs. Adds (IsLineAmong (IsPairLine c.args.lines.now.path.now c.args.lines.now.rule c.args.lines.now.pool.now) pairs) c.args.found.now.items c.loop-pair.found.items)
     (take_all c.loop-pair.pair-index c.args.pairs.now c.loop-pair-test.false) c.loop-pair.invariant

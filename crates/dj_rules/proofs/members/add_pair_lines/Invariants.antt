@@ -5,4 +5,4 @@ use Rattle.dj_rules.proofs.members.add_pair_lines.Given as goal
 
 -- the lines of the pairs so far
 abbrev pub invariant-loop-pair : goal.invariant-loop-pair
-invariant-loop-pair l = Adds (IsLineAmong (IsPairLine l.path l.rule l.pool) (take l.pair-index l.pairs)) l.initial.found.items l.found.items
+invariant-loop-pair l = Adds (IsLineAmong (IsPairLine l.lines.path.now l.lines.rule l.lines.pool.now) (take l.pair-index l.pairs)) l.initial.found.items l.found.items
