@@ -83,7 +83,7 @@ module _ {X L : Type 0} (IsOwn : X → L → Type 0) where
   pub among_none : (v : L) → IsAmong IsOwn [] v → ⊥
   among_none v (part, m, is) = contains_none part m
 
-  among_one_more : (parts : List X) (x : X) (v : L) → (IsAmong IsOwn parts v ⊎ IsOwn x v) ↔ IsAmong IsOwn (parts ++ x ∷ []) v
+  pub among_one_more : (parts : List X) (x : X) (v : L) → (IsAmong IsOwn parts v ⊎ IsOwn x v) ↔ IsAmong IsOwn (parts ++ x ∷ []) v
   among_one_more parts x v = (
     λ any. elim any [
       | inl old ↦ (old.0, Contains-append_left parts (x ∷ []) old.0 old.1, old.2)

@@ -1,9 +1,10 @@
-ghost use Rattle.std.specs.Prelude.{◌≡◌, ◌↔◌, ℕ, Some, Contains, OnOk, IsTrue};
+ghost use Rattle.std.specs.Prelude.{◌≡◌, ◌↔◌, ℕ, false, Some, All, Contains, OnOk, IsTrue};
 ghost use Rattle.dj_class.specs.ClassFile.{text_at};
 ghost use Rattle.dj_class.specs.Members.{member_of};
 ghost use Rattle.dj_class.specs.Views.{class_of};
 ghost use Rattle.dj_report.specs.Lines.{Adds, Gains, IsLineAmong};
 ghost use Rattle.dj_rules.specs.Lines.{IsPairLine, pair_of};
+ghost use Rattle.dj_rules.specs.Reads.{AreUnbarred};
 ghost use Rattle.dj_rules.specs.Violations.{IsNative, IsFinalizer, IsMethodLine};
 
 use crate::error::RulesError;
@@ -129,4 +130,16 @@ pub fn add_finalizer_lines(
         rule: FINALIZER,
     };
     add_pair_lines(alloc, found, &lines, &each_once(pairs))
+}
+
+/// Whether a method is native or a finalizer.
+pub fn has_barred_method(pool: &Pool<'_>, methods: &[MemberView<'_>]) -> bool
+    ensures { result ≡ false → All (AreUnbarred pool.now) methods.now }
+{
+    for method in methods {
+        if is_native(method) || is_finalizer(pool, method) {
+            return true;
+        }
+    }
+    false
 }
