@@ -3,6 +3,7 @@ pub mod Pairs
 pub mod Sorting
 pub mod Listings
 pub mod Lists
+mod Facts
 mod Lookup
 mod Taken
 mod Walking

@@ -85,8 +85,8 @@ e_type = class_type (codes "E")
 abbrev family : List Class
 family = record (class_with (codes "I") [] (method_with 1025 (codes "m") [] (Some int) Abstract ∷ [])) { flags = 1537 }
     ∷ record (class_with (codes "J") [] (method_with 1025 (codes "n") [] (Some int) Abstract ∷ [])) { flags = 1537 }
-    ∷ record (class_with (codes "C") [] (plain_constructor ∷ method_with 1 (codes "m") ([]) (Some int) (code (op 8 ∷ op 172 ∷ []) []) ∷ method_with 1 (codes "n") ([]) (Some int) (code (op 5 ∷ op 172 ∷ []) []) ∷ method_with 2 (codes "p") ([]) (Some int) (code (op 4 ∷ op 172 ∷ []) []) ∷ method_with 9 (codes "t") ([]) (Some int) (code (op 6 ∷ op 172 ∷ []) []) ∷ [])) { interfaces = codes "I" ∷ codes "J" ∷ [] }
-    ∷ record (class_with (codes "D") [] (method_with 1 (codes "m") ([]) (Some int) (code (op 7 ∷ op 172 ∷ []) []) ∷ method_with 1 (codes "p") ([]) (Some int) (code (op 5 ∷ op 172 ∷ []) []) ∷ method_with 1 (codes "q") ([]) (Some int) (code (op 42 ∷ method 183 c_type (codes "m") ([]) (Some int) ∷ op 172 ∷ []) [])
+    ∷ record (class_with (codes "C") [] (plain_constructor ∷ method_with 1 (codes "m") ([]) (Some int) (code (op 8 ∷ op 172 ∷ []) []) ∷ method_with 1 (codes "n") ([]) (Some int) (code (op 5 ∷ op 172 ∷ []) []) ∷ method_with 2 (codes "p") ([]) (Some int) (code (op 4 ∷ op 172 ∷ []) []) ∷ method_with 9 (codes "t") ([]) (Some int) (code (op 6 ∷ op 172 ∷ []) []) ∷ method_with 1 (codes "w") ([]) (Some int) (code (op 8 ∷ op 172 ∷ []) []) ∷ [])) { interfaces = codes "I" ∷ codes "J" ∷ [] }
+    ∷ record (class_with (codes "D") [] (method_with 2 (codes "w") ([]) (Some int) (code (op 5 ∷ op 172 ∷ []) []) ∷ method_with 1 (codes "m") ([]) (Some int) (code (op 7 ∷ op 172 ∷ []) []) ∷ method_with 1 (codes "p") ([]) (Some int) (code (op 5 ∷ op 172 ∷ []) []) ∷ method_with 1 (codes "q") ([]) (Some int) (code (op 42 ∷ method 183 c_type (codes "m") ([]) (Some int) ∷ op 172 ∷ []) [])
     ∷ method_with 1 (codes "r") ([]) (Some int) (code (op 42 ∷ method 182 c_type (codes "m") ([]) (Some int) ∷ op 172 ∷ []) []) ∷ [])) { superclass = Some (codes "C") }
     ∷ record (class_with (codes "E") [] (plain_constructor ∷ method_with 1025 (codes "a") [] (Some int) Abstract ∷ method_with 9 (codes "b") [] (Some int) Abstract ∷ [])) { interfaces = codes "I" ∷ []; flags = 1057 } ∷ []
 
@@ -98,6 +98,12 @@ selected_methods : on_family (byte_of (class 187 c_type ∷ method 182 c_type (c
     ≡ Ends (outcomes.OkBytes (5 ∷ [])) (costs 40 1 0 0) ∷ Ends (outcomes.OkBytes (4 ∷ [])) (costs 40 1 0 0) ∷ Ends (outcomes.OkBytes (2 ∷ [])) (costs 40 1 0 0) ∷ Ends (outcomes.OkBytes (4 ∷ [])) (costs 40 1 0 0) ∷ Ends (outcomes.OkBytes (2 ∷ [])) (costs 40 1 0 0) ∷ Ends (outcomes.OkBytes (5 ∷ [])) (costs 40 1 0 0) ∷ Ends (outcomes.OkBytes (1 ∷ [])) (costs 40 1 0 0) ∷ Ends (outcomes.OkBytes (2 ∷ [])) (costs 40 1 0 0) ∷ Ends (outcomes.OkBytes (5 ∷ [])) (costs 40 2 0 0) ∷ Ends (outcomes.OkBytes (4 ∷ [])) (costs 40 2 0 0) ∷ Ends (outcomes.OkBytes (3 ∷ [])) (costs 24 1 0 0) ∷ Ends (outcomes.OkBytes (1 ∷ [])) (costs 24 1 0 0) ∷ Ends (outcomes.OkBytes (5 ∷ [])) (costs 40 1 0 0) ∷ []
 unfolding int_wrap digits instruction_of simple code_of has_initialiser most_classes chain_of interfaces_from interfaces_above is_subclass is_subtype field_order resolve_method resolve_field select special_method field_count place_of static_place metered_program raw_program sandbox_program compute convert moved on_values load_element store_element array_length make_array charge_one charge_all answer host_answer perform native with_literal invoke effect pays used_class is_initialised mark with_constants constants_of initialise unwound settle step begin amounts turn turns metered_run steps plain_run
 selected_methods = refl
+
+-- a private method of the receiver's class hides nothing of the class above it
+hidden_methods : on_family (byte_of (class 187 d_type ∷ method 182 c_type (codes "w") ([]) (Some int) ∷ [])) ∷ on_family (byte_of (class 187 d_type ∷ method 182 d_type (codes "w") ([]) (Some int) ∷ [])) ∷ []
+    ≡ Ends (outcomes.OkBytes (5 ∷ [])) (costs 40 1 0 0) ∷ Ends (outcomes.OkBytes (2 ∷ [])) (costs 40 1 0 0) ∷ []
+unfolding int_wrap digits instruction_of simple code_of has_initialiser most_classes chain_of interfaces_from interfaces_above is_subclass is_subtype field_order resolve_method resolve_field select special_method field_count place_of static_place metered_program raw_program sandbox_program compute convert moved on_values load_element store_element array_length make_array charge_one charge_all answer host_answer perform native with_literal invoke effect pays used_class is_initialised mark with_constants constants_of initialise unwound settle step begin amounts turn turns metered_run steps plain_run
+hidden_methods = refl
 
 -- selection finds no code, or what is called is abstract
 no_code : on_family (class 187 e_type ∷ invokeinterface 1 i_type (codes "m") [] (Some int) ∷ op 87 ∷ op 42 ∷ op 176 ∷ []) ∷ on_family (class 187 e_type ∷ method 182 e_type (codes "a") ([]) (Some int) ∷ op 87 ∷ op 42 ∷ op 176 ∷ []) ∷ on_family (class 187 e_type ∷ method 183 e_type (codes "a") ([]) (Some int) ∷ op 87 ∷ op 42 ∷ op 176 ∷ []) ∷ on_family (method 184 e_type (codes "b") ([]) (Some int) ∷ op 87 ∷ op 42 ∷ op 176 ∷ []) ∷ []

@@ -9,7 +9,7 @@ use Rattle.dj_model.specs.Program.{Program, Code, class_at, class_map, program_m
 use Rattle.dj_model.specs.Linking.{static_place}
 use Rattle.dj_model.specs.Effects.{effect, pays, used_class}
 use Rattle.dj_model.specs.Mapping.{IsNameMap, same_names_map}
-use Rattle.dj_model.specs.Laws.{IsMapped, CommutesWithNames, ReadsNoCode, StepCommutesWithNames, SandboxHasNames, HasFewFrames, InitialisesOnce, HasOneEnd, IsJudged, HeapsGrow, CostsStayWithin}
+use Rattle.dj_model.specs.Laws.{IsMapped, CommutesWithNames, ReadsNoCode, StepCommutesWithNames, SandboxHasNames, HasFewFrames, InitialisesOnce, HasOneEnd, IsJudged, HeapsGrow, CostsStayWithin, KeepsKinds, StepsAreMade, AnswersHaveKinds}
 use Rattle.dj_model.specs.Rows.{WorkedRuns}
 use Rattle.dj_model.proofs.Frames.{begin_few, step_few, marked}
 use Rattle.dj_model.proofs.Once.{not_yet, all_differ, stays}
@@ -17,6 +17,9 @@ use Rattle.dj_model.proofs.Turns.{same_end}
 use Rattle.dj_model.proofs.Shapes.{one_shape_fault, no_fault_with_shape, shape_or_fault}
 use Rattle.dj_model.proofs.Growth.{grows_sum}
 use Rattle.dj_model.proofs.StepFits.{steps_grow, begins_grow, turn_within, runs_within}
+use Rattle.dj_model.proofs.SoundCalls.{kinds_kept}
+use Rattle.dj_model.proofs.SoundSteps.{step_made}
+use Rattle.dj_model.proofs.SoundNatives.{answer_kind}
 use Rattle.dj_model.proofs.Rows as rows
 use Rattle.dj_model.proofs.MappedNames as names
 use Rattle.dj_model.proofs.MappedEffects as effects
@@ -77,3 +80,13 @@ heaps_grow = record { steps = steps_grow; sums = grows_sum; begins = begins_grow
 
 pub costs_stay_within : CostsStayWithin
 costs_stay_within = record { turns = turn_within; runs = runs_within }
+
+pub keeps_kinds : KeepsKinds
+keeps_kinds = kinds_kept
+
+pub steps_are_made : StepsAreMade
+steps_are_made program prefix terms s f below i signature code k left is stands at linked h room told =
+    step_made program prefix terms s f below i signature code k left is linked h room told stands at
+
+pub answers_have_kinds : AnswersHaveKinds
+answers_have_kinds = answer_kind

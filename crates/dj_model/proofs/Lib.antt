@@ -22,3 +22,12 @@ pub mod Growth
 pub mod Fits
 pub mod EffectFits
 pub mod StepFits
+pub mod Standing
+pub mod SoundValues
+pub mod SoundEffects
+mod HeapFacts
+mod SoundFacts
+pub mod SoundLinks
+pub mod SoundNatives
+pub mod SoundCalls
+pub mod SoundSteps

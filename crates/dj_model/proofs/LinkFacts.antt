@@ -126,7 +126,7 @@ f_of name = field_with 9 name int None
 
 abbrev family : Program
 family = metered_program
-    (interface_with (codes "I") [] (f_of (codes "i") ∷ f_of (codes "x") ∷ []) (plain_method 1025 (codes "i") ∷ plain_method 1025 (codes "x") ∷ plain_method 1034 (codes "p") ∷ plain_method 1033 (codes "s") ∷ [])
+    (interface_with (codes "I") [] (f_of (codes "i") ∷ f_of (codes "x") ∷ []) (plain_method 1025 (codes "i") ∷ plain_method 1025 (codes "x") ∷ plain_method 1026 (codes "p") ∷ plain_method 1033 (codes "s") ∷ [])
     ∷ interface_with (codes "J") (codes "I" ∷ []) (f_of (codes "j") ∷ []) (plain_method 1025 (codes "j") ∷ [])
     ∷ interface_with (codes "K") [] (f_of (codes "x") ∷ f_of (codes "k") ∷ []) (plain_method 1025 (codes "x") ∷ plain_method 1025 (codes "k") ∷ [])
     ∷ record (class_with (codes "B") (f_of (codes "b") ∷ f_of (codes "x") ∷ []) (plain_method 1 (codes "b") ∷ plain_method 2 (codes "p") ∷ plain_method 1 (codes "h") ∷ [])) { interfaces = codes "J" ∷ codes "K" ∷ [] }

@@ -1,5 +1,5 @@
 -- Laws of the model.
-use Rattle.std.specs.Prelude.{◌≡◌, ◌≢◌, ℕ, ◌+◌, ◌≤◌, ◌<◌, ◌⊎◌, ⊤, pos, List, [], ◌∷◌, ◌++◌, map, length, replicate, Option, None, Bool, IsTrue, IsFalse}
+use Rattle.std.specs.Prelude.{◌≡◌, ◌≢◌, ℕ, ◌+◌, ◌≤◌, ◌<◌, ◌⊎◌, ⊤, pos, List, [], ◌∷◌, ◌++◌, map, length, replicate, Option, Some, None, Bool, IsTrue, IsFalse}
 use Rattle.std.specs.Option.{option_map}
 use Rattle.std.specs.List.{AllByRecursion}
 use Rattle.dj_names.specs.declared.run.Value.{Value}
@@ -18,15 +18,20 @@ use Rattle.dj_model.specs.Types.{Prefix, Declared}
 use Rattle.dj_model.specs.Instructions.{Instruction, instruction_map}
 use Rattle.dj_model.specs.Program.{Program, Class, Code, code_map, program_map}
 use Rattle.dj_model.specs.Libraries.{library_class}
-use Rattle.dj_model.specs.State.{Terms, State, state_map, Part, part_map, effect_map, Account}
+use Rattle.dj_model.specs.State.{Terms, Frame, State, instruction_at, state_map, Part, part_map, effect_map, Account}
 use Rattle.dj_model.specs.Effects.{effect, pays, used_class}
 use Rattle.dj_model.specs.Mapping.{IsNameMap, same_names_map, AreApart, KeepsStop, answer_map}
 use Rattle.dj_model.specs.Initialisation.{most_frames, is_initialised, mark, not_initialised}
 use Rattle.dj_model.specs.Step.{Answer, Went, Ended, IllFormed, step}
 use Rattle.dj_model.specs.Charging.{no_costs}
 use Rattle.dj_model.specs.Runs.{begin, RunsTo, empty_heap, Run, Goes, Ends, Stuck, turn, metered_run}
-use Rattle.dj_model.specs.Kinds.{Signature}
-use Rattle.dj_model.specs.Shape.{HasShape, IsShapeFault}
+use Rattle.dj_model.specs.Kinds.{Signature, Kinds}
+use Rattle.dj_model.specs.Shape.{HasShape, IsShapeFault, after}
+use Rattle.dj_names.specs.declared.native.NativeId.{NativeId}
+use Rattle.dj_model.specs.Natives.{Seen, answer}
+use Rattle.dj_model.specs.NativeKinds.{native_signature}
+use Rattle.dj_model.specs.Sound.{is_linked, IsSound}
+use Rattle.dj_model.specs.Standing.{HasKinds, HasSoundEffect, IsStarved, AnswerKind, IsFormed}
 
 -- ---- names and code
 
@@ -185,3 +190,24 @@ RunWithin most before Stuck = ⊤
 pub record CostsStayWithin : Type 0 where
   pub turns : (program : Program) (most : Thresholds) (s : State) → IsPaid most s.account → RunWithin most s.account.costs (turn program most s)
   pub runs : (program : Program) (entry : Declared) (input : List ℕ) (most : Thresholds) (n : ℕ) → RunWithin most no_costs (metered_run program entry input most n)
+
+-- ---- kinds
+
+-- in a sound program, an instruction whose kinds are told has an effect, and what may follow it finds the kinds that are told there; but a call of a method that asks the host may
+-- find no answer
+abbrev pub KeepsKinds : Type 0
+KeepsKinds = (program : Program) (prefix : Prefix) (terms : Terms) (own : Name) (signature : Signature) (code : Code) (i : Instruction) (k left : Kinds) (x : Part)
+    → IsSound program prefix → IsTrue (is_linked program prefix i) → HasKinds x.locals x.operands k → length x.locals ≡ code.max_locals → after signature code i k ≡ Some left
+    → HasSoundEffect program prefix terms own signature code i k left x ⊎ IsStarved program x.answers
+
+-- where the top frame of a sound program stands at an instruction that finds its kinds, there is a step, but for an answer that the host doesn't give
+abbrev pub StepsAreMade : Type 0
+StepsAreMade = (program : Program) (prefix : Prefix) (terms : Terms) (s : State) (f : Frame Declared) (below : List (Frame Declared)) (i : Instruction)
+    (signature : Signature) (code : Code) (k left : Kinds)
+    → IsSound program prefix → s.frames ≡ f ∷ below → instruction_at program f ≡ Some i → IsTrue (is_linked program prefix i)
+    → HasKinds f.locals f.operands k → length f.locals ≡ code.max_locals → after signature code i k ≡ Some left
+    → IsFormed (step program prefix terms s) ⊎ IsStarved program s.answers
+
+-- a native method answers with its result's kind, whatever it is given
+abbrev pub AnswersHaveKinds : Type 0
+AnswersHaveKinds = (id : NativeId) (heap : Seen) (args : List Value) → AnswerKind (native_signature id).result (answer id heap args)

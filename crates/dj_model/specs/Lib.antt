@@ -20,6 +20,7 @@ pub mod Kinds
 pub mod Shape
 pub mod NativeKinds
 pub mod Sound
+pub mod Standing
 pub mod Rows
 pub mod Mapping
 pub mod Laws

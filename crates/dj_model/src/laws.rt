@@ -1,4 +1,4 @@
-ghost use Rattle.dj_model.specs.Laws.{CommutesWithNames, ReadsNoCode, StepCommutesWithNames, SandboxHasNames, HasFewFrames, InitialisesOnce, HasOneEnd, IsJudged, HeapsGrow, CostsStayWithin};
+ghost use Rattle.dj_model.specs.Laws.{CommutesWithNames, ReadsNoCode, StepCommutesWithNames, SandboxHasNames, HasFewFrames, InitialisesOnce, HasOneEnd, IsJudged, HeapsGrow, CostsStayWithin, KeepsKinds, StepsAreMade, AnswersHaveKinds};
 ghost use Rattle.dj_model.specs.Rows.{WorkedRuns};
 
 /// What an instruction does, pays and uses commutes with a map of class names, whatever the code of methods and whatever classes stand in front.
@@ -49,6 +49,21 @@ pub fn costs_stay_within()
 /// Code has shape or one fault, and which of them is decided.
 pub fn shape_is_judged()
     ensures { IsJudged }
+{}
+
+/// In a sound program, what may follow an instruction finds the kinds that are told there.
+pub fn keeps_kinds()
+    ensures { KeepsKinds }
+{}
+
+/// A step of a sound program is made where kinds are as they are told, but for an answer that the host doesn't give.
+pub fn steps_are_made()
+    ensures { StepsAreMade }
+{}
+
+/// Native methods answer with their result's kind.
+pub fn answers_have_kinds()
+    ensures { AnswersHaveKinds }
 {}
 
 /// The worked runs end as they are told.

@@ -1,0 +1,117 @@
+-- Values of the kinds that code's shape tells, and effects that keep them.
+use Rattle.std.specs.Prelude.{◌≡◌, ℕ, false, List, [], ◌∷◌, length, map, Option, Some, None, IsTrue, IsFalse, ⊤, ◌⊎◌, Contains}
+use Rattle.std.specs.Option.{option_map}
+use Rattle.dj_names.specs.declared.descriptor.Kind.{Kind}
+use Rattle.dj_names.specs.declared.descriptor.Kind.TheVariants as kinds
+use Rattle.dj_names.specs.declared.run.Value.{Value}
+use Rattle.dj_names.specs.Values.{value_kind}
+use Rattle.dj_names.specs.Types.{Name}
+use Rattle.dj_names.specs.declared.native.NativeId.{NativeId}
+use Rattle.dj_edge.specs.declared.host.HostAnswer.{HostAnswer}
+use Rattle.dj_model.specs.Types.{Prefix, Declared}
+use Rattle.dj_model.specs.Natives.{Question, asks, answered, Answer, Returns, Raises, MakesText, KeepsText, MakesChars, SetsFields, SetsElements, Adds, Rethrows}
+use Rattle.dj_model.specs.Program.{Program, Class, Method, Native, Runs, Code, method_at, is_static, is_initialiser}
+use Rattle.dj_model.specs.Instructions.{Instruction, ends, targets, calls}
+use Rattle.dj_model.specs.State.{Terms, Part, Next, To, Raise, Back, Flow, Goes, Catch, Stop, Call, End, Effect}
+use Rattle.dj_model.specs.Effects.{effect}
+use Rattle.dj_model.specs.Step.{Answer as StepAnswer, Went, Ended, IllFormed}
+use Rattle.dj_model.specs.Kinds.{Signature, Kinds, signature_of}
+
+-- as many local variables, and each that has a kind has a value of it
+abbrev pub LocalsHave : List (Option Value) → List (Option Kind) → Type 0
+LocalsHave [] [] = ⊤
+LocalsHave (v ∷ vs) (None ∷ ks) = LocalsHave vs ks
+LocalsHave (Some v ∷ vs) (Some k ∷ ks) = (value_kind v ≡ k) × LocalsHave vs ks
+LocalsHave _ _ = ⊥
+
+-- local variables and operands are of these kinds
+pub record HasKinds (variables : List (Option Value)) (stack : List Value) (k : Kinds) : Type 0 where
+  pub locals : LocalsHave variables k.locals
+  pub operands : map value_kind stack ≡ k.stack
+
+-- these kinds are left
+pub record Leaves (code : Code) (left : Kinds) (variables : List (Option Value)) (operands : List Value) : Type 0 where
+  pub kinds : HasKinds variables operands left
+  pub room : length variables ≡ code.max_locals
+
+-- the local variables are of the kinds that stood before, as a handler finds them
+pub record Keeps (code : Code) (before : Kinds) (variables : List (Option Value)) : Type 0 where
+  pub kinds : LocalsHave variables before.locals
+  pub room : length variables ≡ code.max_locals
+
+abbrev pub IsAmong : List ℕ → ℕ → Type 0
+IsAmong [] n = ⊥
+IsAmong (m ∷ others) n = (n ≡ m) ⊎ IsAmong others n
+
+-- what is left of kinds, with a result pushed where there is one
+abbrev pub with_given : Option Kind → List Kind → List Kind
+with_given None rest = rest
+with_given (Some kind) rest = kind ∷ rest
+
+-- a method of the program with code is called, on arguments of its kinds; what its result is pushed on is what is left
+pub record CallFits (program : Program) (code : Code) (i : Instruction) (before left : Kinds) (p : Part) (m : Declared) (arguments : List Value) : Type 0 where
+  pub calls : IsTrue (calls i)
+  pub method : Method
+  pub at : method_at program m ≡ Some method
+  pub callee : Code
+  pub body : method.body ≡ Runs callee
+  pub signature : Signature
+  pub described : signature_of (is_static method.flags) method.desc ≡ Some signature
+  pub takes : map value_kind arguments ≡ signature.parameters
+  pub no_initialiser : is_initialiser m ≡ false
+  pub keeps : Keeps code before p.locals
+  pub locals : before.locals ≡ left.locals
+  pub gives : with_given signature.result (map value_kind p.operands) ≡ left.stack
+
+-- what may follow an instruction before which these kinds stand and after which those are left: the next instruction finds them, or one to which it may jump; only one that
+-- never goes on returns, with a value of the result's kind; only one that throws throws an object, and only a call calls
+abbrev pub IsSoundFlow : Program → Signature → Code → Instruction → Kinds → Kinds → Part → Flow → Type 0
+IsSoundFlow program signature code i before left p (Goes Next) = Leaves code left p.locals p.operands × IsFalse (ends i)
+IsSoundFlow program signature code i before left p (Goes (To number)) = Leaves code left p.locals p.operands × IsAmong (targets i) number
+IsSoundFlow program signature code i before left p (Goes (Raise raised)) = Keeps code before p.locals
+IsSoundFlow program signature code i before left p (Goes (Back result)) = IsTrue (ends i) × (option_map value_kind result ≡ signature.result)
+IsSoundFlow program signature code i before left p (Catch exception) = Keeps code before p.locals
+IsSoundFlow program signature code i before left p Stop = Keeps code before p.locals
+IsSoundFlow program signature code i before left p (Call m arguments) = CallFits program code i before left p m arguments
+IsSoundFlow program signature code i before left p (End outcome) = ⊤
+
+-- the instruction has an effect, and it keeps the kinds
+pub record HasSoundEffect (program : Program) (prefix : Prefix) (terms : Terms) (own : Name) (signature : Signature) (code : Code) (i : Instruction) (before left : Kinds)
+    (p : Part) : Type 0 where
+  pub does : Effect
+  pub has : effect program prefix terms own i p ≡ Some does
+  pub sound : IsSoundFlow program signature code i before left does.part does.flow
+
+-- a native method of the program asks the host, and the next answer is missing or of another kind
+abbrev pub IsUnanswered : Question → List HostAnswer → Type 0
+IsUnanswered question [] = ⊤
+IsUnanswered question (first ∷ rest) = answered question first ≡ None
+
+pub record IsStarved (program : Program) (answers : List HostAnswer) : Type 0 where
+  pub class : Class
+  pub method : Method
+  pub id : NativeId
+  pub there : Contains program class × Contains class.methods method
+  pub body : method.body ≡ Native id
+  pub arguments : List Value
+  pub question : Question
+  pub asks : asks id arguments ≡ Some question
+  pub unanswered : IsUnanswered question answers
+
+-- an answer gives such a result, or none
+abbrev pub AnswerKind : Option Kind → Answer → Type 0
+AnswerKind result (Returns v) = option_map value_kind v ≡ result
+AnswerKind result (Raises raised) = ⊤
+AnswerKind result (MakesText units) = Some kinds.Ref ≡ result
+AnswerKind result (KeepsText object units) = Some kinds.Ref ≡ result
+AnswerKind result (MakesChars units) = Some kinds.Ref ≡ result
+AnswerKind result (SetsFields object vs) = None ≡ result
+AnswerKind result (SetsElements array contents raised) = None ≡ result
+AnswerKind result (Adds charge n) = None ≡ result
+AnswerKind result (Rethrows object) = None ≡ result
+
+-- there is such a step, or the run has ended
+abbrev pub IsFormed : StepAnswer → Type 0
+IsFormed (Went s) = ⊤
+IsFormed (Ended outcome s) = ⊤
+IsFormed IllFormed = ⊥
