@@ -11,6 +11,8 @@ use Rattle.dj_names.specs.declared.run.Costs.{Costs}
 use Rattle.dj_names.specs.declared.run.Thresholds.{Thresholds}
 use Rattle.dj_names.specs.declared.run.Outcome.{Outcome}
 use Rattle.dj_names.specs.declared.run.Outcome.TheVariants as outcomes
+use Rattle.dj_names.specs.Tests.{units_read}
+use Rattle.dj_names.specs.UnitReading.{two_read, three_read, long_read, unit_read}
 use Rattle.dj_names.specs.Types.{Name, class_type}
 use Rattle.dj_names.specs.Library.{object, string, int, long}
 use Rattle.dj_model.specs.Instructions.{Instruction, AText, Another}
@@ -28,7 +30,7 @@ use Rattle.dj_model.specs.Members.{with_literal, invoke}
 use Rattle.dj_model.specs.Effects.{effect, pays, used_class}
 use Rattle.dj_model.specs.Initialisation.{is_initialised, mark, with_constants, constants_of, initialise}
 use Rattle.dj_model.specs.Step.{unwound, settle, step}
-use Rattle.dj_model.specs.Runs.{Run, Ends, Stuck, begin, amounts, turn, turns, metered_run, steps, plain_run}
+use Rattle.dj_model.specs.Runs.{Run, Ends, Stuck, metered_terms, begin, amounts, turn, turns, metered_run, steps, plain_run}
 use Rattle.dj_names.specs.Types.{sandbox_prefix, in_sandbox}
 use Rattle.dj_edge.specs.declared.host.HostAnswer.{HostAnswer}
 use Rattle.dj_edge.specs.declared.host.HostAnswer.TheVariants as host
@@ -215,7 +217,7 @@ asked byte n taken = Some (record { outcome = outcomes.OkBytes (byte ∷ []); co
 -- taken from the front, and missing or of another kind there is no step
 host_answers : hosted (host.Word (pos 7) ∷ []) (op 42 ∷ method 182 object (codes "hashCode") ([]) (Some int) ∷ []) ∷ hosted (host.Word (pos 7) ∷ []) (op 42 ∷ method 184 (class_type (lang_name (codes "System"))) (codes "identityHashCode") (object ∷ []) (Some int) ∷ []) ∷ hosted (host.Word (pos 7) ∷ []) (op 1 ∷ method 184 (class_type (lang_name (codes "System"))) (codes "identityHashCode") (object ∷ []) (Some int) ∷ []) ∷ hosted (host.Nanos (pos 9) ∷ []) (method 184 (class_type (lang_name (codes "System"))) (codes "nanoTime") ([]) (Some long) ∷ op 136 ∷ []) ∷ hosted (host.Millis (pos 9) ∷ []) (method 184 (class_type (lang_name (codes "System"))) (codes "currentTimeMillis") ([]) (Some long) ∷ op 136 ∷ []) ∷ hosted (host.Word (negsuc 0) ∷ []) (op 42 ∷ method 182 object (codes "toString") ([]) (Some string) ∷ method 182 string (codes "length") ([]) (Some int) ∷ []) ∷ hosted [] (op 42 ∷ method 182 object (codes "hashCode") ([]) (Some int) ∷ []) ∷ hosted (host.Nanos (pos 7) ∷ []) (op 42 ∷ method 182 object (codes "hashCode") ([]) (Some int) ∷ []) ∷ hosted (host.Word (pos 7) ∷ []) (method 184 (class_type (lang_name (codes "System"))) (codes "nanoTime") ([]) (Some long) ∷ op 136 ∷ []) ∷ hosted (host.Word (pos 1) ∷ host.Word (pos 2) ∷ host.Word (pos 3) ∷ []) (op 42 ∷ method 182 object (codes "hashCode") ([]) (Some int) ∷ op 87 ∷ op 42 ∷ method 182 object (codes "hashCode") ([]) (Some int) ∷ []) ∷ []
     ≡ asked 7 8 1 ∷ asked 7 8 1 ∷ asked 0 8 0 ∷ asked 9 8 1 ∷ asked 9 8 1 ∷ asked 11 9 1 ∷ None ∷ None ∷ None ∷ asked 2 11 2 ∷ []
-unfolding int_wrap digits instruction_of simple code_of has_initialiser most_classes chain_of interfaces_from interfaces_above is_subclass is_subtype field_order resolve_method resolve_field select special_method field_count place_of static_place metered_program raw_program sandbox_program compute convert moved on_values load_element store_element array_length make_array charge_one charge_all answer host_answer perform native with_literal invoke effect pays used_class is_initialised mark with_constants constants_of initialise unwound settle step begin amounts turn turns metered_run steps plain_run
+unfolding int_wrap digits instruction_of simple code_of has_initialiser most_classes chain_of interfaces_from interfaces_above is_subclass is_subtype field_order resolve_method resolve_field select special_method field_count place_of static_place metered_program raw_program sandbox_program compute convert moved on_values load_element store_element array_length make_array charge_one charge_all answer host_answer perform native with_literal invoke effect pays used_class is_initialised mark with_constants constants_of initialise unwound settle step begin amounts turn turns metered_run steps plain_run units_read unit_read long_read two_read three_read
 host_answers = refl
 
 abbrev s_type : Ty
@@ -240,3 +242,62 @@ accounted_runs : accounted (at_most 99 9 9 9) None (verify_with (method 184 acco
     ≡ counted (outcomes.OkBytes (1 ∷ 2 ∷ [])) (costs 0 2 1 3) 8 ∷ counted (outcomes.OkBytes (1 ∷ 2 ∷ [])) (costs 72 0 0 0) 15 ∷ counted (outcomes.Stopped charges.Jump) (costs 0 0 2 0) 2 ∷ counted (outcomes.Stopped charges.Invoke) (costs 0 2 0 0) 2 ∷ counted (outcomes.Stopped charges.Alloc) (costs 24 0 0 0) 2 ∷ counted (outcomes.OkBytes (1 ∷ 2 ∷ [])) (costs 24 0 0 0) 4 ∷ counted (outcomes.OkBytes (1 ∷ 2 ∷ [])) (costs 0 0 1 0) 4 ∷ counted (outcomes.Stopped charges.Jump) (costs 0 0 1 0) 3 ∷ counted (outcomes.OkBytes (1 ∷ 2 ∷ [])) (costs 0 0 0 0) 7 ∷ counted (outcomes.Stopped charges.Jump) (costs 0 0 1 0) 3 ∷ counted (outcomes.Stopped charges.Jump) (costs 0 0 1 0) 1 ∷ counted (outcomes.HeapFull 24 16) (costs 0 0 1 0) 1 ∷ counted (outcomes.Stopped charges.Jump) (costs 0 0 1 0) 1 ∷ counted (outcomes.Stopped charges.Alloc) (costs 24 0 0 0) 2 ∷ counted (outcomes.OkBytes (1 ∷ 2 ∷ [])) (costs 24 0 0 0) 5 ∷ counted (outcomes.Threw (in_sandbox (lang_name null_pointer)) messages.Null) (costs 0 0 0 0) 2 ∷ []
 unfolding int_wrap digits instruction_of simple code_of has_initialiser most_classes chain_of interfaces_from interfaces_above is_subclass is_subtype field_order resolve_method resolve_field select special_method field_count place_of static_place metered_program raw_program sandbox_program compute convert moved on_values load_element store_element array_length make_array charge_one charge_all answer host_answer perform native with_literal invoke effect pays used_class is_initialised mark with_constants constants_of initialise unwound settle step begin amounts turn turns metered_run steps plain_run
 accounted_runs = refl
+
+-- the object that stops a run is made once: where it was caught, the next charge throws it again
+abbrev stopped_again : Option ℕ → Option Report
+stopped_again limit = accounted (at_most 99 9 0 9) limit
+    (verify_with (method 184 accounter (codes "recordJump") [] None ∷ op 42 ∷ op 176 ∷ op 87 ∷ method 184 accounter (codes "recordThrow") [] None ∷ op 42 ∷ op 176 ∷ []) (catch_all 0 1 3 ∷ []) ∷ [])
+
+one_stop : stopped_again (Some 40) ∷ stopped_again (Some 39) ∷ [] ≡ counted (outcomes.Stopped charges.Jump) (costs 0 0 1 0) 3 ∷ counted (outcomes.HeapFull 24 16) (costs 0 0 1 0) 1 ∷ []
+unfolding int_wrap digits instruction_of simple code_of has_initialiser most_classes chain_of interfaces_from interfaces_above is_subclass is_subtype field_order resolve_method resolve_field select special_method field_count place_of static_place metered_program raw_program sandbox_program compute convert moved on_values load_element store_element array_length make_array charge_one charge_all answer host_answer perform native with_literal invoke effect pays used_class is_initialised mark with_constants constants_of initialise unwound settle step begin amounts turn turns metered_run steps plain_run
+one_stop = refl
+
+-- the arrival at a handler is charged before its first instruction, and each charge of an instruction up to the first that passes
+abbrev bounded : Thresholds → Run
+bounded most = metered_run (metered_program (a_with (verify_with (op 1 ∷ op 190 ∷ jump 167 3 ∷ op 42 ∷ op 176 ∷ []) (catch_all 0 2 2 ∷ []) ∷ []) ∷ [])) entry (1 ∷ []) most 100
+
+first_charge : bounded (at_most 9 9 1 1) ∷ bounded (at_most 9 9 0 1) ∷ bounded (at_most 9 9 1 0) ∷ bounded (at_most 9 9 0 0) ∷ []
+    ≡ Ends (outcomes.OkBytes (1 ∷ [])) (costs 0 0 1 1) ∷ Ends (outcomes.Stopped charges.Jump) (costs 0 0 1 1) ∷ Ends (outcomes.Stopped charges.Throw) (costs 0 0 0 1) ∷ Ends (outcomes.Stopped charges.Throw) (costs 0 0 0 1) ∷ []
+unfolding int_wrap digits instruction_of simple code_of has_initialiser most_classes chain_of interfaces_from interfaces_above is_subclass is_subtype field_order resolve_method resolve_field select special_method field_count place_of static_place metered_program raw_program sandbox_program compute convert moved on_values load_element store_element array_length make_array charge_one charge_all answer host_answer perform native with_literal invoke effect pays used_class is_initialised mark with_constants constants_of initialise unwound settle step begin amounts turn turns metered_run steps plain_run
+first_charge = refl
+
+-- a metered run's heap has no limit
+no_limit : (most : Thresholds) → (metered_terms most).limit ≡ None
+no_limit most = refl
+
+-- invokespecial of a method of a class far above takes that of the direct superclass, of whose class the receiver has to be
+abbrev far_family : List Class
+far_family = class_with (codes "C") [] (plain_constructor ∷ method_with 1 (codes "m") [] (Some int) (code (op 8 ∷ op 172 ∷ []) []) ∷ [])
+    ∷ record (class_with (codes "D") [] (method_with 1 (codes "m") [] (Some int) (code (op 7 ∷ op 172 ∷ []) []) ∷ [])) { superclass = Some (codes "C") }
+    ∷ record (class_with (codes "E") [] (method_with 9 (codes "s") (object ∷ []) (Some int) (code (op 42 ∷ method 183 c_type (codes "m") [] (Some int) ∷ op 172 ∷ []) []) ∷ [])) { superclass = Some (codes "D") } ∷ []
+
+special_receivers : with_methods [] far_family (byte_of (class 187 c_type ∷ method 184 e_type (codes "s") (object ∷ []) (Some int) ∷ [])) ∷ with_methods [] far_family (byte_of (class 187 d_type ∷ method 184 e_type (codes "s") (object ∷ []) (Some int) ∷ [])) ∷ []
+    ≡ Ends outcomes.Link (costs 40 2 0 0) ∷ Ends (outcomes.OkBytes (4 ∷ [])) (costs 40 2 0 0) ∷ []
+unfolding int_wrap digits instruction_of simple code_of has_initialiser most_classes chain_of interfaces_from interfaces_above is_subclass is_subtype field_order resolve_method resolve_field select special_method field_count place_of static_place metered_program raw_program sandbox_program compute convert moved on_values load_element store_element array_length make_array charge_one charge_all answer host_answer perform native with_literal invoke effect pays used_class is_initialised mark with_constants constants_of initialise unwound settle step begin amounts turn turns metered_run steps plain_run
+special_receivers = refl
+
+-- there is no step where an operand is of another kind
+other_kinds : with_methods [] (statics_of (op 177 ∷ []) (op 177 ∷ [])) (op 42 ∷ field 179 b_type (codes "x") int ∷ op 42 ∷ op 176 ∷ []) ∷ on_constants (op 1 ∷ op 42 ∷ field 181 k_type (codes "n") int ∷ op 42 ∷ op 176 ∷ [])
+    ∷ on_constants (op 1 ∷ op 3 ∷ field 181 k_type (codes "n") int ∷ op 42 ∷ op 176 ∷ []) ∷ of_code (op 42 ∷ op 3 ∷ op 42 ∷ op 84 ∷ op 42 ∷ op 176 ∷ []) ∷ of_code (op 3 ∷ op 176 ∷ []) ∷ of_code (op 26 ∷ op 42 ∷ op 176 ∷ []) ∷ of_code (op 42 ∷ newarray 8 ∷ op 176 ∷ []) ∷ []
+    ≡ Stuck ∷ Stuck ∷ raised null_pointer ∷ Stuck ∷ Stuck ∷ Stuck ∷ Stuck ∷ []
+unfolding int_wrap digits instruction_of simple code_of has_initialiser most_classes chain_of interfaces_from interfaces_above is_subclass is_subtype field_order resolve_method resolve_field select special_method field_count place_of static_place metered_program raw_program sandbox_program compute convert moved on_values load_element store_element array_length make_array charge_one charge_all answer host_answer perform native with_literal invoke effect pays used_class is_initialised mark with_constants constants_of initialise unwound settle step begin amounts turn turns metered_run steps plain_run
+other_kinds = refl
+
+-- a native method's charge that passes ends a metered run with the sum that it makes
+abbrev text_made : ℕ → Run
+text_made alloc = metered_run (metered_program (a_with (verify_with (op 7 ∷ method 184 string (codes "valueOf") (int ∷ []) (Some string) ∷ op 87 ∷ op 42 ∷ op 176 ∷ []) [] ∷ []) ∷ [])) entry (1 ∷ []) (at_most alloc 9 9 9) 100
+
+text_charged : text_made 24 ∷ text_made 23 ∷ [] ≡ Ends (outcomes.OkBytes (1 ∷ [])) (costs 24 1 0 0) ∷ Ends (outcomes.Stopped charges.Alloc) (costs 24 1 0 0) ∷ []
+unfolding int_wrap digits instruction_of simple code_of has_initialiser most_classes chain_of interfaces_from interfaces_above is_subclass is_subtype field_order resolve_method resolve_field select special_method field_count place_of static_place metered_program raw_program sandbox_program compute convert moved on_values load_element store_element array_length make_array charge_one charge_all answer host_answer perform native with_literal invoke effect pays used_class is_initialised mark with_constants constants_of initialise unwound settle step begin amounts turn turns metered_run steps plain_run
+text_charged = refl
+
+-- arraycopy of two arrays into one of strings: the string is copied, and then the array is refused
+abbrev copying : List Instruction
+copying = op 5 ∷ class 189 object ∷ op 76 ∷ op 43 ∷ op 3 ∷ ldc (AText (codes "ab")) ∷ op 83 ∷ op 43 ∷ op 4 ∷ op 42 ∷ op 83 ∷ op 5 ∷ class 189 string ∷ op 77
+    ∷ op 43 ∷ op 3 ∷ op 44 ∷ op 3 ∷ op 5 ∷ method 184 (class_type (lang_name (codes "System"))) (codes "arraycopy") (object ∷ int ∷ object ∷ int ∷ int ∷ []) None ∷ op 42 ∷ op 176
+    ∷ op 87 ∷ op 44 ∷ op 3 ∷ op 50 ∷ op 176 ∷ []
+
+copied_before : of_code copying ∷ runs (a_with (verify_with copying (catch_all 19 20 22 ∷ []) ∷ []) ∷ []) (1 ∷ 2 ∷ []) ∷ []
+    ≡ Ends (throws_plainly (codes "ArrayStoreException")) (costs 48 1 0 0) ∷ Ends outcomes.Link (costs 48 1 0 1) ∷ []
+unfolding int_wrap digits instruction_of simple code_of has_initialiser most_classes chain_of interfaces_from interfaces_above is_subclass is_subtype field_order resolve_method resolve_field select special_method field_count place_of static_place metered_program raw_program sandbox_program compute convert moved on_values load_element store_element array_length make_array charge_one charge_all answer host_answer perform native with_literal invoke effect pays used_class is_initialised mark with_constants constants_of initialise unwound settle step begin amounts turn turns metered_run steps plain_run
+copied_before = refl

@@ -9,16 +9,20 @@ use Rattle.dj_model.specs.Program.{Program, Code, class_at, class_map, program_m
 use Rattle.dj_model.specs.Linking.{static_place}
 use Rattle.dj_model.specs.Effects.{effect, pays, used_class}
 use Rattle.dj_model.specs.Mapping.{IsNameMap, same_names_map}
-use Rattle.dj_model.specs.Laws.{IsMapped, CommutesWithNames, ReadsNoCode, StepCommutesWithNames, SandboxHasNames, HasFewFrames, InitialisesOnce, HasOneEnd, IsJudged, HeapsGrow, CostsStayWithin, KeepsKinds, StepsAreMade, AnswersHaveKinds}
+use Rattle.dj_model.specs.Laws.{IsMapped, CommutesWithNames, ReadsNoCode, StepCommutesWithNames, RunsCommuteWithNames, SandboxHasNames, HasFewFrames, InitialisesOnce, HasOneEnd, IsJudged, HeapsGrow, CostsStayWithin, PaysFirst, KeepsKinds, StepsAreMade, RunsStaySound, AnswersHaveKinds}
 use Rattle.dj_model.specs.Rows.{WorkedRuns}
 use Rattle.dj_model.proofs.Frames.{begin_few, step_few, marked}
-use Rattle.dj_model.proofs.Once.{not_yet, all_differ, stays}
+use Rattle.dj_model.proofs.Once.{not_yet, all_differ, stays, step_begins, step_pushes, run_begins}
 use Rattle.dj_model.proofs.Turns.{same_end}
+use Rattle.dj_model.proofs.Paying.{step_clears, unpaid_pays, paid_acts}
+use Rattle.dj_model.proofs.MappedRuns.{begin_mapped, run_mapped}
 use Rattle.dj_model.proofs.Shapes.{one_shape_fault, no_fault_with_shape, shape_or_fault}
 use Rattle.dj_model.proofs.Growth.{grows_sum}
-use Rattle.dj_model.proofs.StepFits.{steps_grow, begins_grow, turn_within, runs_within}
+use Rattle.dj_model.proofs.StepFits.{steps_grow, begins_grow, turn_within, runs_within, step_told, begin_told, run_over}
 use Rattle.dj_model.proofs.SoundCalls.{kinds_kept}
 use Rattle.dj_model.proofs.SoundSteps.{step_made}
+use Rattle.dj_model.proofs.SoundRuns.{step_stands, begin_stands, plain_stands, never_starved, turn_stands, metered_stands}
+use Rattle.dj_model.proofs.QuietLibraries.{metered_asks_nothing, sandbox_asks_nothing}
 use Rattle.dj_model.proofs.SoundNatives.{answer_kind}
 use Rattle.dj_model.proofs.Rows as rows
 use Rattle.dj_model.proofs.MappedNames as names
@@ -57,6 +61,12 @@ effect_reads_no_code g p program =
 pub step_commutes_with_names : StepCommutesWithNames
 step_commutes_with_names f p q program terms s is keeps = steps.step_mapped f p q is program terms keeps s
 
+pub runs_commute_with_names : RunsCommuteWithNames
+runs_commute_with_names = record {
+  begins = λ f p q program terms entry input answers is keeps. begin_mapped f p q is program terms keeps entry input answers;
+  runs = λ f p q program terms entry input answers most is keeps. run_mapped f p q is program terms keeps entry input answers most;
+}
+
 pub sandbox_has_names : SandboxHasNames
 sandbox_has_names = (sandbox_map, accounter_apart)
 
@@ -67,7 +77,7 @@ pub few_frames : HasFewFrames
 few_frames = record { begins = begin_few; goes_on = step_few }
 
 pub initialised_once : InitialisesOnce
-initialised_once = record { not_before = not_yet; differ = all_differ; marked = marked; stays = stays }
+initialised_once = record { not_before = not_yet; differ = all_differ; marked = marked; stays = stays; begun = step_begins; pushed = step_pushes; starts = run_begins }
 
 pub one_end : HasOneEnd
 one_end = same_end
@@ -79,7 +89,10 @@ pub heaps_grow : HeapsGrow
 heaps_grow = record { steps = steps_grow; sums = grows_sum; begins = begins_grow }
 
 pub costs_stay_within : CostsStayWithin
-costs_stay_within = record { turns = turn_within; runs = runs_within }
+costs_stay_within = record { turns = turn_within; runs = runs_within; accounted = step_told; accounted_begins = begin_told; accounted_runs = run_over }
+
+pub pays_first : PaysFirst
+pays_first = record { unpaid = unpaid_pays; paid = paid_acts; cleared = step_clears }
 
 pub keeps_kinds : KeepsKinds
 keeps_kinds = kinds_kept
@@ -90,3 +103,15 @@ steps_are_made program prefix terms s f below i signature code k left is stands 
 
 pub answers_have_kinds : AnswersHaveKinds
 answers_have_kinds = answer_kind
+
+pub runs_stay_sound : RunsStaySound
+runs_stay_sound = record {
+  begins = λ program prefix terms entry input answers is e. begin_stands program prefix is terms entry input answers e;
+  steps = λ program prefix terms s is k. step_stands program prefix is terms s k;
+  turns = λ program most s is k. turn_stands program is most s k;
+  quiet = never_starved;
+  plain = λ program prefix terms entry input answers most is e. plain_stands program prefix is terms entry input answers most e;
+  metered = λ program entry input most n is quiet e. metered_stands program is quiet entry input most n e;
+  metered_quiet = metered_asks_nothing;
+  sandbox_quiet = sandbox_asks_nothing;
+}

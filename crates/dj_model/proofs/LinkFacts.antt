@@ -165,3 +165,12 @@ static_places : static_count family ∷ static_place family (codes "B") (codes "
     ≡ 8 ∷ 0 ∷ 1 ∷ 2 ∷ 3 ∷ 7 ∷ []
 unfolding most_classes chain_of interfaces_from interfaces_above is_subclass is_subtype field_order resolve_method resolve_field select special_method field_count place_of static_place metered_program raw_program sandbox_program
 static_places = refl
+
+-- a class's unnamed fields stand before its own, and after those of its superclass
+abbrev unnamed_family : Program
+unnamed_family = record (class_with (codes "A") (field_with 0 (codes "a") int None ∷ []) []) { unnamed_fields = 2 } ∷ record (class_with (codes "B") (field_with 0 (codes "b") int None ∷ field_with 0 (codes "c") int None ∷ []) []) { superclass = Some (codes "A"); unnamed_fields = 1 } ∷ []
+
+unnamed_places : map (λ (name : Name). place_of unnamed_family (record { class = codes "B"; field = field_with 0 name int None })) (codes "b" ∷ codes "c" ∷ []) ∷ map (λ (name : Name). place_of unnamed_family (record { class = name; field = field_with 0 (codes "a") int None })) (codes "A" ∷ []) ∷ map (field_count unnamed_family) (codes "A" ∷ codes "B" ∷ []) ∷ []
+    ≡ (4 ∷ 5 ∷ []) ∷ (2 ∷ []) ∷ (3 ∷ 6 ∷ []) ∷ []
+unfolding most_classes chain_of place_of field_count
+unnamed_places = refl

@@ -13,6 +13,8 @@ use Rattle.dj_names.specs.declared.native.NativeId.{NativeId}
 use Rattle.dj_names.specs.declared.native.NativeId.TheVariants as natives
 use Rattle.dj_names.specs.Heaps.{Instance, Array, Text, Heap}
 use Rattle.dj_names.specs.Library.{object, string, builder, lang}
+use Rattle.dj_names.specs.Tests.{units_read}
+use Rattle.dj_names.specs.UnitReading.{two_read, three_read, long_read, unit_read}
 use Rattle.dj_names.specs.Types.{class_type, base_array, array_type, sandbox_prefix}
 use Rattle.dj_model.specs.Linking.{most_classes, chain_of, interfaces_from, interfaces_above, is_subclass, is_subtype}
 use Rattle.dj_model.specs.Libraries.{metered_program}
@@ -35,7 +37,7 @@ of id args = answer id (seen (metered_program []) [] heap) args
 
 objects : of natives.ObjectNew (values.Ref 10 ∷ []) ∷ of natives.ObjectEquals (values.Ref 4 ∷ values.Ref 4 ∷ []) ∷ of natives.ObjectEquals (values.Ref 4 ∷ values.Ref 5 ∷ []) ∷ of natives.ObjectEquals (values.Ref 4 ∷ values.Ref 0 ∷ []) ∷ of natives.ObjectHashCode (values.Ref 10 ∷ []) ∷ of natives.ObjectToString (values.Ref 10 ∷ []) ∷ of natives.ObjectToString (values.Ref 7 ∷ []) ∷ of natives.ObjectToString (values.Ref 11 ∷ []) ∷ of natives.ObjectToString (values.Ref 1 ∷ []) ∷ []
     ≡ Returns None ∷ Returns (Some (values.Int (pos 1))) ∷ Returns (Some (values.Int (pos 0))) ∷ Returns (Some (values.Int (pos 0))) ∷ Returns (Some (values.Int (pos 10))) ∷ MakesText (codes "p.q.R@a") ∷ MakesText (codes "[Ljava.lang.String;@7") ∷ MakesText (codes "[I@b") ∷ MakesText (codes "java.lang.String@1") ∷ []
-unfolding answer host_answer digits int_wrap most_classes chain_of interfaces_from interfaces_above is_subclass is_subtype metered_program
+unfolding answer host_answer digits int_wrap most_classes chain_of interfaces_from interfaces_above is_subclass is_subtype metered_program units_read unit_read long_read two_read three_read
 objects = refl
 
 texts : of natives.StringLength (values.Ref 1 ∷ []) ∷ of natives.StringLength (values.Ref 2 ∷ []) ∷ of natives.StringIsEmpty (values.Ref 1 ∷ []) ∷ of natives.StringIsEmpty (values.Ref 2 ∷ []) ∷ of natives.StringToString (values.Ref 1 ∷ []) ∷ of natives.StringCharAt (values.Ref 1 ∷ values.Int (pos 0) ∷ []) ∷ of natives.StringCharAt (values.Ref 1 ∷ values.Int (pos 2) ∷ []) ∷ of natives.StringCharAt (values.Ref 1 ∷ values.Int (pos 3) ∷ []) ∷ of natives.StringCharAt (values.Ref 1 ∷ values.Int (negsuc 0) ∷ []) ∷ of natives.StringEquals (values.Ref 1 ∷ values.Ref 1 ∷ []) ∷ of natives.StringEquals (values.Ref 1 ∷ values.Ref 3 ∷ []) ∷ of natives.StringEquals (values.Ref 1 ∷ values.Ref 13 ∷ []) ∷ of natives.StringEquals (values.Ref 2 ∷ values.Ref 0 ∷ []) ∷ of natives.StringEquals (values.Ref 2 ∷ values.Ref 10 ∷ []) ∷ of natives.StringHashCode (values.Ref 1 ∷ []) ∷ of natives.StringHashCode (values.Ref 2 ∷ []) ∷ of natives.StringCompareTo (values.Ref 1 ∷ values.Ref 3 ∷ []) ∷ of natives.StringCompareTo (values.Ref 3 ∷ values.Ref 1 ∷ []) ∷ of natives.StringCompareTo (values.Ref 1 ∷ values.Ref 13 ∷ []) ∷ of natives.StringCompareTo (values.Ref 13 ∷ values.Ref 2 ∷ []) ∷ of natives.StringCompareTo (values.Ref 1 ∷ values.Ref 1 ∷ []) ∷ of natives.StringCompareTo (values.Ref 1 ∷ values.Ref 0 ∷ []) ∷ of natives.StringCompareToObject (values.Ref 1 ∷ values.Ref 3 ∷ []) ∷ of natives.StringCompareToObject (values.Ref 1 ∷ values.Ref 0 ∷ []) ∷ of natives.StringCompareToObject (values.Ref 1 ∷ values.Ref 4 ∷ []) ∷ of natives.StringStartsWith (values.Ref 13 ∷ values.Ref 1 ∷ []) ∷ of natives.StringStartsWith (values.Ref 1 ∷ values.Ref 13 ∷ []) ∷ of natives.StringStartsWith (values.Ref 1 ∷ values.Ref 2 ∷ []) ∷ of natives.StringStartsWith (values.Ref 13 ∷ values.Ref 3 ∷ []) ∷ of natives.StringStartsWith (values.Ref 1 ∷ values.Ref 0 ∷ []) ∷ of natives.StringConcat (values.Ref 1 ∷ values.Ref 3 ∷ []) ∷ of natives.StringConcat (values.Ref 1 ∷ values.Ref 2 ∷ []) ∷ of natives.StringConcat (values.Ref 2 ∷ values.Ref 1 ∷ []) ∷ of natives.StringConcat (values.Ref 1 ∷ values.Ref 0 ∷ []) ∷ of natives.StringSubstringFrom (values.Ref 13 ∷ values.Int (pos 1) ∷ []) ∷ of natives.StringSubstringFrom (values.Ref 13 ∷ values.Int (pos 4) ∷ []) ∷ of natives.StringSubstringFrom (values.Ref 13 ∷ values.Int (pos 5) ∷ []) ∷ of natives.StringSubstringFrom (values.Ref 13 ∷ values.Int (negsuc 0) ∷ []) ∷ of natives.StringSubstring (values.Ref 13 ∷ values.Int (pos 1) ∷ values.Int (pos 3) ∷ []) ∷ of natives.StringSubstring (values.Ref 13 ∷ values.Int (pos 2) ∷ values.Int (pos 2) ∷ []) ∷ of natives.StringSubstring (values.Ref 13 ∷ values.Int (pos 0) ∷ values.Int (pos 4) ∷ []) ∷ of natives.StringSubstring (values.Ref 13 ∷ values.Int (pos 0) ∷ values.Int (pos 5) ∷ []) ∷ of natives.StringSubstring (values.Ref 13 ∷ values.Int (pos 3) ∷ values.Int (pos 2) ∷ []) ∷ of natives.StringSubstring (values.Ref 13 ∷ values.Int (negsuc 0) ∷ values.Int (pos 2) ∷ []) ∷ of natives.StringToCharArray (values.Ref 1 ∷ []) ∷ []
@@ -87,11 +89,12 @@ host_of id z = host_answer id (seen (metered_program []) [] heap) z (values.Ref 
 
 host_answers : host_of natives.HostHashCode (negsuc 4) ∷ host_of natives.HostIdentityHashCode (pos 4) ∷ host_of natives.HostToString (negsuc 0) ∷ host_of natives.NanoTime (pos 4) ∷ host_of natives.CurrentTimeMillis (pos 5) ∷ []
     ≡ Returns (Some (values.Int (negsuc 4))) ∷ Returns (Some (values.Int (pos 4))) ∷ MakesText (codes "p.q.R@ffffffff") ∷ Returns (Some (values.Long (pos 4))) ∷ Returns (Some (values.Long (pos 5))) ∷ []
-unfolding answer host_answer digits int_wrap most_classes chain_of interfaces_from interfaces_above is_subclass is_subtype metered_program
+unfolding answer host_answer digits int_wrap most_classes chain_of interfaces_from interfaces_above is_subclass is_subtype metered_program units_read unit_read long_read two_read three_read
 host_answers = refl
 
 -- names without the prefix of the library, and only in front
 shown : shown_class sandbox_prefix (class_type (codes "sandbox/a/B")) ∷ shown_class sandbox_prefix (array_type (class_type (codes "sandbox/B"))) ∷ shown_class sandbox_prefix (class_type (codes "a/sandbox/B"))
     ∷ shown_class [] (class_type (codes "sandbox/B")) ∷ shown_class [] (base_array bases.Long) ∷ []
     ≡ codes "a.B" ∷ codes "[LB;" ∷ codes "a.sandbox.B" ∷ codes "sandbox.B" ∷ codes "[J" ∷ []
+unfolding units_read unit_read long_read two_read three_read
 shown = refl

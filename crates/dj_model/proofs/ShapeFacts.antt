@@ -1,5 +1,5 @@
 -- The shape of small codes.
-use Rattle.std.proofs.Common.{◌≡◌, true, false, pos, ℕ, zero, suc, List, [], ◌∷◌, length, Option, Some, None, nat_le, codes, refl, if◌then◌else◌}
+use Rattle.std.proofs.Common.{◌≡◌, true, false, pos, ℕ, zero, suc, List, [], ◌∷◌, length, map, Option, Some, None, nat_le, codes, refl, if◌then◌else◌}
 use Rattle.dj_names.specs.declared.descriptor.Kind.{Kind}
 use Rattle.dj_names.specs.declared.descriptor.Kind.TheVariants as kinds
 use Rattle.dj_names.specs.declared.descriptor.Base.TheVariants as bases
@@ -11,7 +11,8 @@ use Rattle.dj_ops.specs.declared.frames.VType.TheVariants as types
 use Rattle.dj_ops.specs.declared.frames.Form.{Form}
 use Rattle.dj_ops.specs.declared.frames.Form.TheVariants as forms
 use Rattle.dj_ops.specs.declared.frames.Frame.{Frame}
-use Rattle.dj_model.specs.Instructions.{Instruction}
+use Rattle.dj_ops.specs.declared.instruction.Instr.TheVariants as instrs
+use Rattle.dj_model.specs.Instructions.{Nothing, Instruction}
 use Rattle.dj_model.specs.Opcodes.{instruction_of, simple}
 use Rattle.dj_model.specs.Numbers.{is_wide}
 use Rattle.dj_model.specs.Program.{Code, Range}
@@ -81,12 +82,41 @@ loops : of loop (frame 2 (forms.Append (types.Integer ∷ [])) ∷ frame 6 forms
 unfolding after instruction_of simple state_before frames_after moved
 loops = refl
 
--- after a jump there has to be a frame; a jump to itself is one; a switch has all its targets
+-- after a jump there has to be a frame; a jump to itself is one
 ends_need_frames : of (jump 167 2 ∷ op 0 ∷ op 42 ∷ op 176 ∷ []) (frame 2 forms.Same ∷ []) [] ∷ of (jump 167 2 ∷ op 0 ∷ op 42 ∷ op 176 ∷ []) (frame 1 forms.Same ∷ frame 2 forms.Same ∷ []) []
     ∷ of (jump 167 0 ∷ []) (frame 0 forms.Same ∷ []) [] ∷ of (jump 167 0 ∷ []) [] [] ∷ of (op 1 ∷ op 191 ∷ []) [] [] ∷ of (op 1 ∷ op 191 ∷ op 42 ∷ op 176 ∷ []) [] [] ∷ []
     ≡ Fault (Some 1) ∷ Shape ∷ Shape ∷ Fault (Some 0) ∷ Shape ∷ Fault (Some 2) ∷ []
 unfolding after instruction_of simple state_before frames_after moved
 ends_need_frames = refl
+
+-- a switch takes an int; each of its targets has a frame, and so has the instruction after it
+abbrev switching : Instruction → List ℕ → Judged
+switching switch framed = of (op 3 ∷ switch ∷ op 42 ∷ op 176 ∷ op 42 ∷ op 176 ∷ op 42 ∷ op 176 ∷ []) (map (λ at. frame at forms.Same) framed) []
+
+abbrev table : Instruction
+table = instruction_of (instrs.Table (pos 6) (pos 1) (pos 2 ∷ pos 4 ∷ [])) Nothing
+
+abbrev lookup : Instruction
+lookup = instruction_of (instrs.Lookup (pos 6) ((pos 3, pos 2) ∷ (pos 7, pos 4) ∷ [])) Nothing
+
+-- the last goes to 4 alone
+abbrev lookup_one : Instruction
+lookup_one = instruction_of (instrs.Lookup (pos 4) ((pos 3, pos 6) ∷ [])) Nothing
+
+switches : map (switching table) ((2 ∷ 4 ∷ 6 ∷ []) ∷ (2 ∷ 4 ∷ []) ∷ (2 ∷ 6 ∷ []) ∷ (4 ∷ 6 ∷ []) ∷ []) ∷ map (switching lookup) ((2 ∷ 4 ∷ 6 ∷ []) ∷ (2 ∷ 4 ∷ []) ∷ (2 ∷ 6 ∷ []) ∷ (4 ∷ 6 ∷ []) ∷ [])
+    ∷ map (switching lookup_one) ((2 ∷ 4 ∷ 6 ∷ []) ∷ (2 ∷ 6 ∷ []) ∷ (2 ∷ 4 ∷ []) ∷ (4 ∷ 6 ∷ []) ∷ []) ∷ []
+    ≡ (Shape ∷ Fault (Some 1) ∷ Fault (Some 1) ∷ Fault (Some 1) ∷ []) ∷ (Shape ∷ Fault (Some 1) ∷ Fault (Some 1) ∷ Fault (Some 1) ∷ [])
+    ∷ (Shape ∷ Fault (Some 1) ∷ Fault (Some 1) ∷ Fault (Some 2) ∷ []) ∷ []
+unfolding after instruction_of simple state_before frames_after moved
+switches = refl
+
+-- a switch may stand last, and its int has to be there
+last_switches : of (op 3 ∷ instruction_of (instrs.Lookup (pos 0) []) Nothing ∷ []) (frame 0 forms.Same ∷ []) [] ∷ of (op 3 ∷ instruction_of (instrs.Table (pos 0) (pos 1) []) Nothing ∷ []) (frame 0 forms.Same ∷ []) []
+    ∷ of (op 42 ∷ instruction_of (instrs.Lookup (pos 0) []) Nothing ∷ []) (frame 0 forms.Same ∷ []) [] ∷ of (op 3 ∷ instruction_of (instrs.Lookup (pos 0) []) Nothing ∷ []) [] []
+    ∷ of (op 3 ∷ instruction_of (instrs.Lookup (pos 1) []) Nothing ∷ []) (frame 1 forms.Same ∷ []) [] ∷ []
+    ≡ Shape ∷ Shape ∷ Fault (Some 1) ∷ Fault (Some 1) ∷ Fault (Some 0) ∷ []
+unfolding after instruction_of simple state_before frames_after moved
+last_switches = refl
 
 -- the parameters flow into a frame of the first instruction
 first_frames : of (op 42 ∷ op 176 ∷ []) (frame 0 (forms.Append (types.Integer ∷ [])) ∷ []) [] ∷ of (op 42 ∷ op 176 ∷ []) (frame 0 (forms.Append (types.Top ∷ [])) ∷ []) []
@@ -126,6 +156,25 @@ frames_in_order : two_frames (forms.Append (types.Integer ∷ [])) (forms.Chop 2
 unfolding after instruction_of simple state_before frames_after moved
 frames_in_order = refl
 
+-- operands of a frame stand as it tells them, the last on top; a long takes two slots and two operands
+abbrev with_operands : List VType → List Instruction → Judged
+with_operands stack instructions = of (jump 167 1 ∷ instructions) (frame 1 (forms.Full (types.Null ∷ []) stack) ∷ []) []
+
+operands_in_order : with_operands (types.Integer ∷ types.Null ∷ []) (op 176 ∷ []) ∷ of (op 3 ∷ op 42 ∷ jump 167 3 ∷ op 176 ∷ []) (frame 3 (forms.Full (types.Null ∷ []) (types.Integer ∷ types.Null ∷ [])) ∷ []) []
+    ∷ of (op 3 ∷ op 42 ∷ jump 167 3 ∷ op 176 ∷ []) (frame 3 (forms.Full (types.Null ∷ []) (types.Null ∷ types.Integer ∷ [])) ∷ []) []
+    ∷ of (op 42 ∷ op 3 ∷ jump 167 3 ∷ op 87 ∷ op 176 ∷ []) (frame 3 (forms.Full (types.Null ∷ []) (types.Null ∷ types.Integer ∷ [])) ∷ []) [] ∷ []
+    ≡ Fault (Some 0) ∷ Shape ∷ Fault (Some 2) ∷ Shape ∷ []
+unfolding after instruction_of simple state_before frames_after moved
+operands_in_order = refl
+
+-- of three slots: a long's second one has to be there, an increment wants an int, and a store over a half of a long leaves none
+long_slots : plain (op 9 ∷ op 64 ∷ op 42 ∷ op 176 ∷ []) ∷ plain (op 9 ∷ op 65 ∷ op 42 ∷ op 176 ∷ []) ∷ plain (op 3 ∷ op 61 ∷ op 42 ∷ op 176 ∷ []) ∷ plain (op 3 ∷ op 62 ∷ op 42 ∷ op 176 ∷ [])
+    ∷ plain (op 9 ∷ op 64 ∷ op 31 ∷ op 88 ∷ op 42 ∷ op 176 ∷ []) ∷ plain (op 9 ∷ op 64 ∷ op 3 ∷ op 61 ∷ op 31 ∷ op 88 ∷ op 42 ∷ op 176 ∷ []) ∷ plain (op 3 ∷ op 61 ∷ op 9 ∷ op 64 ∷ op 28 ∷ op 87 ∷ op 42 ∷ op 176 ∷ [])
+    ∷ plain (op 3 ∷ op 60 ∷ op 3 ∷ op 61 ∷ iinc 2 (pos 1) ∷ op 42 ∷ op 176 ∷ []) ∷ plain (iinc 0 (pos 1) ∷ op 42 ∷ op 176 ∷ []) ∷ plain (iinc 1 (pos 1) ∷ op 42 ∷ op 176 ∷ []) ∷ plain (op 9 ∷ op 64 ∷ iinc 1 (pos 1) ∷ op 42 ∷ op 176 ∷ []) ∷ []
+    ≡ Shape ∷ Fault (Some 1) ∷ Shape ∷ Fault (Some 1) ∷ Shape ∷ Fault (Some 4) ∷ Fault (Some 4) ∷ Shape ∷ Fault (Some 0) ∷ Fault (Some 0) ∷ Fault (Some 2) ∷ []
+unfolding after instruction_of simple state_before frames_after moved
+long_slots = refl
+
 -- handlers: iconst_0, istore_1, iconst_0, istore_1, aload_0, areturn, H: pop, aload_0, areturn
 abbrev handling : List Frame → ℕ → ℕ → Judged
 handling frames start end =
@@ -137,8 +186,8 @@ caught_with locals stack = frame 6 (forms.Full locals stack) ∷ []
 handlers : handling (caught_with (types.Null ∷ []) (types.Null ∷ [])) 0 6 ∷ handling [] 0 6 ∷ handling (caught_with (types.Null ∷ []) (types.Integer ∷ [])) 0 6
     ∷ handling (caught_with (types.Null ∷ []) []) 0 6 ∷ handling (caught_with (types.Null ∷ []) (types.Null ∷ types.Null ∷ [])) 0 6
     ∷ handling (caught_with (types.Null ∷ types.Integer ∷ []) (types.Null ∷ [])) 2 6 ∷ handling (caught_with (types.Null ∷ types.Integer ∷ []) (types.Null ∷ [])) 1 6
-    ∷ handling (caught_with (types.Null ∷ types.Integer ∷ []) (types.Null ∷ [])) 0 2 ∷ []
-    ≡ Shape ∷ Fault (Some 6) ∷ Fault (Some 6) ∷ Fault (Some 6) ∷ Fault (Some 6) ∷ Shape ∷ Fault (Some 1) ∷ Fault (Some 0) ∷ []
+    ∷ handling (caught_with (types.Null ∷ types.Integer ∷ []) (types.Null ∷ [])) 0 2 ∷ handling (caught_with (types.Null ∷ types.Top ∷ types.Integer ∷ []) (types.Null ∷ [])) 5 5 ∷ []
+    ≡ Shape ∷ Fault (Some 6) ∷ Fault (Some 6) ∷ Fault (Some 6) ∷ Fault (Some 6) ∷ Shape ∷ Fault (Some 1) ∷ Fault (Some 0) ∷ Shape ∷ []
 unfolding after instruction_of simple state_before frames_after moved
 handlers = refl
 

@@ -1,5 +1,5 @@
 -- Each instruction but a call has an effect in a sound program, which keeps the kinds that shape tells.
-use Rattle.std.proofs.Common.{◌≡◌, ℕ, ◌+◌, ◌&&◌, Bool, true, false, ℤ, pos, negsuc, List, [], ◌∷◌, length, map, Option, Some, None, Result, Ok, Err, nat_eq, refl, ap, subst, ◌∙◌, if◌then◌else◌, inl, inr, IsTrue, IsFalse}
+use Rattle.std.proofs.Common.{◌≡◌, ℕ, ◌+◌, ◌&&◌, Bool, true, false, not, ℤ, pos, negsuc, List, [], ◌∷◌, length, map, Option, Some, None, Result, Ok, Err, nat_eq, refl, ap, subst, ◌∙◌, if◌then◌else◌, inl, inr, IsTrue, IsFalse}
 use Rattle.std.specs.Option.{option_map}
 use Rattle.std.specs.Prelude.{⊤, slice_index}
 use Rattle.dj_names.specs.declared.descriptor.Kind.{Kind}
@@ -13,8 +13,8 @@ use Rattle.dj_names.specs.declared.run.Raised.TheVariants as raises
 use Rattle.dj_names.specs.declared.run.Outcome.{Outcome}
 use Rattle.dj_names.specs.Values.{value_kind}
 use Rattle.dj_names.specs.Heaps.{Object, Heap, object_size, array_size, element_at, element_value, field_value}
-use Rattle.dj_names.specs.Types.{Name, field_kind, class_type}
-use Rattle.dj_model.specs.Types.{Prefix, Member, throwable_name}
+use Rattle.dj_names.specs.Types.{same_name, Name, field_kind, class_type}
+use Rattle.dj_model.specs.Types.{initialiser_name, Prefix, Member, throwable_name}
 use Rattle.dj_model.specs.Instructions.{Access, Bytes, Chars, Shorts, Ints, Longs, References, Instruction, Nop, Push, PushText, Load, Store, Increment, LoadElement, StoreElement, Move, Compute, Convert, Branch, Goto, Switch, Return, GetStatic, PutStatic, GetField, PutField, Invoke, New, NewArray, ArrayLength, Throw, CheckCast, InstanceOf, Monitor, Other, ends, calls}
 use Rattle.dj_model.specs.Program.{Program, Code}
 use Rattle.dj_model.specs.Linking.{FoundField, resolve_field, place_of, place_of_static}
@@ -199,7 +199,7 @@ module _ (program : Program) (prefix : Prefix) (terms : Terms) (own : Name) (sig
 
   -- fields
   field_there : (static : Bool) (m : Member) → IsTrue (is_field_linked program prefix static m) → (found : FoundField) × (resolve_field program prefix m ≡ Some found)
-  field_there static m linked = go (resolve_field program prefix m) refl (second (is_class_of program m.class) (is_field_found static (resolve_field program prefix m)) linked) where
+  field_there static m linked = go (resolve_field program prefix m) refl (second (is_class_of program m.class && not (same_name m.name initialiser_name)) (is_field_found static (resolve_field program prefix m)) linked) where
     second : (a b : Bool) → IsTrue (a && b) → IsTrue b
     second true b e = e
     second false b e = absurd cc

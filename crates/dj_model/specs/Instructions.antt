@@ -150,11 +150,6 @@ targets (Goto target) = target ∷ []
 targets (Switch pairs default) = default ∷ map (λ pair. pair.1) pairs
 targets _ = []
 
--- it throws an object
-abbrev pub throws : Instruction → Bool
-throws Throw = true
-throws _ = false
-
 -- it may go on in another method
 abbrev pub calls : Instruction → Bool
 calls (Invoke mode m) = true

@@ -1,5 +1,5 @@
 -- Laws of the model.
-use Rattle.std.specs.Prelude.{◌≡◌, ◌≢◌, ℕ, ◌+◌, ◌≤◌, ◌<◌, ◌⊎◌, ⊤, pos, List, [], ◌∷◌, ◌++◌, map, length, replicate, Option, Some, None, Bool, IsTrue, IsFalse}
+use Rattle.std.specs.Prelude.{◌≡◌, ◌≢◌, ℕ, ◌+◌, ◌≤◌, ◌<◌, ◌⊎◌, ⊤, pos, List, [], ◌∷◌, ◌++◌, map, length, replicate, reverse, Option, Some, None, Bool, IsTrue, IsFalse, IsSome, IfSome}
 use Rattle.std.specs.Option.{option_map}
 use Rattle.std.specs.List.{AllByRecursion}
 use Rattle.dj_names.specs.declared.run.Value.{Value}
@@ -14,24 +14,25 @@ use Rattle.dj_names.specs.declared.descriptor.Ty.{Ty}
 use Rattle.dj_names.specs.Heaps.{Object, Instance, Array, Text, Heap, object_size}
 use Rattle.dj_names.specs.Types.{Name, in_sandbox, sandbox_prefix}
 use Rattle.dj_names.specs.Library.{below_object, accounter_class, accounter_methods, stop_class}
-use Rattle.dj_model.specs.Types.{Prefix, Declared}
+use Rattle.dj_model.specs.Types.{Prefix, Declared, declared_map}
 use Rattle.dj_model.specs.Instructions.{Instruction, instruction_map}
-use Rattle.dj_model.specs.Program.{Program, Class, Code, code_map, program_map}
-use Rattle.dj_model.specs.Libraries.{library_class}
-use Rattle.dj_model.specs.State.{Terms, Frame, State, instruction_at, state_map, Part, part_map, effect_map, Account}
+use Rattle.dj_model.specs.Program.{Program, Class, Code, is_initialiser, code_map, program_map}
+use Rattle.dj_model.specs.Linking.{chain}
+use Rattle.dj_model.specs.Libraries.{library_class, metered_program, raw_program, sandbox_program}
+use Rattle.dj_model.specs.State.{Terms, Accounted, Frame, State, instruction_at, state_map, Part, part_map, effect_map, Account}
 use Rattle.dj_model.specs.Effects.{effect, pays, used_class}
-use Rattle.dj_model.specs.Mapping.{IsNameMap, same_names_map, AreApart, KeepsStop, answer_map}
-use Rattle.dj_model.specs.Initialisation.{most_frames, is_initialised, mark, not_initialised}
+use Rattle.dj_model.specs.Mapping.{IsNameMap, same_names_map, AreApart, KeepsStop, answer_map, report_map}
+use Rattle.dj_model.specs.Initialisation.{most_frames, is_initialised, mark, not_initialised, initialiser_frames}
 use Rattle.dj_model.specs.Step.{Answer, Went, Ended, IllFormed, step}
-use Rattle.dj_model.specs.Charging.{no_costs}
-use Rattle.dj_model.specs.Runs.{begin, RunsTo, empty_heap, Run, Goes, Ends, Stuck, turn, metered_run}
+use Rattle.dj_model.specs.Charging.{Charged, Fine, Over, charge_all, no_costs}
+use Rattle.dj_model.specs.Runs.{begin, RunsTo, empty_heap, Run, Goes, Ends, Stuck, amounts, with_paid, top_is_paid, answer_run, metered_terms, turn, metered_run, plain_run}
 use Rattle.dj_model.specs.Kinds.{Signature, Kinds}
 use Rattle.dj_model.specs.Shape.{HasShape, IsShapeFault, after}
 use Rattle.dj_names.specs.declared.native.NativeId.{NativeId}
 use Rattle.dj_model.specs.Natives.{Seen, answer}
 use Rattle.dj_model.specs.NativeKinds.{native_signature}
 use Rattle.dj_model.specs.Sound.{is_linked, IsSound}
-use Rattle.dj_model.specs.Standing.{HasKinds, HasSoundEffect, IsStarved, AnswerKind, IsFormed}
+use Rattle.dj_model.specs.Standing.{HasKinds, HasSoundEffect, IsStarved, AnswerKind, IsFormed, IsStarvedAt, AsksNothing, AreStanding, AnswerStands, RunStands, IsEntry, Starves}
 
 -- ---- names and code
 
@@ -59,6 +60,16 @@ ReadsNoCode = (g : Code → Code) (p : Prefix) (program : Program) → IsSame p 
 abbrev pub StepCommutesWithNames : Type 0
 StepCommutesWithNames = (f : Name → Name) (p q : Prefix) (program : Program) (terms : Terms) (s : State) → IsNameMap f p q → KeepsStop f terms.counting
     → step (program_map f (code_map f) program) q terms (state_map f s) ≡ answer_map f (step program p terms s)
+
+-- a whole plain run does: it begins so, and ends with the other names of classes, the same costs, as many steps and as many answers taken
+pub record RunsCommuteWithNames : Type 0 where
+  pub begins : (f : Name → Name) (p q : Prefix) (program : Program) (terms : Terms) (entry : Declared) (input : List ℕ) (answers : List HostAnswer)
+      → IsNameMap f p q → KeepsStop f terms.counting
+      → begin (program_map f (code_map f) program) q terms (declared_map f entry) input answers ≡ answer_map f (begin program p terms entry input answers)
+  pub runs : (f : Name → Name) (p q : Prefix) (program : Program) (terms : Terms) (entry : Declared) (input : List ℕ) (answers : List HostAnswer) (most : ℕ)
+      → IsNameMap f p q → KeepsStop f terms.counting
+      → plain_run (program_map f (code_map f) program) q terms (declared_map f entry) input answers most
+      ≡ option_map (report_map f) (plain_run program p terms entry input answers most)
 
 -- the names of rewritten classes are such, and the accounter and the object that stops a run have others
 abbrev pub SandboxHasNames : Type 0
@@ -94,6 +105,20 @@ pub record InitialisesOnce : Type 0 where
   pub marked : (program : Program) (class : Name) (flags : List Bool) → IsTrue (is_initialised program (mark program class flags) class)
   pub stays : (program : Program) (prefix : Prefix) (terms : Terms) (class : Name) (s t : State) → step program prefix terms s ≡ Went t
       → IsTrue (is_initialised program s.initialised class) → IsTrue (is_initialised program t.initialised class)
+  -- after a step whose instruction uses a class, that one and its superclasses count as initialised, whether their initialisers stand above now or not
+  pub begun : (program : Program) (prefix : Prefix) (terms : Terms) (s t : State) (top : Frame Declared) (below : List (Frame Declared)) (i : Instruction) (used : Name)
+      → s.frames ≡ top ∷ below → instruction_at program top ≡ Some i → used_class program prefix i ≡ Some used → step program prefix terms s ≡ Went t
+      → AllByRecursion (λ class. IsTrue (is_initialised program t.initialised class)) (chain program used)
+  -- and where any of those that weren't before has an initialiser, these stand above now, each once, and nothing else does
+  pub pushed : (program : Program) (prefix : Prefix) (terms : Terms) (s : State) (f : Frame Declared) (frames : List (Frame Declared)) (t : State) (top : Frame Declared)
+      (below : List (Frame Declared)) (i : Instruction) (used : Name)
+      → s.frames ≡ top ∷ below → instruction_at program top ≡ Some i → used_class program prefix i ≡ Some used
+      → initialiser_frames program (reverse (not_initialised program s.initialised (chain program used))) ≡ f ∷ frames → step program prefix terms s ≡ Went t
+      → t.frames ≡ (f ∷ frames) ++ s.frames
+  -- and so the entry's classes count as initialised where a run has begun
+  pub starts : (program : Program) (prefix : Prefix) (terms : Terms) (entry : Declared) (input : List ℕ) (answers : List HostAnswer) (t : State)
+      → begin program prefix terms entry input answers ≡ Went t
+      → AllByRecursion (λ class. IsTrue (is_initialised program t.initialised class)) (chain program entry.class)
 
 -- a metered run ends in one way, at one cost
 abbrev pub HasOneEnd : Type 0
@@ -186,10 +211,86 @@ RunWithin most before (Goes s) = IsPaid most s.account × IsLess before s.accoun
 RunWithin most before (Ends outcome c) = IsEndWithin most c outcome × IsLess before c
 RunWithin most before Stuck = ⊤
 
+-- the sums are within their thresholds where nothing was exceeded, and else the one that was exceeded is above its own, and no other
+abbrev pub IsToldBy : Thresholds → Costs → Option Charge → Type 0
+IsToldBy most c None = IsWithin most c
+IsToldBy most c (Some charge) = IsOver most charge c
+
+abbrev pub IsTold : Thresholds → Account → Type 0
+IsTold most a = IsToldBy most a.costs a.exceeded
+
+-- an end by a charge is by the one that was exceeded
+abbrev pub IsEndTold : Option Charge → Outcome → Type 0
+IsEndTold exceeded (outcomes.Stopped charge) = exceeded ≡ Some charge
+IsEndTold exceeded outcomes.OkNull = ⊤
+IsEndTold exceeded (outcomes.OkBytes bytes) = ⊤
+IsEndTold exceeded (outcomes.Threw class message) = ⊤
+IsEndTold exceeded (outcomes.Init class exception message) = ⊤
+IsEndTold exceeded outcomes.Link = ⊤
+IsEndTold exceeded outcomes.TooDeep = ⊤
+IsEndTold exceeded (outcomes.HeapFull used size) = ⊤
+IsEndTold exceeded (outcomes.OutOfSteps steps) = ⊤
+
+abbrev pub AnswerTold : Thresholds → Costs → Answer → Type 0
+AnswerTold most before (Went t) = IsTold most t.account × IsLess before t.account.costs
+AnswerTold most before (Ended outcome t) = IsTold most t.account × IsLess before t.account.costs × IsEndTold t.account.exceeded outcome
+AnswerTold most before IllFormed = ⊤
+
+-- a run that is reported as stopped by a charge has that sum above its threshold, and no other
+abbrev pub IsStopOver : Thresholds → Costs → Outcome → Type 0
+IsStopOver most c (outcomes.Stopped charge) = IsOver most charge c
+IsStopOver most c outcomes.OkNull = ⊤
+IsStopOver most c (outcomes.OkBytes bytes) = ⊤
+IsStopOver most c (outcomes.Threw class message) = ⊤
+IsStopOver most c (outcomes.Init class exception message) = ⊤
+IsStopOver most c outcomes.Link = ⊤
+IsStopOver most c outcomes.TooDeep = ⊤
+IsStopOver most c (outcomes.HeapFull used size) = ⊤
+IsStopOver most c (outcomes.OutOfSteps steps) = ⊤
+
+-- the accounter counts
+abbrev pub accounted_terms : Option ℕ → Thresholds → Terms
+accounted_terms limit most = record { limit = limit; counting = Accounted most }
+
 -- a turn of a metered run only adds to the sums, and none passes its threshold but the one by which the run is stopped
 pub record CostsStayWithin : Type 0 where
   pub turns : (program : Program) (most : Thresholds) (s : State) → IsPaid most s.account → RunWithin most s.account.costs (turn program most s)
   pub runs : (program : Program) (entry : Declared) (input : List ℕ) (most : Thresholds) (n : ℕ) → RunWithin most no_costs (metered_run program entry input most n)
+  -- a step of a run whose charges the accounter counts only adds to the sums; none passes its threshold but the one that is told as exceeded, and no other one stops the run
+  pub accounted : (program : Program) (prefix : Prefix) (limit : Option ℕ) (most : Thresholds) (s : State) → IsTold most s.account
+      → AnswerTold most s.account.costs (step program prefix (accounted_terms limit most) s)
+  pub accounted_begins : (program : Program) (prefix : Prefix) (limit : Option ℕ) (most : Thresholds) (entry : Declared) (input : List ℕ) (answers : List HostAnswer)
+      → AnswerTold most no_costs (begin program prefix (accounted_terms limit most) entry input answers)
+  pub accounted_runs : (program : Program) (prefix : Prefix) (limit : Option ℕ) (most : Thresholds) (entry : Declared) (input : List ℕ) (answers : List HostAnswer) (n : ℕ)
+      → IfSome (plain_run program prefix (accounted_terms limit most) entry input answers n) (λ report. IsStopOver most report.costs report.outcome)
+
+-- ---- what is paid
+
+-- the charge passed its threshold, and ends the run with these costs
+abbrev pub IsOverBy : Charged → Outcome → Costs → Type 0
+IsOverBy (Fine account) outcome c = ⊥
+IsOverBy (Over charge account) outcome c = (outcome ≡ outcomes.Stopped charge) × (c ≡ account.costs)
+
+-- the charges of the next instruction are added, and nothing else happens but that the top frame is paid; or one passes its threshold, and ends the run
+abbrev pub RunPays : State → Charged → Run → Type 0
+RunPays s charged (Goes t) = (charged ≡ Fine t.account) × (t ≡ record s { account = t.account; frames = with_paid s.frames })
+RunPays s charged (Ends outcome c) = IsOverBy charged outcome c
+RunPays s charged Stuck = ⊥
+
+-- after a step the top frame isn't paid; but where an initialiser has returned, what its caller paid stays paid
+abbrev pub AnswerClears : Frame Declared → List (Frame Declared) → Answer → Type 0
+AnswerClears top below (Went t) = IsFalse (top_is_paid t.frames) ⊎ (IsTrue (is_initialiser top.method) × (t.frames ≡ below))
+AnswerClears top below (Ended outcome t) = ⊤
+AnswerClears top below IllFormed = ⊤
+
+-- a turn adds the charges of the next instruction, where the top frame isn't paid, and acts only where it is; so each instruction is paid once before it is done
+pub record PaysFirst : Type 0 where
+  pub unpaid : (program : Program) (most : Thresholds) (s : State) → IsFalse (top_is_paid s.frames)
+      → RunPays s (charge_all most (amounts program [] s) s.account) (turn program most s)
+  pub paid : (program : Program) (most : Thresholds) (s : State) → IsTrue (top_is_paid s.frames)
+      → turn program most s ≡ answer_run (step program [] (metered_terms most) s)
+  pub cleared : (program : Program) (prefix : Prefix) (terms : Terms) (s : State) (top : Frame Declared) (below : List (Frame Declared)) → s.frames ≡ top ∷ below
+      → AnswerClears top below (step program prefix terms s)
 
 -- ---- kinds
 
@@ -198,7 +299,7 @@ pub record CostsStayWithin : Type 0 where
 abbrev pub KeepsKinds : Type 0
 KeepsKinds = (program : Program) (prefix : Prefix) (terms : Terms) (own : Name) (signature : Signature) (code : Code) (i : Instruction) (k left : Kinds) (x : Part)
     → IsSound program prefix → IsTrue (is_linked program prefix i) → HasKinds x.locals x.operands k → length x.locals ≡ code.max_locals → after signature code i k ≡ Some left
-    → HasSoundEffect program prefix terms own signature code i k left x ⊎ IsStarved program x.answers
+    → HasSoundEffect program prefix terms own signature code i k left x ⊎ IsStarved program prefix terms own i x
 
 -- where the top frame of a sound program stands at an instruction that finds its kinds, there is a step, but for an answer that the host doesn't give
 abbrev pub StepsAreMade : Type 0
@@ -206,7 +307,31 @@ StepsAreMade = (program : Program) (prefix : Prefix) (terms : Terms) (s : State)
     (signature : Signature) (code : Code) (k left : Kinds)
     → IsSound program prefix → s.frames ≡ f ∷ below → instruction_at program f ≡ Some i → IsTrue (is_linked program prefix i)
     → HasKinds f.locals f.operands k → length f.locals ≡ code.max_locals → after signature code i k ≡ Some left
-    → IsFormed (step program prefix terms s) ⊎ IsStarved program s.answers
+    → IsFormed (step program prefix terms s) ⊎ IsStarvedAt program prefix terms s
+
+-- In a sound program, frames that stand as shape tells stay so, and there is each step, but for an answer that the host doesn't give; so no run is ill-formed. A program that asks
+-- nothing never comes to such an answer, and files without host calls make one with the deterministic library, and with that of rewritten classes.
+pub record RunsStaySound : Type 0 where
+  pub begins : (program : Program) (prefix : Prefix) (terms : Terms) (entry : Declared) (input : List ℕ) (answers : List HostAnswer)
+      → IsSound program prefix → IsEntry program entry → AnswerStands program (begin program prefix terms entry input answers)
+  pub steps : (program : Program) (prefix : Prefix) (terms : Terms) (s : State) → IsSound program prefix → AreStanding program s.frames
+      → AnswerStands program (step program prefix terms s) ⊎ IsStarvedAt program prefix terms s
+  pub turns : (program : Program) (most : Thresholds) (s : State) → IsSound program [] → AreStanding program s.frames
+      → RunStands program (turn program most s) ⊎ IsStarvedAt program [] (metered_terms most) s
+  pub quiet : (program : Program) (prefix : Prefix) (terms : Terms) (s : State) → AsksNothing program → IsStarvedAt program prefix terms s → ⊥
+  pub plain : (program : Program) (prefix : Prefix) (terms : Terms) (entry : Declared) (input : List ℕ) (answers : List HostAnswer) (most : ℕ)
+      → IsSound program prefix → IsEntry program entry
+      → IsSome (plain_run program prefix terms entry input answers most) ⊎ Starves program prefix terms entry input answers most
+  pub metered : (program : Program) (entry : Declared) (input : List ℕ) (most : Thresholds) (n : ℕ)
+      → IsSound program [] → AsksNothing program → IsEntry program entry → RunStands program (metered_run program entry input most n)
+  pub metered_quiet : (files : List Class) → AsksNothing files → AsksNothing (metered_program files)
+  pub sandbox_quiet : (files : List Class) → AsksNothing files → AsksNothing (sandbox_program files)
+
+-- each library by itself is a sound program
+pub record LibrariesAreSound : Type 0 where
+  pub deterministic : IsSound (metered_program []) []
+  pub raw : IsSound (raw_program []) []
+  pub sandbox : IsSound (sandbox_program []) sandbox_prefix
 
 -- a native method answers with its result's kind, whatever it is given
 abbrev pub AnswersHaveKinds : Type 0

@@ -12,6 +12,7 @@ use Rattle.dj_model.specs.State.{state_map, Counting, Uncounted, Metered, Accoun
 use Rattle.dj_model.specs.Natives.{plain_name}
 use Rattle.dj_model.specs.Initialisation.{Initialised, Ready, Waits, Fails}
 use Rattle.dj_model.specs.Step.{Answer, Went, Ended, IllFormed}
+use Rattle.dj_model.specs.Runs.{Report}
 
 -- different names have different images; those of the library's classes get another prefix; and names without their prefix are the same
 pub record IsNameMap (f : Name → Name) (p q : Prefix) : Type 0 where
@@ -55,3 +56,6 @@ abbrev pub answer_map : (Name → Name) → Answer → Answer
 answer_map f (Went s) = Went (state_map f s)
 answer_map f (Ended outcome s) = Ended (outcome_map f outcome) (state_map f s)
 answer_map f IllFormed = IllFormed
+
+abbrev pub report_map : (Name → Name) → Report → Report
+report_map f r = record r { outcome = outcome_map f r.outcome }

@@ -18,6 +18,7 @@ use Rattle.dj_names.specs.declared.run.Charge.TheVariants as charges
 use Rattle.dj_names.specs.declared.native.NativeId.{NativeId}
 use Rattle.dj_names.specs.declared.native.NativeId.TheVariants as natives
 use Rattle.dj_names.specs.Descriptors.{type_text}
+use Rattle.dj_names.specs.Tests.{units_read}
 use Rattle.dj_names.specs.Heaps.{same_element, field_value, rounded}
 use Rattle.dj_names.specs.Types.{Name, same_name, of_map}
 use Rattle.dj_edge.specs.declared.host.HostAnswer.{HostAnswer}
@@ -61,7 +62,7 @@ pub record Seen : Type 0 where
   pub elements : ℕ → Option Elements
   -- whether the array takes the reference
   pub takes : ℕ → ℕ → Bool
-  -- the class as a text, without the prefix of the library
+  -- the units of the class's name, without the prefix of the library
   pub class_text : ℕ → List ℕ
 
 -- ---- arguments, the receiver first; of another kind they are 0
@@ -308,17 +309,28 @@ abbrev pub plain_name : Prefix → Name → Name
 plain_name prefix name = if starts_with nat_eq name prefix then drop (length prefix) name else name
 
 -- a class by its name, and an array by its descriptor
-abbrev pub class_text : Ty → Name
-class_text ty = if nat_eq ty.dims 0 then name_of ty.of else type_text ty where
+abbrev pub class_name : Ty → Name
+class_name ty = if nat_eq ty.dims 0 then name_of ty.of else type_text ty where
   name_of : Of → Name
   name_of (ofs.Base base) = []
   name_of (ofs.Class name) = name
+
+abbrev pub units_or_none : Option (List ℕ) → List ℕ
+units_or_none None = []
+units_or_none (Some units) = units
+
+-- the UTF-16 units that a name's modified UTF-8 spells (JVMS 4.4.7), and none where it spells none
+abbrev pub name_units : Name → List ℕ
+name_units name = units_or_none (units_read (length name) name)
+
+abbrev pub class_text : Ty → List ℕ
+class_text ty = name_units (class_name ty)
 
 abbrev pub plain_class : Prefix → Ty → Ty
 plain_class prefix ty = record { dims = ty.dims; of = of_map (plain_name prefix) ty.of }
 
 abbrev pub with_dots : List ℕ → List ℕ
-with_dots bytes = map (λ b. if nat_eq b 47 then 46 else b) bytes
+with_dots units = map (λ unit. if nat_eq unit 47 then 46 else unit) units
 
 abbrev pub shown_class : Prefix → Ty → List ℕ
 shown_class prefix ty = with_dots (class_text (plain_class prefix ty))

@@ -1,4 +1,4 @@
--- Whole numbers, conditions and charges (JVMS 6.5).
+-- Whole numbers and conditions (JVMS 6.5).
 use Rattle.std.specs.Prelude.{ℕ, ◌/◌, ◌^◌, ◌&&◌, Bool, true, false, not, ℤ, pos, negsuc, ◌+ℤ◌, ◌-ℤ◌, ◌*ℤ◌, List, [], ◌∷◌, Result, Ok, Err, unsigned_abs, nat_eq, int_lt, int_le, int_rem, if◌then◌else◌}
 use Rattle.std.specs.Int.{Width, w8, w16, w32, w64, int_wrap, int_rem_euclid, int_bit_and, int_bit_or, int_bit_xor, int_wrapping_div, int_wrapping_neg, int_shl, int_shr, cast_signed, cast_unsigned}
 use Rattle.dj_names.specs.declared.descriptor.Kind.{Kind}

@@ -84,10 +84,11 @@ abbrev pub is_method_found : Bool → Option FoundMethod → Bool
 is_method_found static None = false
 is_method_found static (Some found) = agrees static (is_static found.method.flags)
 
+-- no instruction names an initialiser, nor a field by its name
 abbrev pub is_field_linked : Program → Prefix → Bool → Member → Bool
-is_field_linked program prefix static m = is_class_of program m.class && is_field_found static (resolve_field program prefix m)
+is_field_linked program prefix static m =
+    is_class_of program m.class && not (same_name m.name initialiser_name) && is_field_found static (resolve_field program prefix m)
 
--- no instruction names an initialiser
 abbrev pub is_method_linked : Program → Prefix → Bool → Member → Bool
 is_method_linked program prefix static m =
     is_class_of program m.class && not (same_name m.name initialiser_name) && is_method_found static (resolve_method program prefix m)

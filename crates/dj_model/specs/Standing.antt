@@ -1,5 +1,5 @@
 -- Values of the kinds that code's shape tells, and effects that keep them.
-use Rattle.std.specs.Prelude.{◌≡◌, ℕ, false, List, [], ◌∷◌, length, map, Option, Some, None, IsTrue, IsFalse, ⊤, ◌⊎◌, Contains}
+use Rattle.std.specs.Prelude.{◌≡◌, ℕ, ◌<◌, false, List, [], ◌∷◌, length, map, Option, Some, None, IsTrue, IsFalse, ⊤, ◌⊎◌, Contains, slice_get}
 use Rattle.std.specs.Option.{option_map}
 use Rattle.dj_names.specs.declared.descriptor.Kind.{Kind}
 use Rattle.dj_names.specs.declared.descriptor.Kind.TheVariants as kinds
@@ -10,12 +10,17 @@ use Rattle.dj_names.specs.declared.native.NativeId.{NativeId}
 use Rattle.dj_edge.specs.declared.host.HostAnswer.{HostAnswer}
 use Rattle.dj_model.specs.Types.{Prefix, Declared}
 use Rattle.dj_model.specs.Natives.{Question, asks, answered, Answer, Returns, Raises, MakesText, KeepsText, MakesChars, SetsFields, SetsElements, Adds, Rethrows}
+use Rattle.dj_model.specs.Performing.{native}
 use Rattle.dj_model.specs.Program.{Program, Class, Method, Native, Runs, Code, method_at, is_static, is_initialiser}
 use Rattle.dj_model.specs.Instructions.{Instruction, ends, targets, calls}
-use Rattle.dj_model.specs.State.{Terms, Part, Next, To, Raise, Back, Flow, Goes, Catch, Stop, Call, End, Effect}
-use Rattle.dj_model.specs.Effects.{effect}
-use Rattle.dj_model.specs.Step.{Answer as StepAnswer, Went, Ended, IllFormed}
-use Rattle.dj_model.specs.Kinds.{Signature, Kinds, signature_of}
+use Rattle.dj_model.specs.State.{Terms, Frame, State, instruction_at, Part, Next, To, Raise, Back, Flow, Goes, Catch, Stop, Call, End, Effect}
+use Rattle.dj_model.specs.Effects.{effect, used_class}
+use Rattle.dj_model.specs.Initialisation.{Ready}
+use Rattle.dj_model.specs.Step.{Answer as StepAnswer, Went, Ended, IllFormed, part_of, prepared}
+use Rattle.dj_model.specs.Runs as run
+use Rattle.dj_model.specs.Runs.{Run, begin, Going, from_start, steps}
+use Rattle.dj_model.specs.Kinds.{Signature, Kinds, call_signature, signature_of, Placed, Read, map_of}
+use Rattle.dj_model.specs.Shape.{after, state_before}
 
 -- as many local variables, and each that has a kind has a value of it
 abbrev pub LocalsHave : List (Option Value) → List (Option Kind) → Type 0
@@ -64,7 +69,7 @@ pub record CallFits (program : Program) (code : Code) (i : Instruction) (before 
   pub gives : with_given signature.result (map value_kind p.operands) ≡ left.stack
 
 -- what may follow an instruction before which these kinds stand and after which those are left: the next instruction finds them, or one to which it may jump; only one that
--- never goes on returns, with a value of the result's kind; only one that throws throws an object, and only a call calls
+-- never goes on returns, with a value of the result's kind; an exception leaves the local variables to the handler; and only a call calls
 abbrev pub IsSoundFlow : Program → Signature → Code → Instruction → Kinds → Kinds → Part → Flow → Type 0
 IsSoundFlow program signature code i before left p (Goes Next) = Leaves code left p.locals p.operands × IsFalse (ends i)
 IsSoundFlow program signature code i before left p (Goes (To number)) = Leaves code left p.locals p.operands × IsAmong (targets i) number
@@ -82,21 +87,27 @@ pub record HasSoundEffect (program : Program) (prefix : Prefix) (terms : Terms) 
   pub has : effect program prefix terms own i p ≡ Some does
   pub sound : IsSoundFlow program signature code i before left does.part does.flow
 
--- a native method of the program asks the host, and the next answer is missing or of another kind
+-- the next answer is missing or of another kind
 abbrev pub IsUnanswered : Question → List HostAnswer → Type 0
 IsUnanswered question [] = ⊤
 IsUnanswered question (first ∷ rest) = answered question first ≡ None
 
-pub record IsStarved (program : Program) (answers : List HostAnswer) : Type 0 where
+-- the instruction calls a native method of the program that asks the host, whatever the host's answers are, and the next answer is missing or of another kind
+pub record IsStarved (program : Program) (prefix : Prefix) (terms : Terms) (own : Name) (i : Instruction) (p : Part) : Type 0 where
+  pub calls : IsTrue (calls i)
   pub class : Class
   pub method : Method
   pub id : NativeId
   pub there : Contains program class × Contains class.methods method
   pub body : method.body ≡ Native id
   pub arguments : List Value
+  -- the operands below the arguments
+  pub rest : List Value
   pub question : Question
   pub asks : asks id arguments ≡ Some question
-  pub unanswered : IsUnanswered question answers
+  pub does : (answers : List HostAnswer)
+      → effect program prefix terms own i (record p { answers = answers }) ≡ native program prefix terms (record p { operands = rest; answers = answers }) id arguments
+  pub unanswered : IsUnanswered question p.answers
 
 -- an answer gives such a result, or none
 abbrev pub AnswerKind : Option Kind → Answer → Type 0
@@ -115,3 +126,99 @@ abbrev pub IsFormed : StepAnswer → Type 0
 IsFormed (Went s) = ⊤
 IsFormed (Ended outcome s) = ⊤
 IsFormed IllFormed = ⊥
+
+-- the next step, whose initialisers have run, is such a call
+pub record IsStarvedAt (program : Program) (prefix : Prefix) (terms : Terms) (s : State) : Type 0 where
+  pub top : Frame Declared
+  pub below : List (Frame Declared)
+  pub frames : s.frames ≡ top ∷ below
+  pub instruction : Instruction
+  pub at : instruction_at program top ≡ Some instruction
+  pub ready : State
+  pub prepared : prepared program prefix terms (used_class program prefix instruction) s ≡ Ready ready
+  pub starved : IsStarved program prefix terms top.method.class instruction (part_of top ready)
+
+-- no native method of the program asks the host
+abbrev pub AsksNothing : Program → Type 0
+AsksNothing program = (class : Class) (method : Method) (id : NativeId) → Contains program class → Contains class.methods method → method.body ≡ Native id
+    → (arguments : List Value) → asks id arguments ≡ None
+
+-- ---- frames that stand as shape tells
+
+-- the frame is at an instruction of a method with code, and its local variables are of the kinds that stand before it
+pub record IsAt (program : Program) (f : Frame Declared) : Type 0 where
+  pub method : Method
+  pub there : method_at program f.method ≡ Some method
+  pub code : Code
+  pub body : method.body ≡ Runs code
+  pub signature : Signature
+  pub described : signature_of (is_static method.flags) method.desc ≡ Some signature
+  pub placed : List Placed
+  pub map : map_of signature code ≡ Read placed
+  pub instruction : Instruction
+  pub at : slice_get code.instructions f.number ≡ Some instruction
+  pub before : Kinds
+  pub state : state_before signature code placed f.number ≡ Some before
+  pub locals : LocalsHave f.locals before.locals
+  pub room : length f.locals ≡ code.max_locals
+
+-- the instruction is next: its operands are there
+pub record IsReady (program : Program) (f : Frame Declared) : Type 0 where
+  pub at : IsAt program f
+  pub operands : map value_kind f.operands ≡ at.before.stack
+
+-- the instruction is a call under way: with a result of this kind, where there is one, stands what shape tells after it
+pub record IsWaiting (program : Program) (result : Option Kind) (f : Frame Declared) : Type 0 where
+  pub at : IsAt program f
+  pub calls : IsTrue (calls at.instruction)
+  pub left : Kinds
+  pub found : after at.signature at.code at.instruction at.before ≡ Some left
+  pub locals : at.before.locals ≡ left.locals
+  pub gives : with_given result (map value_kind f.operands) ≡ left.stack
+
+-- the kind of a method's result, where it has one
+abbrev pub result_of : Option Signature → Option Kind
+result_of None = None
+result_of (Some signature) = signature.result
+
+-- below a frame of the method: an initialiser's caller has its instruction still to do, any other caller waits for the result
+abbrev pub IsCaller : Program → Declared → Frame Declared → Type 0
+IsCaller program m f = (IsTrue (is_initialiser m) × IsReady program f) ⊎ (IsFalse (is_initialiser m) × IsWaiting program (result_of (call_signature m.desc)) f)
+
+abbrev pub AreCallers : Program → Declared → List (Frame Declared) → Type 0
+AreCallers program m [] = ⊤
+AreCallers program m (f ∷ below) = IsCaller program m f × AreCallers program f.method below
+
+-- the top first, of which there is one
+abbrev pub AreStanding : Program → List (Frame Declared) → Type 0
+AreStanding program [] = ⊥
+AreStanding program (f ∷ below) = IsReady program f × AreCallers program f.method below
+
+-- the run goes on in a state whose frames stand so, or it has ended
+abbrev pub AnswerStands : Program → StepAnswer → Type 0
+AnswerStands program (Went s) = AreStanding program s.frames
+AnswerStands program (Ended outcome s) = ⊤
+AnswerStands program IllFormed = ⊥
+
+abbrev pub RunStands : Program → Run → Type 0
+RunStands program (run.Goes s) = AreStanding program s.frames
+RunStands program (run.Ends outcome costs) = ⊤
+RunStands program run.Stuck = ⊥
+
+-- the entry of a run is a static method with code that takes one reference
+pub record IsEntry (program : Program) (entry : Declared) : Type 0 where
+  pub method : Method
+  pub there : method_at program entry ≡ Some method
+  pub code : Code
+  pub body : method.body ≡ Runs code
+  pub signature : Signature
+  pub described : signature_of (is_static method.flags) method.desc ≡ Some signature
+  pub takes : signature.parameters ≡ kinds.Ref ∷ []
+
+-- a plain run comes within so many steps to one at which the host's answer is missing or of another kind
+pub record Starves (program : Program) (prefix : Prefix) (terms : Terms) (entry : Declared) (input : List ℕ) (answers : List HostAnswer) (most : ℕ) : Type 0 where
+  pub count : ℕ
+  pub within : count < most
+  pub state : State
+  pub reached : from_start (steps program prefix terms count) (begin program prefix terms entry input answers) ≡ Going state
+  pub starved : IsStarvedAt program prefix terms state

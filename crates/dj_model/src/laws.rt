@@ -1,4 +1,4 @@
-ghost use Rattle.dj_model.specs.Laws.{CommutesWithNames, ReadsNoCode, StepCommutesWithNames, SandboxHasNames, HasFewFrames, InitialisesOnce, HasOneEnd, IsJudged, HeapsGrow, CostsStayWithin, KeepsKinds, StepsAreMade, AnswersHaveKinds};
+ghost use Rattle.dj_model.specs.Laws.{CommutesWithNames, ReadsNoCode, StepCommutesWithNames, RunsCommuteWithNames, SandboxHasNames, HasFewFrames, InitialisesOnce, HasOneEnd, IsJudged, HeapsGrow, CostsStayWithin, PaysFirst, KeepsKinds, StepsAreMade, RunsStaySound, LibrariesAreSound, AnswersHaveKinds};
 ghost use Rattle.dj_model.specs.Rows.{WorkedRuns};
 
 /// What an instruction does, pays and uses commutes with a map of class names, whatever the code of methods and whatever classes stand in front.
@@ -16,6 +16,11 @@ pub fn step_commutes_with_names()
     ensures { StepCommutesWithNames }
 {}
 
+/// A whole plain run commutes with a map of class names.
+pub fn runs_commute_with_names()
+    ensures { RunsCommuteWithNames }
+{}
+
 /// The names of rewritten classes are a map of class names.
 pub fn sandbox_has_names()
     ensures { SandboxHasNames }
@@ -26,7 +31,7 @@ pub fn few_frames()
     ensures { HasFewFrames }
 {}
 
-/// Each class is initialised at most once.
+/// Each class is initialised at most once, and counts as initialised from its first use on.
 pub fn initialised_once()
     ensures { InitialisesOnce }
 {}
@@ -41,9 +46,14 @@ pub fn heaps_grow()
     ensures { HeapsGrow }
 {}
 
-/// The sums of a metered run only grow, and none passes its threshold but the one by which the run is stopped.
+/// The sums of a metered run, and those that the accounter counts, only grow, and none passes its threshold but the one by which the run is stopped.
 pub fn costs_stay_within()
     ensures { CostsStayWithin }
+{}
+
+/// A turn adds the charges of the next instruction, or does it where they were added; each instruction is paid anew.
+pub fn pays_first()
+    ensures { PaysFirst }
 {}
 
 /// Code has shape or one fault, and which of them is decided.
@@ -59,6 +69,16 @@ pub fn keeps_kinds()
 /// A step of a sound program is made where kinds are as they are told, but for an answer that the host doesn't give.
 pub fn steps_are_made()
     ensures { StepsAreMade }
+{}
+
+/// The frames of a run of a sound program stand as shape tells, and no step or turn of it is ill-formed, but for an answer that the host doesn't give.
+pub fn runs_stay_sound()
+    ensures { RunsStaySound }
+{}
+
+/// Each library by itself is a sound program.
+pub fn libraries_are_sound()
+    ensures { LibrariesAreSound }
 {}
 
 /// Native methods answer with their result's kind.

@@ -1,0 +1,107 @@
+-- Whole runs: which classes are initialised, in which order, and what is paid meanwhile.
+use Rattle.std.proofs.Common.{◌≡◌, ℕ, List, [], ◌∷◌, ◌++◌, Some, None, codes, refl}
+use Rattle.std.specs.Int.{int_wrap}
+use Rattle.std.specs.Fmt.{digits}
+use Rattle.dj_names.specs.declared.descriptor.Ty.{Ty}
+use Rattle.dj_names.specs.declared.run.Message.TheVariants as messages
+use Rattle.dj_names.specs.declared.run.Costs.{Costs}
+use Rattle.dj_names.specs.declared.run.Outcome.TheVariants as outcomes
+use Rattle.dj_names.specs.Types.{Name, class_type}
+use Rattle.dj_names.specs.Library.{object, string, int}
+use Rattle.dj_model.specs.Instructions.{Instruction}
+use Rattle.dj_model.specs.Opcodes.{instruction_of, simple}
+use Rattle.dj_model.specs.Program.{Class, Text, code_of, has_initialiser}
+use Rattle.dj_model.specs.Linking.{most_classes, chain_of, interfaces_from, interfaces_above, is_subclass, is_subtype, field_order, resolve_method, resolve_field, select, special_method, field_count, place_of, static_place}
+use Rattle.dj_model.specs.Libraries.{metered_program, raw_program, sandbox_program}
+use Rattle.dj_model.specs.Numbers.{compute, convert}
+use Rattle.dj_model.specs.Values.{moved, on_values}
+use Rattle.dj_model.specs.Arrays.{load_element, store_element, array_length, make_array}
+use Rattle.dj_model.specs.Charging.{charge_one, charge_all}
+use Rattle.dj_model.specs.Natives.{answer, host_answer}
+use Rattle.dj_model.specs.Performing.{perform, native}
+use Rattle.dj_model.specs.Members.{with_literal, invoke}
+use Rattle.dj_model.specs.Effects.{effect, pays, used_class}
+use Rattle.dj_model.specs.Initialisation.{is_initialised, mark, with_constants, constants_of, initialise}
+use Rattle.dj_model.specs.Step.{unwound, settle, step}
+use Rattle.dj_model.specs.Runs.{Run, Ends, begin, amounts, turn, turns, metered_run, steps, plain_run}
+use Rattle.dj_model.specs.Rows.{op, newarray, class, field, method, entry, code, method_with, verify_with, initialiser_with, plain_constructor, class_with, a_with, field_with, costs, usual, lang_name}
+
+-- how the run of A's verify ends, after a hundred turns at most
+abbrev runs : List Class → List Instruction → Run
+runs classes instructions = metered_run (metered_program (a_with (verify_with instructions [] ∷ []) ∷ classes)) entry (1 ∷ 2 ∷ []) usual 100
+
+-- an int's low byte is returned
+abbrev byte_of : List Instruction → List Instruction
+byte_of instructions = op 4 ∷ newarray 8 ∷ op 89 ∷ op 3 ∷ instructions ++ op 84 ∷ op 176 ∷ []
+
+abbrev b_type : Ty
+b_type = class_type (codes "B")
+
+abbrev c_type : Ty
+c_type = class_type (codes "C")
+
+abbrev t_type : Ty
+t_type = class_type (codes "T")
+
+abbrev q_of : ℕ → Instruction
+q_of n = field n t_type (codes "q") int
+
+-- B, C below it, each with an initialiser, and T with a static field
+abbrev family : List Instruction → List Instruction → List Class
+family above below = class_with (codes "B") [] (initialiser_with above ∷ [])
+    ∷ record (class_with (codes "C") (field_with 8 (codes "z") int None ∷ []) (plain_constructor ∷ initialiser_with below ∷ method_with 9 (codes "g") [] (Some int) (code (q_of 178 ∷ op 172 ∷ []) []) ∷ [])) { superclass = Some (codes "B") }
+    ∷ class_with (codes "T") (field_with 8 (codes "q") int None ∷ []) [] ∷ []
+
+-- the field's value is doubled, and so much added
+abbrev doubled_and : ℕ → List Instruction
+doubled_and n = q_of 178 ∷ op 5 ∷ op 104 ∷ op n ∷ op 96 ∷ q_of 179 ∷ op 177 ∷ []
+
+abbrev throwing : List Instruction
+throwing = op 1 ∷ op 191 ∷ []
+
+abbrev ok_byte : ℕ → ℕ → Run
+ok_byte byte alloc = Ends (outcomes.OkBytes (byte ∷ [])) (costs alloc 0 0 0)
+
+abbrev failed : Name → Costs → Run
+failed name charged = Ends (outcomes.Init name (lang_name (codes "NullPointerException")) messages.Null) charged
+
+-- the superclass's initialiser runs first, whichever instruction asks
+superclass_first : runs (family (doubled_and 4) (doubled_and 5)) (byte_of (class 187 c_type ∷ op 87 ∷ q_of 178 ∷ []))
+    ∷ runs (family (doubled_and 4) (doubled_and 5)) (byte_of (field 178 c_type (codes "z") int ∷ op 87 ∷ q_of 178 ∷ []))
+    ∷ runs (family (doubled_and 4) (doubled_and 5)) (byte_of (op 3 ∷ field 179 c_type (codes "z") int ∷ q_of 178 ∷ []))
+    ∷ runs (family (doubled_and 4) (doubled_and 5)) (byte_of (class 187 c_type ∷ op 87 ∷ class 187 c_type ∷ op 87 ∷ q_of 178 ∷ []))
+    ∷ runs (family (doubled_and 4) (doubled_and 5)) (byte_of (class 187 b_type ∷ op 87 ∷ q_of 178 ∷ class 187 c_type ∷ op 87 ∷ q_of 178 ∷ op 96 ∷ []))
+    ∷ []
+    ≡ ok_byte 4 40 ∷ ok_byte 4 24 ∷ ok_byte 4 24 ∷ ok_byte 4 56 ∷ ok_byte 5 56 ∷ []
+unfolding int_wrap digits instruction_of simple code_of has_initialiser most_classes chain_of interfaces_from interfaces_above is_subclass is_subtype field_order resolve_method resolve_field select special_method field_count place_of static_place metered_program raw_program sandbox_program compute convert moved on_values load_element store_element array_length make_array charge_one charge_all answer host_answer perform native with_literal invoke effect pays used_class is_initialised mark with_constants constants_of initialise unwound settle step begin amounts turn turns metered_run steps plain_run
+superclass_first = refl
+
+-- neither an array, a cast nor a test of a class initialises it
+not_initialised : runs (family throwing throwing) (byte_of (op 3 ∷ class 189 c_type ∷ class 193 c_type ∷ []))
+    ∷ runs (family throwing throwing) (byte_of (op 1 ∷ class 192 c_type ∷ op 87 ∷ op 5 ∷ [])) ∷ []
+    ≡ ok_byte 0 40 ∷ ok_byte 2 24 ∷ []
+unfolding int_wrap digits instruction_of simple code_of has_initialiser most_classes chain_of interfaces_from interfaces_above is_subclass is_subtype field_order resolve_method resolve_field select special_method field_count place_of static_place metered_program raw_program sandbox_program compute convert moved on_values load_element store_element array_length make_array charge_one charge_all answer host_answer perform native with_literal invoke effect pays used_class is_initialised mark with_constants constants_of initialise unwound settle step begin amounts turn turns metered_run steps plain_run
+not_initialised = refl
+
+-- what leaves the superclass's initialiser ends the run; the class's own runs after it
+failing_superclass : runs (family throwing (op 177 ∷ [])) (byte_of (class 187 c_type ∷ op 87 ∷ op 3 ∷ []))
+    ∷ runs (family throwing throwing) (byte_of (method 184 c_type (codes "g") [] (Some int) ∷ []))
+    ∷ runs (family (op 177 ∷ []) throwing) (byte_of (class 187 c_type ∷ op 87 ∷ op 3 ∷ []))
+    ∷ runs (family (op 177 ∷ []) throwing) (byte_of (class 187 b_type ∷ op 87 ∷ op 3 ∷ [])) ∷ []
+    ≡ failed (codes "B") (costs 40 0 0 1) ∷ failed (codes "B") (costs 24 1 0 1) ∷ failed (codes "C") (costs 40 0 0 1) ∷ ok_byte 0 40 ∷ []
+unfolding int_wrap digits instruction_of simple code_of has_initialiser most_classes chain_of interfaces_from interfaces_above is_subclass is_subtype field_order resolve_method resolve_field select special_method field_count place_of static_place metered_program raw_program sandbox_program compute convert moved on_values load_element store_element array_length make_array charge_one charge_all answer host_answer perform native with_literal invoke effect pays used_class is_initialised mark with_constants constants_of initialise unwound settle step begin amounts turn turns metered_run steps plain_run
+failing_superclass = refl
+
+-- constants are set in the order of the file, those of the superclass first, and literals made on the way
+abbrev texts : List Class
+texts = class_with (codes "B") (field_with 24 (codes "s") string (Some (Text (codes "ab"))) ∷ field_with 24 (codes "t") string (Some (Text (codes "cd"))) ∷ []) []
+    ∷ record (class_with (codes "C") (field_with 24 (codes "u") string (Some (Text (codes "ef"))) ∷ []) (plain_constructor ∷ [])) { superclass = Some (codes "B") } ∷ []
+
+abbrev number_of : Ty → Name → List Instruction
+number_of class name = field 178 class name string ∷ method 184 (class_type (lang_name (codes "System"))) (codes "identityHashCode") (object ∷ []) (Some int) ∷ []
+
+constants_in_order : runs texts (byte_of (number_of c_type (codes "u"))) ∷ runs texts (byte_of (field 178 c_type (codes "u") string ∷ op 87 ∷ number_of b_type (codes "s")))
+    ∷ runs texts (byte_of (field 178 c_type (codes "u") string ∷ op 87 ∷ number_of b_type (codes "t"))) ∷ runs texts (byte_of (number_of b_type (codes "s"))) ∷ []
+    ≡ Ends (outcomes.OkBytes (5 ∷ [])) (costs 24 1 0 0) ∷ Ends (outcomes.OkBytes (3 ∷ [])) (costs 24 1 0 0) ∷ Ends (outcomes.OkBytes (4 ∷ [])) (costs 24 1 0 0) ∷ Ends (outcomes.OkBytes (3 ∷ [])) (costs 24 1 0 0) ∷ []
+unfolding int_wrap digits instruction_of simple code_of has_initialiser most_classes chain_of interfaces_from interfaces_above is_subclass is_subtype field_order resolve_method resolve_field select special_method field_count place_of static_place metered_program raw_program sandbox_program compute convert moved on_values load_element store_element array_length make_array charge_one charge_all answer host_answer perform native with_literal invoke effect pays used_class is_initialised mark with_constants constants_of initialise unwound settle step begin amounts turn turns metered_run steps plain_run
+constants_in_order = refl

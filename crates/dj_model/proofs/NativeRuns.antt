@@ -1,0 +1,121 @@
+-- Whole runs that call each native method by the name and the descriptor of the library.
+use Rattle.std.proofs.Common.{◌≡◌, pos, negsuc, ℕ, ◌+◌, List, [], ◌∷◌, ◌++◌, Some, None, codes, refl}
+use Rattle.std.specs.Int.{int_wrap}
+use Rattle.std.specs.Fmt.{digits}
+use Rattle.dj_names.specs.declared.descriptor.Ty.{Ty}
+use Rattle.dj_names.specs.declared.run.Outcome.TheVariants as outcomes
+use Rattle.dj_names.specs.Tests.{units_read}
+use Rattle.dj_names.specs.UnitReading.{two_read, three_read, long_read, unit_read}
+use Rattle.dj_names.specs.Types.{Name, class_type, array_type}
+use Rattle.dj_names.specs.Library.{object, string, builder, throwable, boolean, char, int, long}
+use Rattle.dj_model.specs.Instructions.{Instruction, AText}
+use Rattle.dj_model.specs.Opcodes.{instruction_of, simple}
+use Rattle.dj_model.specs.Program.{code_of, has_initialiser}
+use Rattle.dj_model.specs.Linking.{most_classes, chain_of, interfaces_from, interfaces_above, is_subclass, is_subtype, field_order, resolve_method, resolve_field, select, special_method, field_count, place_of, static_place}
+use Rattle.dj_model.specs.Libraries.{metered_program, raw_program, sandbox_program}
+use Rattle.dj_model.specs.Numbers.{compute, convert}
+use Rattle.dj_model.specs.Values.{moved, on_values}
+use Rattle.dj_model.specs.Arrays.{load_element, store_element, array_length, make_array}
+use Rattle.dj_model.specs.Charging.{charge_one, charge_all}
+use Rattle.dj_model.specs.Natives.{answer, host_answer}
+use Rattle.dj_model.specs.Performing.{perform, native}
+use Rattle.dj_model.specs.Members.{with_literal, invoke}
+use Rattle.dj_model.specs.Effects.{effect, pays, used_class}
+use Rattle.dj_model.specs.Initialisation.{is_initialised, mark, with_constants, constants_of, initialise}
+use Rattle.dj_model.specs.Step.{unwound, settle, step}
+use Rattle.dj_model.specs.Runs.{Run, Ends, begin, amounts, turn, turns, metered_run, steps, plain_run}
+use Rattle.dj_model.specs.Rows.{op, push, ldc, newarray, class, method, invokeinterface, construct, entry, verify_with, a_with, costs, usual, lang_name, throws_plainly}
+
+-- how the run of A's verify ends, after a hundred turns at most
+abbrev of_code : List Instruction → Run
+of_code instructions = metered_run (metered_program (a_with (verify_with instructions [] ∷ []) ∷ [])) entry (1 ∷ 2 ∷ []) usual 100
+
+-- an int's low byte is returned
+abbrev byte_of : List Instruction → Run
+byte_of instructions = of_code (op 4 ∷ newarray 8 ∷ op 89 ∷ op 3 ∷ instructions ++ op 84 ∷ op 176 ∷ [])
+
+-- it does, beside the array's bytes at this cost
+abbrev gives : ℕ → ℕ → ℕ → Run
+gives byte alloc invoke = Ends (outcomes.OkBytes (byte ∷ [])) (costs (24 + alloc) invoke 0 0)
+
+abbrev throws : Name → ℕ → ℕ → Run
+throws name alloc invoke = Ends (throws_plainly name) (costs alloc invoke 0 0)
+
+abbrev error : Ty
+error = class_type (lang_name (codes "Error"))
+
+-- methods of Object and String
+native_runs_of_texts : byte_of (op 42 ∷ op 42 ∷ method 182 object (codes "equals") (object ∷ []) (Some boolean) ∷ [])
+    ∷ byte_of (op 42 ∷ op 1 ∷ method 182 object (codes "equals") (object ∷ []) (Some boolean) ∷ [])
+    ∷ byte_of (op 42 ∷ method 182 object (codes "toString") ([]) (Some string) ∷ method 182 string (codes "length") ([]) (Some int) ∷ [])
+    ∷ byte_of (ldc (AText []) ∷ method 182 string (codes "isEmpty") ([]) (Some boolean) ∷ [])
+    ∷ byte_of (ldc (AText (codes "ab")) ∷ method 182 string (codes "toString") ([]) (Some string) ∷ method 182 string (codes "length") ([]) (Some int) ∷ [])
+    ∷ byte_of (ldc (AText (codes "ab")) ∷ op 4 ∷ method 182 string (codes "charAt") (int ∷ []) (Some char) ∷ [])
+    ∷ byte_of (ldc (AText (codes "ab")) ∷ ldc (AText (codes "a")) ∷ ldc (AText (codes "b")) ∷ method 182 string (codes "concat") (string ∷ []) (Some string) ∷ method 182 string (codes "equals") (object ∷ []) (Some boolean) ∷ [])
+    ∷ byte_of (ldc (AText (codes "ab")) ∷ method 182 string (codes "hashCode") ([]) (Some int) ∷ [])
+    ∷ byte_of (ldc (AText (codes "b")) ∷ ldc (AText (codes "a")) ∷ method 182 string (codes "compareTo") (string ∷ []) (Some int) ∷ [])
+    ∷ byte_of (ldc (AText (codes "a")) ∷ ldc (AText (codes "c")) ∷ method 182 string (codes "compareTo") (object ∷ []) (Some int) ∷ [])
+    ∷ byte_of (ldc (AText (codes "ab")) ∷ ldc (AText (codes "a")) ∷ method 182 string (codes "startsWith") (string ∷ []) (Some boolean) ∷ [])
+    ∷ byte_of (ldc (AText (codes "ab")) ∷ ldc (AText (codes "cde")) ∷ method 182 string (codes "concat") (string ∷ []) (Some string) ∷ method 182 string (codes "length") ([]) (Some int) ∷ [])
+    ∷ byte_of (ldc (AText (codes "abc")) ∷ op 4 ∷ method 182 string (codes "substring") (int ∷ []) (Some string) ∷ method 182 string (codes "length") ([]) (Some int) ∷ [])
+    ∷ byte_of (ldc (AText (codes "abc")) ∷ op 4 ∷ op 5 ∷ method 182 string (codes "substring") (int ∷ int ∷ []) (Some string) ∷ op 3 ∷ method 182 string (codes "charAt") (int ∷ []) (Some char) ∷ [])
+    ∷ byte_of (ldc (AText (codes "abc")) ∷ method 182 string (codes "toCharArray") ([]) (Some (array_type char)) ∷ op 190 ∷ [])
+    ∷ []
+    ≡ gives 1 0 1 ∷ gives 0 0 1 ∷ gives 4 24 2 ∷ gives 1 0 1 ∷ gives 2 0 2 ∷ gives 98 0 1 ∷ gives 1 24 2 ∷ gives 33 0 1 ∷ gives 1 0 1 ∷ gives 254 0 1 ∷ gives 1 0 1 ∷ gives 5 32 2 ∷ gives 2 24 2 ∷ gives 98 24 2 ∷ gives 3 24 1 ∷ []
+unfolding int_wrap digits instruction_of simple code_of has_initialiser most_classes chain_of interfaces_from interfaces_above is_subclass is_subtype field_order resolve_method resolve_field select special_method field_count place_of static_place metered_program raw_program sandbox_program compute convert moved on_values load_element store_element array_length make_array charge_one charge_all answer host_answer perform native with_literal invoke effect pays used_class is_initialised mark with_constants constants_of initialise unwound settle step begin amounts turn turns metered_run steps plain_run units_read unit_read long_read two_read three_read
+native_runs_of_texts = refl
+
+-- texts of values, builders and throwables
+native_runs_of_values : byte_of (ldc (AText (codes "abc")) ∷ method 182 string (codes "toCharArray") ([]) (Some (array_type char)) ∷ method 184 string (codes "valueOf") (array_type char ∷ []) (Some string) ∷ method 182 string (codes "length") ([]) (Some int) ∷ [])
+    ∷ byte_of (push 16 (pos 65) ∷ method 184 string (codes "valueOf") (char ∷ []) (Some string) ∷ op 3 ∷ method 182 string (codes "charAt") (int ∷ []) (Some char) ∷ [])
+    ∷ byte_of (push 17 (negsuc 119) ∷ method 184 string (codes "valueOf") (int ∷ []) (Some string) ∷ method 182 string (codes "length") ([]) (Some int) ∷ [])
+    ∷ byte_of (op 10 ∷ method 184 string (codes "valueOf") (long ∷ []) (Some string) ∷ method 182 string (codes "length") ([]) (Some int) ∷ [])
+    ∷ byte_of (op 3 ∷ method 184 string (codes "valueOf") (boolean ∷ []) (Some string) ∷ method 182 string (codes "length") ([]) (Some int) ∷ [])
+    ∷ byte_of (class 187 builder ∷ op 89 ∷ construct builder [] ∷ ldc (AText (codes "ab")) ∷ method 182 builder (codes "append") (string ∷ []) (Some builder) ∷ push 16 (pos 99) ∷ method 182 builder (codes "append") (char ∷ []) (Some builder) ∷ op 8 ∷ method 182 builder (codes "append") (int ∷ []) (Some builder) ∷ op 10 ∷ method 182 builder (codes "append") (long ∷ []) (Some builder) ∷ op 4 ∷ method 182 builder (codes "append") (boolean ∷ []) (Some builder) ∷ method 182 builder (codes "length") ([]) (Some int) ∷ [])
+    ∷ byte_of (class 187 builder ∷ op 89 ∷ ldc (AText (codes "xy")) ∷ construct builder (string ∷ []) ∷ op 4 ∷ method 182 builder (codes "charAt") (int ∷ []) (Some char) ∷ [])
+    ∷ byte_of (class 187 builder ∷ op 89 ∷ ldc (AText (codes "xy")) ∷ construct builder (string ∷ []) ∷ method 182 builder (codes "toString") ([]) (Some string) ∷ method 182 string (codes "length") ([]) (Some int) ∷ [])
+    ∷ byte_of (class 187 error ∷ op 89 ∷ ldc (AText (codes "abc")) ∷ construct error (string ∷ []) ∷ method 182 error (codes "getMessage") ([]) (Some string) ∷ method 182 string (codes "length") ([]) (Some int) ∷ [])
+    ∷ byte_of (class 187 error ∷ op 89 ∷ ldc (AText (codes "m")) ∷ class 187 error ∷ op 89 ∷ construct error [] ∷ construct error (string ∷ throwable ∷ []) ∷ method 182 error (codes "getCause") ([]) (Some throwable) ∷ class 193 error ∷ [])
+    ∷ byte_of (class 187 error ∷ op 89 ∷ construct error [] ∷ method 182 error (codes "getCause") ([]) (Some throwable) ∷ class 193 error ∷ [])
+    ∷ []
+    ≡ gives 3 48 3 ∷ gives 65 24 2 ∷ gives 4 24 2 ∷ gives 1 24 2 ∷ gives 5 32 2 ∷ gives 9 168 7 ∷ gives 121 24 2 ∷ gives 2 48 3 ∷ gives 3 32 3 ∷ gives 1 64 3 ∷ gives 0 32 2 ∷ []
+unfolding int_wrap digits instruction_of simple code_of has_initialiser most_classes chain_of interfaces_from interfaces_above is_subclass is_subtype field_order resolve_method resolve_field select special_method field_count place_of static_place metered_program raw_program sandbox_program compute convert moved on_values load_element store_element array_length make_array charge_one charge_all answer host_answer perform native with_literal invoke effect pays used_class is_initialised mark with_constants constants_of initialise unwound settle step begin amounts turn turns metered_run steps plain_run
+native_runs_of_values = refl
+
+-- numbers, arrays, and methods that are called by an interface
+native_runs_of_numbers : byte_of (push 16 (negsuc 4) ∷ method 184 (class_type (lang_name (codes "Math"))) (codes "abs") (int ∷ []) (Some int) ∷ [])
+    ∷ byte_of (push 16 (negsuc 4) ∷ op 133 ∷ method 184 (class_type (lang_name (codes "Math"))) (codes "abs") (long ∷ []) (Some long) ∷ op 136 ∷ [])
+    ∷ byte_of (op 4 ∷ op 8 ∷ method 184 (class_type (lang_name (codes "Math"))) (codes "max") (int ∷ int ∷ []) (Some int) ∷ [])
+    ∷ byte_of (op 10 ∷ op 9 ∷ method 184 (class_type (lang_name (codes "Math"))) (codes "max") (long ∷ long ∷ []) (Some long) ∷ op 136 ∷ [])
+    ∷ byte_of (op 4 ∷ op 8 ∷ method 184 (class_type (lang_name (codes "Math"))) (codes "min") (int ∷ int ∷ []) (Some int) ∷ [])
+    ∷ byte_of (op 10 ∷ op 9 ∷ method 184 (class_type (lang_name (codes "Math"))) (codes "min") (long ∷ long ∷ []) (Some long) ∷ op 136 ∷ [])
+    ∷ byte_of (op 42 ∷ method 184 (class_type (lang_name (codes "System"))) (codes "identityHashCode") (object ∷ []) (Some int) ∷ [])
+    ∷ byte_of (op 1 ∷ method 184 (class_type (lang_name (codes "System"))) (codes "identityHashCode") (object ∷ []) (Some int) ∷ [])
+    ∷ byte_of (op 42 ∷ op 4 ∷ op 42 ∷ op 3 ∷ op 4 ∷ method 184 (class_type (lang_name (codes "System"))) (codes "arraycopy") (object ∷ int ∷ object ∷ int ∷ int ∷ []) None ∷ op 42 ∷ op 3 ∷ op 51 ∷ [])
+    ∷ byte_of (ldc (AText (codes "abc")) ∷ invokeinterface 1 (class_type (lang_name (codes "CharSequence"))) (codes "length") ([]) (Some int) ∷ [])
+    ∷ byte_of (ldc (AText (codes "ab")) ∷ op 4 ∷ invokeinterface 2 (class_type (lang_name (codes "CharSequence"))) (codes "charAt") (int ∷ []) (Some char) ∷ [])
+    ∷ byte_of (ldc (AText (codes "b")) ∷ ldc (AText (codes "a")) ∷ invokeinterface 2 (class_type (lang_name (codes "Comparable"))) (codes "compareTo") (object ∷ []) (Some int) ∷ [])
+    ∷ byte_of (class 187 builder ∷ op 89 ∷ ldc (AText (codes "xy")) ∷ construct builder (string ∷ []) ∷ invokeinterface 1 (class_type (lang_name (codes "CharSequence"))) (codes "toString") ([]) (Some string) ∷ method 182 string (codes "length") ([]) (Some int) ∷ [])
+    ∷ []
+    ≡ gives 5 0 1 ∷ gives 5 0 1 ∷ gives 5 0 1 ∷ gives 1 0 1 ∷ gives 1 0 1 ∷ gives 0 0 1 ∷ gives 1 0 1 ∷ gives 0 0 1 ∷ gives 2 0 1 ∷ gives 3 0 1 ∷ gives 98 0 1 ∷ gives 1 0 1 ∷ gives 2 48 3 ∷ []
+unfolding int_wrap digits instruction_of simple code_of has_initialiser most_classes chain_of interfaces_from interfaces_above is_subclass is_subtype field_order resolve_method resolve_field select special_method field_count place_of static_place metered_program raw_program sandbox_program compute convert moved on_values load_element store_element array_length make_array charge_one charge_all answer host_answer perform native with_literal invoke effect pays used_class is_initialised mark with_constants constants_of initialise unwound settle step begin amounts turn turns metered_run steps plain_run
+native_runs_of_numbers = refl
+
+-- exceptions that native methods raise cost nothing
+raising_runs : of_code (ldc (AText (codes "ab")) ∷ op 5 ∷ method 182 string (codes "charAt") (int ∷ []) (Some char) ∷ [])
+    ∷ of_code (ldc (AText (codes "ab")) ∷ op 5 ∷ op 4 ∷ method 182 string (codes "substring") (int ∷ int ∷ []) (Some string) ∷ [])
+    ∷ of_code (ldc (AText (codes "ab")) ∷ op 6 ∷ method 182 string (codes "substring") (int ∷ []) (Some string) ∷ [])
+    ∷ of_code (ldc (AText (codes "a")) ∷ op 1 ∷ method 182 string (codes "compareTo") (string ∷ []) (Some int) ∷ [])
+    ∷ of_code (ldc (AText (codes "a")) ∷ op 42 ∷ method 182 string (codes "compareTo") (object ∷ []) (Some int) ∷ [])
+    ∷ of_code (ldc (AText (codes "a")) ∷ op 1 ∷ method 182 string (codes "startsWith") (string ∷ []) (Some boolean) ∷ [])
+    ∷ of_code (ldc (AText (codes "a")) ∷ op 1 ∷ method 182 string (codes "concat") (string ∷ []) (Some string) ∷ [])
+    ∷ of_code (op 1 ∷ method 184 string (codes "valueOf") (array_type char ∷ []) (Some string) ∷ [])
+    ∷ of_code (class 187 builder ∷ op 89 ∷ op 1 ∷ construct builder (string ∷ []) ∷ [])
+    ∷ of_code (class 187 builder ∷ op 89 ∷ construct builder [] ∷ op 3 ∷ method 182 builder (codes "charAt") (int ∷ []) (Some char) ∷ [])
+    ∷ of_code (op 1 ∷ op 3 ∷ op 42 ∷ op 3 ∷ op 4 ∷ method 184 (class_type (lang_name (codes "System"))) (codes "arraycopy") (object ∷ int ∷ object ∷ int ∷ int ∷ []) None ∷ [])
+    ∷ of_code (ldc (AText (codes "a")) ∷ op 3 ∷ op 42 ∷ op 3 ∷ op 4 ∷ method 184 (class_type (lang_name (codes "System"))) (codes "arraycopy") (object ∷ int ∷ object ∷ int ∷ int ∷ []) None ∷ [])
+    ∷ of_code (op 42 ∷ op 3 ∷ op 42 ∷ op 5 ∷ op 4 ∷ method 184 (class_type (lang_name (codes "System"))) (codes "arraycopy") (object ∷ int ∷ object ∷ int ∷ int ∷ []) None ∷ [])
+    ∷ []
+    ≡ throws (codes "StringIndexOutOfBoundsException") 0 1 ∷ throws (codes "StringIndexOutOfBoundsException") 0 1 ∷ throws (codes "StringIndexOutOfBoundsException") 0 1 ∷ throws (codes "NullPointerException") 0 1 ∷ throws (codes "ClassCastException") 0 1 ∷ throws (codes "NullPointerException") 0 1 ∷ throws (codes "NullPointerException") 0 1 ∷ throws (codes "NullPointerException") 0 1 ∷ throws (codes "NullPointerException") 24 1 ∷ throws (codes "StringIndexOutOfBoundsException") 24 2 ∷ throws (codes "NullPointerException") 0 1 ∷ throws (codes "ArrayStoreException") 0 1 ∷ throws (codes "ArrayIndexOutOfBoundsException") 0 1 ∷ []
+unfolding int_wrap digits instruction_of simple code_of has_initialiser most_classes chain_of interfaces_from interfaces_above is_subclass is_subtype field_order resolve_method resolve_field select special_method field_count place_of static_place metered_program raw_program sandbox_program compute convert moved on_values load_element store_element array_length make_array charge_one charge_all answer host_answer perform native with_literal invoke effect pays used_class is_initialised mark with_constants constants_of initialise unwound settle step begin amounts turn turns metered_run steps plain_run
+raising_runs = refl

@@ -1,0 +1,178 @@
+-- Sound programs of files whose code has longs, arrays, fields, calls, switches, texts and natives, one of which asks the host.
+use Rattle.std.proofs.Common.{◌≡◌, ℕ, true, false, pos, List, [], ◌∷◌, Some, None, Option, codes, refl}
+use Rattle.std.specs.Prelude.{IsSome, ◌⊎◌}
+use Rattle.std.specs.Int.{int_wrap}
+use Rattle.std.specs.Fmt.{digits}
+use Rattle.dj_names.specs.declared.descriptor.Kind.TheVariants as kinds
+use Rattle.dj_names.specs.declared.descriptor.Ty.{Ty}
+use Rattle.dj_names.specs.declared.run.Outcome.TheVariants as outcomes
+use Rattle.dj_names.specs.declared.run.Thresholds.{Thresholds}
+use Rattle.dj_names.specs.Types.{class_type}
+use Rattle.dj_names.specs.Library.{object, string, int, long}
+use Rattle.dj_edge.specs.declared.host.HostAnswer.{HostAnswer}
+use Rattle.dj_edge.specs.declared.host.HostAnswer.TheVariants as host
+use Rattle.dj_ops.specs.declared.instruction.Instr.TheVariants as instrs
+use Rattle.dj_ops.specs.declared.frames.VType.{VType}
+use Rattle.dj_ops.specs.declared.frames.VType.TheVariants as types
+use Rattle.dj_ops.specs.declared.frames.Form.{Form}
+use Rattle.dj_ops.specs.declared.frames.Form.TheVariants as forms
+use Rattle.dj_ops.specs.declared.frames.Frame.{Frame}
+use Rattle.dj_model.specs.Instructions.{Instruction, Nothing, AText}
+use Rattle.dj_model.specs.Opcodes.{instruction_of, simple}
+use Rattle.dj_model.specs.Program.{Class, Method, Body, Abstract, Runs, Range, Long, code_of, has_initialiser}
+use Rattle.dj_model.specs.Linking.{most_classes, chain_of, interfaces_from, interfaces_above, is_subclass, is_subtype, field_order, resolve_method, resolve_field, select, special_method, field_count, place_of, static_place}
+use Rattle.dj_model.specs.Libraries.{metered_program, raw_program, sandbox_program}
+use Rattle.dj_model.specs.NativeKinds.{native_signature}
+use Rattle.dj_model.specs.Numbers.{compute, convert}
+use Rattle.dj_model.specs.Values.{moved, on_values}
+use Rattle.dj_model.specs.Arrays.{load_element, store_element, array_length, make_array}
+use Rattle.dj_model.specs.Charging.{charge_one, charge_all}
+use Rattle.dj_model.specs.Natives.{answer, host_answer}
+use Rattle.dj_model.specs.Performing.{perform, native}
+use Rattle.dj_model.specs.Members.{with_literal, invoke}
+use Rattle.dj_model.specs.Effects.{effect, pays, used_class}
+use Rattle.dj_model.specs.Initialisation.{is_initialised, mark, with_constants, constants_of, initialise}
+use Rattle.dj_model.specs.Step.{unwound, settle, step}
+use Rattle.dj_model.specs.Kinds.{frames_after}
+use Rattle.dj_model.specs.Shape.{after, state_before}
+use Rattle.dj_model.specs.Sound.{IsSound, is_linked}
+use Rattle.dj_model.specs.Standing.{RunStands, IsEntry, Starves}
+use Rattle.dj_model.specs.State.{Terms, Uncounted}
+use Rattle.dj_model.specs.Runs.{Ends, Report, begin, amounts, turn, turns, metered_run, steps, plain_run}
+use Rattle.dj_model.specs.Rows.{op, ldc, jump, newarray, class, field, method, invokeinterface, construct, a_class, a_type, method_with, plain_constructor, class_with, field_with, catch, bytes, entry, costs, usual, lang_name}
+use Rattle.dj_model.proofs.SoundPrograms.{sound_test, sound_from}
+use Rattle.dj_model.proofs.SoundRuns.{metered_stands, plain_stands}
+use Rattle.dj_model.proofs.QuietLibraries.{quiet_all, to_asks, metered_asks_nothing}
+
+abbrev frame : ℕ → Form → Frame
+frame at form = record { at = at; form = form }
+
+abbrev body : List Instruction → List Range → List Frame → Body
+body instructions ranges frames = Runs (record { max_stack = 6; max_locals = 6; instructions = instructions; ranges = ranges; frames = Some frames })
+
+abbrev b_type : Ty
+b_type = class_type (codes "B")
+
+abbrev c_type : Ty
+c_type = class_type (codes "C")
+
+abbrev i_type : Ty
+i_type = class_type (codes "I")
+
+abbrev error : Ty
+error = class_type (lang_name (codes "Error"))
+
+abbrev told : List VType
+told = types.Object 1 ∷ types.Integer ∷ types.Object 1 ∷ types.Long ∷ []
+
+-- a text's length is kept in a field of a C, two calls give it, and their sum goes through k; 1 returns an array of two bytes, 2 does so after
+-- another look at the input, and else an Error with a text or null is thrown, caught at 37, and the input returned
+abbrev verify_code : List Instruction
+verify_code =
+    ldc (AText (codes "ab")) ∷ method 182 string (codes "length") [] (Some int) ∷ op 60
+    ∷ class 187 c_type ∷ op 89 ∷ construct c_type [] ∷ op 77 ∷ op 44 ∷ op 27 ∷ field 181 b_type (codes "f") int
+    ∷ op 10 ∷ field 178 c_type (codes "n") long ∷ op 97 ∷ op 66
+    ∷ op 44 ∷ invokeinterface 1 i_type (codes "m") [] (Some int) ∷ op 44 ∷ method 182 b_type (codes "m") [] (Some int) ∷ op 96 ∷ method 184 a_type (codes "k") (int ∷ []) (Some int)
+    ∷ instruction_of (instrs.Table (pos 28) (pos 1) (pos 21 ∷ pos 24 ∷ [])) Nothing
+    ∷ op 5 ∷ newarray 8 ∷ op 176
+    ∷ op 42 ∷ op 190 ∷ op 60 ∷ jump 167 21
+    ∷ class 187 error ∷ op 89 ∷ op 27 ∷ jump 154 34 ∷ op 1 ∷ jump 167 35 ∷ ldc (AText (codes "x")) ∷ construct error (string ∷ []) ∷ op 191
+    ∷ op 87 ∷ op 42 ∷ op 176 ∷ []
+
+abbrev verify_frames : List Frame
+verify_frames =
+    frame 21 (forms.Append (types.Integer ∷ types.Object 1 ∷ types.Long ∷ [])) ∷ frame 24 forms.Same ∷ frame 28 forms.Same
+    ∷ frame 34 (forms.Full told (types.Uninitialized 28 ∷ types.Uninitialized 28 ∷ []))
+    ∷ frame 35 (forms.Full told (types.Uninitialized 28 ∷ types.Uninitialized 28 ∷ types.Object 1 ∷ []))
+    ∷ frame 37 (forms.Full (types.Object 1 ∷ []) (types.Object 1 ∷ [])) ∷ []
+
+-- 7 gives 1, and every other int 2, which goes through a static field
+abbrev k_method : Method
+k_method = method_with 9 (codes "k") (int ∷ []) (Some int) (body
+    (op 26 ∷ instruction_of (instrs.Lookup (pos 4) ((pos 7, pos 2) ∷ [])) Nothing ∷ op 4 ∷ op 172 ∷ op 5 ∷ field 179 a_type (codes "t") int ∷ field 178 a_type (codes "t") int ∷ op 172 ∷ [])
+    [] (frame 2 forms.Same ∷ frame 4 forms.Same ∷ []))
+
+abbrev verify_method : Method
+verify_method = method_with 9 (codes "verify") (bytes ∷ []) (Some bytes) (body verify_code (catch (lang_name (codes "Error")) 28 37 37 ∷ []) verify_frames)
+
+abbrev files : List Class
+files =
+    class_with a_class (field_with 8 (codes "t") int None ∷ []) (verify_method ∷ k_method ∷ [])
+    ∷ class_with (codes "B") (field_with 0 (codes "f") int None ∷ []) (plain_constructor ∷ method_with 1 (codes "m") [] (Some int) (body (op 42 ∷ field 180 b_type (codes "f") int ∷ op 172 ∷ []) [] []) ∷ [])
+    ∷ record (class_with (codes "C") (field_with 8 (codes "n") long (Some (Long (pos 5))) ∷ []) (method_with 1 (codes "<init>") [] None (body (op 42 ∷ construct b_type [] ∷ op 177 ∷ []) [] []) ∷ []))
+    { superclass = Some (codes "B"); interfaces = codes "I" ∷ [] }
+    ∷ record (class_with (codes "I") [] (method_with 1025 (codes "m") [] (Some int) Abstract ∷ [])) { flags = 1537 } ∷ []
+
+sound_files : sound_test (metered_program files) [] ≡ true
+unfolding metered_program native_signature most_classes chain_of interfaces_from interfaces_above field_order resolve_method resolve_field is_linked instruction_of simple moved frames_after after state_before
+sound_files = refl
+
+sound_program : IsSound (metered_program files) []
+sound_program = sound_from (metered_program files) [] sound_files
+
+entry_is : IsEntry (metered_program files) entry
+unfolding metered_program
+entry_is = record {
+  method = verify_method;
+  there = refl;
+  code = _;
+  body = refl;
+  signature = record { parameters = kinds.Ref ∷ []; result = Some kinds.Ref };
+  described = refl;
+  takes = refl;
+}
+
+-- whatever the input, the thresholds and the number of turns are
+runs_on : (input : List ℕ) (most : Thresholds) (n : ℕ) → RunStands (metered_program files) (metered_run (metered_program files) entry input most n)
+runs_on input most n =
+    metered_stands (metered_program files) sound_program (metered_asks_nothing files (to_asks files (quiet_all files refl))) entry input most n entry_is
+
+runs_once : metered_run (metered_program files) entry (1 ∷ []) usual 200 ≡ Ends (outcomes.OkBytes (0 ∷ 0 ∷ [])) (costs 48 7 3 0)
+unfolding int_wrap digits instruction_of simple code_of has_initialiser most_classes chain_of interfaces_from interfaces_above is_subclass is_subtype field_order resolve_method resolve_field select special_method field_count place_of static_place metered_program raw_program sandbox_program compute convert moved on_values load_element store_element array_length make_array charge_one charge_all answer host_answer perform native with_literal invoke effect pays used_class is_initialised mark with_constants constants_of initialise unwound settle step begin amounts turn turns metered_run steps plain_run
+runs_once = refl
+
+-- ---- a sound program that asks the host for a word and for the time
+
+abbrev asking_method : Method
+asking_method = method_with 9 (codes "verify") (bytes ∷ []) (Some bytes) (body
+    (op 42 ∷ method 182 object (codes "hashCode") [] (Some int) ∷ op 87 ∷ method 184 (class_type (lang_name (codes "System"))) (codes "nanoTime") [] (Some long) ∷ op 88 ∷ op 42 ∷ op 176 ∷ []) [] [])
+
+abbrev asking : List Class
+asking = class_with a_class [] (asking_method ∷ []) ∷ []
+
+sound_asking : sound_test (raw_program asking) [] ≡ true
+unfolding raw_program native_signature most_classes chain_of interfaces_from interfaces_above field_order resolve_method resolve_field is_linked instruction_of simple moved frames_after after state_before
+sound_asking = refl
+
+asking_is_sound : IsSound (raw_program asking) []
+asking_is_sound = sound_from (raw_program asking) [] sound_asking
+
+-- of the deterministic library it isn't sound: there are no clocks
+unsound_asking : sound_test (metered_program asking) [] ≡ false
+unfolding metered_program native_signature most_classes chain_of interfaces_from interfaces_above field_order resolve_method resolve_field is_linked instruction_of simple moved frames_after after state_before
+unsound_asking = refl
+
+entry_of_asking : IsEntry (raw_program asking) entry
+unfolding raw_program
+entry_of_asking = record {
+  method = asking_method;
+  there = refl;
+  code = _;
+  body = refl;
+  signature = record { parameters = kinds.Ref ∷ []; result = Some kinds.Ref };
+  described = refl;
+  takes = refl;
+}
+
+-- whatever the host answers, a plain run tells how it ended, or it comes to where an answer is missing
+ends_or_starves : (terms : Terms) (input : List ℕ) (answers : List HostAnswer) (most : ℕ)
+    → IsSome (plain_run (raw_program asking) [] terms entry input answers most) ⊎ Starves (raw_program asking) [] terms entry input answers most
+ends_or_starves terms input answers most = plain_stands (raw_program asking) [] asking_is_sound terms entry input answers most entry_of_asking
+
+abbrev asked : List HostAnswer → Option Report
+asked answers = plain_run (raw_program asking) [] (record { limit = None; counting = Uncounted }) entry (1 ∷ []) answers 100
+
+answers_taken : asked (host.Word (pos 7) ∷ host.Nanos (pos 9) ∷ host.Word (pos 1) ∷ []) ∷ asked (host.Word (pos 7) ∷ []) ∷ asked [] ∷ asked (host.Nanos (pos 9) ∷ host.Word (pos 7) ∷ []) ∷ []
+    ≡ Some (record { outcome = outcomes.OkBytes (1 ∷ []); costs = costs 0 0 0 0; steps = 7; taken = 2 }) ∷ None ∷ None ∷ None ∷ []
+unfolding int_wrap digits instruction_of simple code_of has_initialiser most_classes chain_of interfaces_from interfaces_above is_subclass is_subtype field_order resolve_method resolve_field select special_method field_count place_of static_place metered_program raw_program sandbox_program compute convert moved on_values load_element store_element array_length make_array charge_one charge_all answer host_answer perform native with_literal invoke effect pays used_class is_initialised mark with_constants constants_of initialise unwound settle step begin amounts turn turns metered_run steps plain_run
+answers_taken = refl
