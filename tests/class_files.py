@@ -1,4 +1,4 @@
-"""Makes small class files whose pools hold texts and class names alone (JVMS 4.1 to 4.7)."""
+"""Makes small class files (JVMS 4.1 to 4.7)."""
 
 PUBLIC = 0x0001
 STATIC = 0x0008
@@ -45,16 +45,66 @@ def u4(number):
     return number.to_bytes(4, "big")
 
 
+# Entries of the constant pool (JVMS 4.4).
+
+FIELD, METHOD, INTERFACE_METHOD = 9, 10, 11
+
+INTEGER = u1(3) + u4(7)
+FLOAT = u1(4) + u4(0x7FC00001)
+LONG = u1(5) + bytes(7) + u1(1)
+DOUBLE = u1(6) + bytes(8)
+
+
+def text_entry(text):
+    return u1(1) + u2(len(text)) + text
+
+
+def class_entry(index):
+    return u1(7) + u2(index)
+
+
+def string(index):
+    return u1(8) + u2(index)
+
+
+def member_entry(tag, of_class, of_name_and_type):
+    """A Fieldref, Methodref or InterfaceMethodref."""
+    return u1(tag) + u2(of_class) + u2(of_name_and_type)
+
+
+def name_and_type(name, descriptor):
+    return u1(12) + u2(name) + u2(descriptor)
+
+
+def method_handle(kind, index):
+    return u1(15) + u1(kind) + u2(index)
+
+
+def method_type(index):
+    return u1(16) + u2(index)
+
+
+def invoke_dynamic(number, index):
+    return u1(18) + u2(number) + u2(index)
+
+
+def entry_of_tag(tag):
+    """An entry of this tag, whole, whose indexes are 0."""
+    return u1(tag) + bytes({5: 8, 6: 8, 15: 3}.get(tag, 2 if tag in (1, 7, 8, 16) else 4))
+
+
 class Pool:
-    """A constant pool; each text and each class name has one entry."""
+    """A constant pool; each text, class name, and so on has one entry."""
 
     def __init__(self):
-        self.entries, self.found = [], {}
+        self.entries, self.found, self.count = [], {}, 1
 
     def add(self, entry):
-        """An entry of these bytes; its index."""
+        """An entry of these bytes; its index. A long or a double takes two."""
+        index = self.count
         self.entries.append(entry)
-        return len(self.entries)
+        self.count += 2 if entry[0] in (5, 6) else 1
+        return index
 
     def once(self, entry):
         if entry not in self.found:
@@ -62,14 +112,22 @@ class Pool:
         return self.found[entry]
 
     def text(self, text):
-        text = modified_utf8(text)
-        return self.once(u1(1) + u2(len(text)) + text)
+        return self.once(text_entry(modified_utf8(text)))
 
     def class_name(self, name):
-        return self.once(u1(7) + u2(self.text(name)))
+        return self.once(class_entry(self.text(name)))
+
+    def string(self, text):
+        return self.once(string(self.text(text)))
+
+    def name_and_type(self, name, descriptor):
+        return self.once(name_and_type(self.text(name), self.text(descriptor)))
+
+    def member(self, tag, of_class, name, descriptor):
+        return self.once(member_entry(tag, self.class_name(of_class), self.name_and_type(name, descriptor)))
 
     def bytes(self):
-        return u2(len(self.entries) + 1) + b"".join(self.entries)
+        return u2(self.count) + b"".join(self.entries)
 
 
 def attributes(pool, listed):
@@ -107,6 +165,25 @@ def class_file(
     return u4(magic) + u2(minor) + u2(major) + pool.bytes() + body + end
 
 
+def row(*numbers):
+    return b"".join(u2(number) for number in numbers)
+
+
+def parts(this_class=2, super_class=4, interfaces=(), fields=b"\0\0", methods=b"\0\0", listed=b"\0\0", more=(), count=None):
+    """A class file by its indexes. Entry 1 is `A`, 2 its class, 3 and 4 Object, 5 `f`, 6 `I`, 7 `()V`, 8 `[I`, 9 its class;
+    `more` come after them. The count is that of the entries where it isn't told."""
+    pool = Pool()
+    for text in (b"A", OBJECT.encode()):
+        pool.add(class_entry(pool.add(text_entry(text))))
+    for text in (b"f", b"I", b"()V", b"[I"):
+        pool.add(text_entry(text))
+    pool.add(class_entry(8))
+    for entry in more:
+        pool.add(entry)
+    body = row(0x21, this_class, super_class, len(interfaces), *interfaces) + fields + methods + listed
+    return u4(0xCAFEBABE) + row(0, 52, pool.count if count is None else count) + b"".join(pool.entries) + body
+
+
 def code(body=b"\xb1", max_stack=0, max_locals=1, handlers=(), listed=b"\0\0"):
     """A Code attribute; alone it is `return`. A handler is (start, end, handler, type); `listed` is the table of its own
     attributes, whose names are indexes of the pool."""
@@ -121,8 +198,3 @@ def straight(body, max_stack=4, max_locals=4, name="verify", flags=PUBLIC | STAT
 
 def native(name, descriptor="()V"):
     return (name, descriptor, NATIVE | 1)
-
-
-def unbuilt(tag):
-    """An entry of a tag other than 1 and 7, whole."""
-    return u1(tag) + bytes({15: 3, 16: 2, 8: 2, 5: 8, 6: 8}.get(tag, 4))

@@ -1,7 +1,8 @@
 #!/usr/bin/env python3
 """Makes the folders of tests/cases anew.
 
-The class files come from class_files.py, and the cases of `djvm verify` from verify_cases.py. The expected output and
+The class files come from class_files.py, the cases of `djvm verify` from verify_cases.py, and those on constant pools from
+pool_cases.py. The expected output and
 status of each case are those of reference.py, a small reference implementation that was written from the description of
 the commands and not from the program.
 
@@ -16,20 +17,22 @@ import sys
 
 sys.dont_write_bytecode = True
 
+import pool_cases
 import verify_cases
 from class_files import (
     ABSTRACT,
     NATIVE,
     RETURNS_ITS_ARGUMENT,
     Pool,
+    class_entry,
     class_file,
     code,
     modified_utf8,
     native,
-    u1,
+    parts,
+    row,
+    text_entry,
     u2,
-    u4,
-    unbuilt,
 )
 
 HERE = os.path.dirname(os.path.abspath(__file__))
@@ -62,10 +65,6 @@ def with_pool(name, *entries, **more):
     return class_file(name, pool=pool, **more)
 
 
-def text_entry(text):
-    return u1(1) + u2(len(text)) + text
-
-
 # The first rows.
 
 one = RETURNS_ITS_ARGUMENT
@@ -75,7 +74,6 @@ case("accepted-one", {"c/A.class": one})
 case("accepted-none", {}, folders=["c"])
 case("version-53", {"c/A.class": one[:7] + b"\x35" + one[8:]})
 case("name-other", {"c/B.class": one})
-case("later-integer", {"c/A.class": with_pool("A", unbuilt(3))})
 case("cut-native-finalize", {"c/A.class": one[:-1], "c/B.class": native_and_finalize})
 case("trailing-byte", {"c/A.class": one + b"\0"})
 
@@ -253,33 +251,9 @@ case("words-option-first", nested, ["--", "check", "c"])
 case("words-other-case", nested, ["Check", "c"])
 case("words-empty", nested, ["", ""])
 
-# LATER.
+# The order of malformed files.
 
-later = with_pool("A", unbuilt(10))
-
-case("later-least-path", {"c/" + path + ".class": later for path in ("b", "a!", "a b", "a/A", "a$")})
-case("later-before-rules", {"c/A.class": b"", "c/B.class": native_and_finalize, "c/Z.class": later, "c/z.class": plain("y", major=9)})
-# The bytes of the entry that isn't read yet are cut.
-case("later-cut", {"c/A.class": u4(0xCAFEBABE) + u2(0) + u2(53) + u2(2) + u1(5)})
-# A class that names nothing stands before it, an unknown tag after it.
-case("later-among-faults", {"c/A.class": with_pool("A", u1(7) + u2(99), unbuilt(18), u1(2), end=b"\0")})
-case(
-    "later-never",
-    {
-        # None is LATER.
-        "c/bad-text.class": with_pool("A", text_entry(b"\0"), unbuilt(3)),
-        "c/unknown-tag.class": with_pool("A", u1(2), unbuilt(3)),
-        "c/cut-text.class": u4(0xCAFEBABE) + u2(0) + u2(52) + u2(3) + u1(1) + u2(2) + u1(3),
-        "c/past-the-count.class": u4(0xCAFEBABE) + u2(0) + u2(52) + u2(1) + unbuilt(3),
-        "c/count-0.class": u4(0xCAFEBABE) + u2(0) + u2(52) + u2(0) + unbuilt(3),
-        "c/magic.class": b"\xca\xfe\xba\xbf" + later[4:],
-        "c/cut-count.class": later[:9],
-        "c/cut-before-the-tag.class": later[:10],
-        "c/tag-17.class": with_pool("A", u1(17) + u2(0) + u2(0)),
-        "c/tag-19.class": with_pool("A", u1(19) + u2(2)),
-        "c/tag-20.class": with_pool("A", u1(20) + u2(2)),
-    },
-)
+case("order-malformed", {"c/" + path + ".class": one[:-1] for path in ("b", "a!", "a b", "a/A", "a$")})
 
 # Versions and names.
 
@@ -347,30 +321,7 @@ case(
 
 def with_class_of(text):
     """A whole file that has one more class entry, of this text."""
-    return with_pool("A", u1(7) + u2(2), text_entry(modified_utf8(text)))
-
-
-def parts(this_class=2, super_class=4, interfaces=(), fields=b"\0\0", methods=b"\0\0", listed=b"\0\0", count=10):
-    """Entry 1 is `A`, 2 its class, 3 and 4 Object, 5 `f`, 6 `I`, 7 `()V`, 8 `[I`, 9 its class."""
-    pool = b"".join(
-        (
-            text_entry(b"A"),
-            u1(7) + u2(1),
-            text_entry(b"java/lang/Object"),
-            u1(7) + u2(3),
-            text_entry(b"f"),
-            text_entry(b"I"),
-            text_entry(b"()V"),
-            text_entry(b"[I"),
-            u1(7) + u2(8),
-        )
-    )
-    body = u2(0x21) + u2(this_class) + u2(super_class) + u2(len(interfaces)) + b"".join(u2(each) for each in interfaces)
-    return u4(0xCAFEBABE) + u2(0) + u2(52) + u2(count) + pool + body + fields + methods + listed
-
-
-def row(*numbers):
-    return b"".join(u2(number) for number in numbers)
+    return with_pool("A", class_entry(2), text_entry(modified_utf8(text)))
 
 
 case(
@@ -526,7 +477,7 @@ def write(path, data):
 
 
 def main():
-    for name, made in verify_cases.found.items():
+    for name, made in [*pool_cases.found.items(), *verify_cases.found.items()]:
         case(name, *made)
     shutil.rmtree(CASES, ignore_errors=True)
     for name, (files, words, folders) in cases.items():

@@ -30,8 +30,14 @@ MOST_ALLOC = 67108864
 # Flags of classes and methods.
 STATIC, NATIVE, INTERFACE, ABSTRACT = 0x0008, 0x0100, 0x0200, 0x0400
 
-# Entries of these tags aren't read yet.
-UNBUILT = (3, 4, 5, 6, 8, 9, 10, 11, 12, 15, 16, 18)
+# The tags of the constant pool (JVMS 4.4).
+UTF8, INTEGER, FLOAT, LONG, DOUBLE, CLASS, STRING, FIELD, METHOD, INTERFACE_METHOD, NAME_AND_TYPE = 1, *range(3, 13)
+METHOD_HANDLE, METHOD_TYPE, INVOKE_DYNAMIC = 15, 16, 18
+
+# The lengths of the parts of an entry; a text has others.
+PARTS = {INTEGER: [4], FLOAT: [4], LONG: [8], DOUBLE: [8], CLASS: [2], STRING: [2], NAME_AND_TYPE: [2, 2]}
+PARTS |= {FIELD: [2, 2], METHOD: [2, 2], INTERFACE_METHOD: [2, 2]}
+PARTS |= {METHOD_HANDLE: [1, 2], METHOD_TYPE: [2], INVOKE_DYNAMIC: [2, 2]}
 
 
 class Failed(Exception):
@@ -40,10 +46,6 @@ class Failed(Exception):
 
 class Malformed(Exception):
     """The bytes are no class file."""
-
-
-class Unbuilt(Exception):
-    """The pool has an entry that isn't read yet, before any fault of a length, tag or text."""
 
 
 # Texts, names and descriptors (JVMS 4.2, 4.3, 4.4.7).
@@ -171,38 +173,69 @@ class ClassFile(Reader):
         self.end()
 
     def read_pool(self):
-        count = self.number(2)
-        if count == 0:
-            raise Malformed
-        self.texts, self.classes = {}, {}
-        for index in range(1, count):
+        """The tag and the parts of each entry by its index. A long or a double takes two indexes."""
+        count, index = self.number(2), 1
+        self.pool = {}
+        while index < count:
             tag = self.number(1)
-            if tag == 1:
-                text = self.bytes(self.number(2))
-                if units_of(text) is None:
+            if tag == UTF8:
+                parts = [self.bytes(self.number(2))]
+                if units_of(parts[0]) is None:
                     raise Malformed
-                self.texts[index] = text
-            elif tag == 7:
-                self.classes[index] = self.number(2)
-            elif tag in UNBUILT:
-                raise Unbuilt
+            elif tag in PARTS:
+                parts = [self.number(length) for length in PARTS[tag]]
             else:
                 raise Malformed
-        for named in self.classes.values():
-            text = self.text(named)
-            if not is_class_name(text) and not is_array(text):
-                raise Malformed
+            self.pool[index] = tag, *parts
+            index += 2 if tag in (LONG, DOUBLE) else 1
+        if index != count:
+            raise Malformed
+        for tag, *parts in self.pool.values():
+            self.check_entry(tag, parts)
+
+    def entry(self, index, *tags):
+        """The parts of the entry, which has one of these tags."""
+        tag, *parts = self.pool.get(index, (0,))
+        if tag not in tags:
+            raise Malformed
+        return parts
 
     def text(self, index):
-        if index not in self.texts:
+        return self.entry(index, UTF8)[0]
+
+    def check_entry(self, tag, parts):
+        """An entry names entries of the tags and texts that its tag asks."""
+        if tag == CLASS:
+            name = self.text(parts[0])
+            is_right = is_class_name(name) or is_array(name)
+        elif tag == STRING:
+            is_right = self.text(parts[0]) is not None
+        elif tag in (FIELD, METHOD, INTERFACE_METHOD):
+            self.entry(parts[0], CLASS)
+            is_right = self.is_type_of(parts[1], is_field_descriptor if tag == FIELD else is_method_descriptor)
+        elif tag == NAME_AND_TYPE:
+            name, descriptor = self.text(parts[0]), self.text(parts[1])
+            is_right = is_unqualified(name) and is_field_descriptor(descriptor)
+            is_right = is_right or is_method_name(name) and is_method_descriptor(descriptor)
+        elif tag == METHOD_HANDLE:
+            is_right = self.entry(parts[1], FIELD, METHOD, INTERFACE_METHOD) is not None
+        elif tag == METHOD_TYPE:
+            is_right = is_method_descriptor(self.text(parts[0]))
+        elif tag == INVOKE_DYNAMIC:
+            is_right = self.is_type_of(parts[1], is_method_descriptor)
+        else:
+            is_right = True
+        if not is_right:
             raise Malformed
-        return self.texts[index]
+
+    def is_type_of(self, index, is_descriptor):
+        """Whether the descriptor of this name and type is one of the kind."""
+        _, descriptor = self.entry(index, NAME_AND_TYPE)
+        return is_descriptor(self.text(descriptor))
 
     def class_name(self, index):
         """The name of a class that is no array."""
-        if index not in self.classes:
-            raise Malformed
-        name = self.texts[self.classes[index]]
+        name = self.text(*self.entry(index, CLASS))
         if is_array(name):
             raise Malformed
         return name
@@ -257,16 +290,6 @@ def utf16(text):
     return [int.from_bytes(data[at : at + 2], "big") for at in range(0, len(data), 2)]
 
 
-def is_unbuilt(data):
-    try:
-        ClassFile(data)
-    except Unbuilt:
-        return True
-    except Malformed:
-        pass
-    return False
-
-
 # Straight sets: at most one class, whose methods are static and straight code from an array of bytes to one.
 
 
@@ -293,7 +316,7 @@ def straight_code(view, method):
     if not is_plain or method.flags & (STATIC | NATIVE | ABSTRACT) != STATIC or len(bodies) != 1:
         raise NotStraight
     try:
-        return Code(bodies[0], view.texts)
+        return Code(bodies[0], view.pool)
     except Malformed:
         raise NotStraight
 
@@ -301,7 +324,7 @@ def straight_code(view, method):
 class Code(Reader):
     """The body of a Code attribute (JVMS 4.7.3) without handlers and stack map, all of it straight instructions."""
 
-    def __init__(self, body, texts):
+    def __init__(self, body, pool):
         super().__init__(body)
         self.max_stack, self.max_locals = self.number(2), self.number(2)
         length = self.number(4)
@@ -310,9 +333,9 @@ class Code(Reader):
         code = self.bytes(length)
         handlers = [self.bytes(8) for _ in range(self.number(2))]
         # The name of an attribute in here may be no text.
-        attributes = [(texts.get(self.number(2)), self.bytes(self.number(4))) for _ in range(self.number(2))]
+        attributes = [(pool.get(self.number(2)), self.bytes(self.number(4))) for _ in range(self.number(2))]
         self.end()
-        if handlers or any(name == b"StackMapTable" for name, _ in attributes):
+        if handlers or any(entry == (UTF8, b"StackMapTable") for entry, _ in attributes):
             raise NotStraight
         self.instructions = straight_instructions(code)
 
@@ -332,8 +355,8 @@ COMPUTED = {
 OTHERS = {0: "nop", 51: "baload", 84: "bastore", 87: "pop", 89: "dup", 176: "areturn", 190: "arraylength"}
 
 # The first opcode of the four short forms of loads and stores, and the opcode with a slot of one byte.
-SHORT = {26: ("load", INT), 42: ("load", REFERENCE), 59: ("store", INT), 75: ("store", REFERENCE)}
-LONG = {21: ("load", INT), 25: ("load", REFERENCE), 54: ("store", INT), 58: ("store", REFERENCE)}
+SHORT_FORMS = {26: ("load", INT), 42: ("load", REFERENCE), 59: ("store", INT), 75: ("store", REFERENCE)}
+LONG_FORMS = {21: ("load", INT), 25: ("load", REFERENCE), 54: ("store", INT), 58: ("store", REFERENCE)}
 
 
 def straight_instructions(code):
@@ -355,9 +378,9 @@ def straight_instruction(reader):
         return "push", op - 3
     if op in (16, 17):
         return "push", int.from_bytes(reader.bytes(op - 15), "big", signed=True)
-    if op in LONG:
-        return *LONG[op], reader.number(1)
-    for first, form in SHORT.items():
+    if op in LONG_FORMS:
+        return *LONG_FORMS[op], reader.number(1)
+    for first, form in SHORT_FORMS.items():
         if first <= op <= first + 3:
             return *form, op - first
     if op == 188 and reader.number(1) == 8:
@@ -676,9 +699,6 @@ def class_files(folder, paths):
 
 def first_lines(files):
     """The lines by the rules that are judged of every set."""
-    for path, data in files:
-        if is_unbuilt(data):
-            raise Decided(*later(path))
     lines = set()
     for path, data in files:
         lines |= lines_of(path, data)

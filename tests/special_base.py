@@ -5,13 +5,14 @@ import sys
 
 sys.dont_write_bytecode = True
 
-from class_files import RETURNS_ITS_ARGUMENT, Pool, class_file, u2, u4, unbuilt
+from class_files import INTEGER, RETURNS_ITS_ARGUMENT, class_file, row, u4
 from harness import Outcome
 
 MEBIBYTES_4 = 4194304
 
 one = RETURNS_ITS_ARGUMENT
-later = class_file("A", pool=Pool(), magic=0xCAFEBABE)[:8] + u2(2) + unbuilt(3)
+# It ends with its pool's one entry.
+cut = u4(0xCAFEBABE) + row(0, 52, 2) + INTEGER
 
 fault = Outcome(65, b"")
 usage = Outcome(64, b"USAGE\n")

@@ -12,12 +12,12 @@ from harness import Outcome
 from listing import PLAIN, instructions
 from special_base import (
     MEBIBYTES_4,
+    cut,
     fault,
     file_limit,
     files_limit,
     full,
     input_limit,
-    later,
     ok,
     one,
     rejected,
@@ -115,8 +115,8 @@ def long_input_before_long_file():
 
 
 @special(*VERIFY, wanted=file_limit)
-def long_file_before_later_and_rules():
-    write("c/A.class", later)
+def long_file_before_rules():
+    write("c/A.class", cut)
     write("c/B.class", b"")
     write_zeros("c/C.class", MEBIBYTES_4 + 1)
     write("in")

@@ -5,15 +5,15 @@ from class_files import (
     PUBLIC,
     RETURNS_ITS_ARGUMENT,
     STATIC,
-    Pool,
     class_file,
     code,
     native,
     straight,
+    string,
     u1,
-    unbuilt,
 )
 from listing import instructions
+from pool_cases import LONG, accepted, whole_pool, with_pool
 
 PAIR = "\U00010437"  # a character outside the basic plane: two units, six bytes in a class file and four in a path
 
@@ -202,15 +202,10 @@ bad_shape = straight(instructions("areturn"))
 case("later-goto", {"c/A.class": class_file("A", [straight(b"\xa7\0\0")])})
 case("later-two-files", {"c/A.class": one, "c/A$B.class": class_file("A$B", [returns])})
 case("later-before-entry", {"c/A.class": class_file("A", [returns, bad_shape], fields=[("x", "I")])}, entry="B")
-
-
-def with_integer(name):
-    pool = Pool()
-    pool.add(unbuilt(3))
-    return class_file(name, pool=pool)
-
-
-case("later-unread-constant", {"c/A.class": one, "c/B.class": with_integer("B"), "c/C.class": b""})
+case("later-javac", {"c/%s.class" % path: data for path, data in accepted.items()}, entry="cash.Transfer")
+case("malformed-beside-constants", {"c/A.class": one, "c/B.class": class_file("B", pool=whole_pool()), "c/C.class": b""})
+case("malformed-constant", {"c/A.class": with_pool("A", string(0), methods=[returns])})
+case("later-beside-constants", {"c/A.class": class_file("A", [returns], pool=whole_pool()), "c/B.class": with_pool("B", LONG)})
 case("rules-before-later", {"c/A.class": class_file("A", [returns], fields=[("x", "I")]), "c/B.class": class_file("C", [bad_shape])})
 case("version-before-shape", {"c/A.class": class_file("A", [bad_shape], major=53)}, entry="B")
 case(
@@ -218,6 +213,10 @@ case(
     {"c/A.class": class_file("A", [native("n"), ("finalize", "()V", PUBLIC | STATIC | NATIVE, [code()]), bad_shape])},
 )
 case("malformed", {"c/A.class": one[:-1]})
+# Constants of every tag, that the code doesn't name.
+case("constants-of-each-tag", {"c/A.class": class_file("A", [returns], pool=whole_pool())})
+bad_shape_of_f = straight(instructions("areturn"), name="f")
+case("constants-and-shape", {"c/A.class": class_file("A", [returns, bad_shape_of_f], pool=whole_pool())})
 # Attributes that don't count: a stack map of the method, another attribute of the code, also one that has no name.
 case(
     "other-attributes",

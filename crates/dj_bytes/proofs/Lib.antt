@@ -7,4 +7,6 @@ pub mod Signed
 pub mod Parts
 pub mod Loop
 pub mod Faults
+pub mod FaultLaws
 mod Facts
+mod FaultFacts

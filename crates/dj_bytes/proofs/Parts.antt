@@ -3,6 +3,7 @@ use Rattle.std.proofs.Common.{◌≡◌, ℕ, zero, suc, ◌^◌, ◌<◌, List,
 use Rattle.std.specs.List.{flat_map, AllByRecursion}
 use Rattle.dj_bytes.specs.Spelling.{u2, table_bytes}
 use Rattle.dj_bytes.specs.Reading.{Cursor, many_at, table_at}
+use Rattle.dj_bytes.specs.Faults.{AreFew}
 use Rattle.dj_bytes.proofs.Bytes.{IsBytes}
 use Rattle.dj_bytes.proofs.Steps.{bind_ok, bind_again, bind_err, bind_fails}
 use Rattle.dj_bytes.proofs.Spans.{Spans, Spans-none, Spans-then, Spans-stay, IsBytes-Spans, Reads, step_takes, step_again}
@@ -40,9 +41,6 @@ pub many_reads : {A E : Type 0} {part : Cursor → Result (A × Cursor) E} {byte
 many_reads {part} {bytes_of} {P} reads n = record { takes = many_take part bytes_of P reads n; again = many_again part bytes_of P reads n }
 
 -- ---- tables
-
-abbrev pub AreFew : {A : Type 0} → (A → Type 0) → List A → Type 0
-AreFew P xs = (length xs < 2 ^ 16) × AllByRecursion P xs
 
 table_takes : {A E : Type 0} (cut : ℕ → E) (part : Cursor → Result (A × Cursor) E) (bytes_of : A → List ℕ) (P : A → Type 0) → Reads part bytes_of P → (c : Cursor) (x : List A × Cursor)
     → IsBytes c.rest → table_at cut part c ≡ Ok x → Spans c (table_bytes bytes_of x.0) x.1 × AreFew P x.0

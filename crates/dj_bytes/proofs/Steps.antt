@@ -10,6 +10,25 @@ bind_ok {r = Err d} e = absurd cc
 pub bind_again : {A B E : Type 0} {r : Result A E} {x : A} {z : Result B E} (f : A → Result B E) → r ≡ Ok x → f x ≡ z → (r >>= f) ≡ z
 bind_again f p q = ap (λ r. r >>= f) p ∙ q
 
+-- steps that were put into one, each by itself
+pub one_step : {A M B E : Type 0} (r : Result A E) (made : A → M) (k : M → Result B E) → ((r >>= λ a. Ok (made a)) >>= k) ≡ (r >>= λ a. k (made a))
+one_step (Ok a) made k = refl
+one_step (Err e) made k = refl
+
+pub two_steps : {A B M R E : Type 0} (r : Result A E) (f : A → Result B E) (made : A → B → M) (k : M → Result R E) → ((r >>= λ a. f a >>= λ b. Ok (made a b)) >>= k) ≡ (r >>= λ a. f a >>= λ b. k (made a b))
+two_steps (Ok a) f made k = one_step (f a) (made a) k
+two_steps (Err e) f made k = refl
+
+pub three_steps : {A B C M R E : Type 0} (r : Result A E) (f : A → Result B E) (g : A → B → Result C E) (made : A → B → C → M) (k : M → Result R E)
+    → ((r >>= λ a. f a >>= λ b. g a b >>= λ c. Ok (made a b c)) >>= k) ≡ (r >>= λ a. f a >>= λ b. g a b >>= λ c. k (made a b c))
+three_steps (Ok a) f g made k = two_steps (f a) (g a) (made a) k
+three_steps (Err e) f g made k = refl
+
+pub four_steps : {A B C D M R E : Type 0} (r : Result A E) (f : A → Result B E) (g : A → B → Result C E) (h : A → B → C → Result D E) (made : A → B → C → D → M) (k : M → Result R E)
+    → ((r >>= λ a. f a >>= λ b. g a b >>= λ c. h a b c >>= λ d. Ok (made a b c d)) >>= k) ≡ (r >>= λ a. f a >>= λ b. g a b >>= λ c. h a b c >>= λ d. k (made a b c d))
+four_steps (Ok a) f g h made k = three_steps (f a) (g a) (h a) (made a) k
+four_steps (Err e) f g h made k = refl
+
 -- a step that fails, or the value of a step before the one that fails
 pub bind_err : {A B E P : Type 0} {r : Result A E} {f : A → Result B E} {e : E} → (r >>= f) ≡ Err e → (r ≡ Err e → P) → ((x : A) → r ≡ Ok x → f x ≡ Err e → P) → P
 bind_err {r = Ok x} h one other = other x refl h

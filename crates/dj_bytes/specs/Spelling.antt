@@ -29,6 +29,9 @@ s2 z = u2 (cast_unsigned w16 z)
 abbrev pub s4 : ℤ → List ℕ
 s4 z = u4 (cast_unsigned w32 z)
 
+abbrev pub s8 : ℤ → List ℕ
+s8 z = u8 (cast_unsigned w64 z)
+
 -- ---- tables
 
 -- a count of two bytes, and then so many parts

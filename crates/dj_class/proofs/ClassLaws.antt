@@ -1,24 +1,29 @@
--- A class file that is read is spelled so, and one that is spelled so is read.
+-- A class file that is read is spelled so, one that is spelled so is read, and reading fails exactly where there is a fault.
 use Rattle.std.proofs.Common.{◌≡◌, ℕ, if◌then◌else◌, List, [], ◌++◌, length, Result, Ok, Err, refl, sym, ap, subst, ◌∙◌, append_assoc, append-nil, arith}
 use Rattle.std.proofs.lemmas.Bool.{eqb-true, eq-eqb}
 use Rattle.std.proofs.lemmas.List.{nil_from_length}
 use Rattle.dj_bytes.specs.Spelling.{u2, table_bytes}
-use Rattle.dj_bytes.specs.Steps.{◌>>=◌}
+use Rattle.dj_bytes.specs.Steps.{◌>>=◌, lifted}
 use Rattle.dj_bytes.specs.Reading.{Cursor, start_of, at_end, table_at}
 use Rattle.dj_bytes.proofs.Bytes.{IsBytes}
 use Rattle.dj_bytes.proofs.Steps.{bind_again, guard_ok, guard_again}
 use Rattle.dj_bytes.proofs.Spans.{Spans, Spans-then, Spans-end, Reads, step_takes, step_again, lifted_reads}
-use Rattle.dj_bytes.proofs.Parts.{AreFew, table_reads}
+use Rattle.dj_bytes.specs.Faults.{AreFew}
+use Rattle.dj_bytes.proofs.Parts.{table_reads}
+use Rattle.dj_bytes.proofs.FaultLaws.{Refuses, refuses_then, lifted_refuses, table_refuses, end_refuses}
 use Rattle.dj_names.specs.Tests.{unqualified_name_test, method_name_test, field_descriptor_test, method_descriptor_test}
 use Rattle.dj_names.specs.Names.{IsUnqualifiedName, IsMethodName}
 use Rattle.dj_names.specs.Descriptors.{IsFieldDescriptor, IsMethodDescriptor}
 use Rattle.dj_class.specs.declared.class.ClassError.{ClassError}
 use Rattle.dj_class.specs.declared.class.ClassError.TheVariants as class_errors
-use Rattle.dj_class.specs.ClassFile.{ClassFile, Constant, AttributeInfo, MemberInfo, pool_bytes, attribute_bytes, member_bytes, header_bytes, class_bytes, IsPool, IsField, IsMethod, AreAttributes, IsValid, IsClassFile}
-use Rattle.dj_class.specs.Reading.{attribute_at, member_at, Heading, class_file_of}
-use Rattle.dj_class.proofs.Decides.{TestsDecide}
-use Rattle.dj_class.proofs.PoolLaws.{pool_reads}
-use Rattle.dj_class.proofs.PartLaws.{AreVersions, attributes_read, member_reads, header_reads, heading_bytes, IsHeading, heading_reads}
+use Rattle.dj_pool.specs.Pool.{Constant, pool_bytes, IsPool}
+use Rattle.dj_pool.specs.Reading.{pool_at}
+use Rattle.dj_pool.proofs.Decides.{TestsDecide}
+use Rattle.dj_pool.proofs.PoolLaws.{pool_reads, pool_refuses}
+use Rattle.dj_class.specs.Faults.{FieldsFault, MethodsFault, FileFault, IsFault}
+use Rattle.dj_class.specs.ClassFile.{ClassFile, AttributeInfo, MemberInfo, attribute_bytes, member_bytes, header_bytes, class_bytes, IsField, IsMethod, AreAttributes, IsValid, IsClassFile}
+use Rattle.dj_class.specs.Reading.{attribute_at, member_at, header_at, Heading, heading_at, class_file_of}
+use Rattle.dj_class.proofs.PartLaws.{AreVersions, attributes_read, attributes_refuse, member_reads, member_refuses, header_reads, header_refuses_then, heading_bytes, IsHeading, heading_reads, heading_refuses_then}
 
 pub fields_read : (d : TestsDecide) (pool : List Constant) → IsPool pool → Reads (table_at class_errors.Cut (member_at unqualified_name_test field_descriptor_test pool)) (table_bytes member_bytes) (AreFew (IsField pool))
 fields_read d pool valid = table_reads class_errors.Cut (member_reads unqualified_name_test field_descriptor_test IsUnqualifiedName IsFieldDescriptor d.unqualified_name d.field_descriptor pool valid)
@@ -176,3 +181,42 @@ one_class_file d bytes c e p q =
     let one = class_file_again d bytes c p in
     let other = class_file_again d bytes e q in
     cc
+
+-- ---- faults
+
+fields_refuse : (d : TestsDecide) (pool : List Constant) → IsPool pool → Refuses (table_at class_errors.Cut (member_at unqualified_name_test field_descriptor_test pool)) (FieldsFault pool)
+fields_refuse d pool valid = table_refuses class_errors.Cut
+    (member_reads unqualified_name_test field_descriptor_test IsUnqualifiedName IsFieldDescriptor d.unqualified_name d.field_descriptor pool valid)
+    (member_refuses unqualified_name_test field_descriptor_test IsUnqualifiedName IsFieldDescriptor d.unqualified_name d.field_descriptor pool valid)
+
+methods_refuse : (d : TestsDecide) (pool : List Constant) → IsPool pool → Refuses (table_at class_errors.Cut (member_at method_name_test method_descriptor_test pool)) (MethodsFault pool)
+methods_refuse d pool valid = table_refuses class_errors.Cut
+    (member_reads method_name_test method_descriptor_test IsMethodName IsMethodDescriptor d.method_name d.method_descriptor pool valid)
+    (member_refuses method_name_test method_descriptor_test IsMethodName IsMethodDescriptor d.method_name d.method_descriptor pool valid)
+
+-- the whole file, from where the reader stands
+abbrev file_at : Cursor → Result ClassFile ClassError
+file_at c = do
+  header ← header_at c
+  pool ← lifted class_errors.Pool (pool_at header.1)
+  heading ← heading_at pool.0 pool.1
+  tail_at pool.0 header.0 heading.0 heading.1
+
+file_refuses : TestsDecide → Refuses file_at FileFault
+file_refuses d =
+    header_refuses_then _ (λ versions _.
+    refuses_then _ (lifted_reads class_errors.Pool (pool_reads d)) (lifted_refuses class_errors.Pool (pool_refuses d)) (λ pool valid.
+    heading_refuses_then d pool _ valid (λ heading _.
+    refuses_then _ (fields_read d pool valid) (fields_refuse d pool valid) (λ fields _.
+    refuses_then _ (methods_read d pool valid) (methods_refuse d pool valid) (λ methods _.
+    refuses_then _ (attributes_read pool valid) (attributes_refuse pool valid) (λ attributes _.
+    end_refuses class_errors.Trailing (whole_of pool versions heading fields methods attributes)))))))
+
+-- the first fault is what the reader meets
+pub fault_told : TestsDecide → (bytes : List ℕ) (e : ClassError) → IsBytes bytes → class_file_of bytes ≡ Err e → IsFault bytes e
+unfolding class_file_of
+fault_told d bytes e fits h = (file_refuses d).tells (start_of bytes) e fits h
+
+pub fault_again : TestsDecide → (bytes : List ℕ) (e : ClassError) → IsFault bytes e → class_file_of bytes ≡ Err e
+unfolding class_file_of
+fault_again d bytes e fault = (file_refuses d).again (start_of bytes) e fault

@@ -1,24 +1,29 @@
--- The body of a Code attribute that is read is spelled so, and one that is spelled so is read.
-use Rattle.std.proofs.Common.{◌≡◌, ℕ, ◌^◌, ◌<◌, ◌&&◌, true, nat_lt, List, [], ◌++◌, length, Result, Ok, Err, refl, sym, ap, subst, ◌∙◌, append_assoc, append-nil, arith}
+-- The body of a Code attribute that is read is spelled so, one that is spelled so is read, and reading fails exactly where there is a fault.
+use Rattle.std.proofs.Common.{◌≡◌, ℕ, ◌^◌, ◌<◌, ◌&&◌, true, if◌then◌else◌, nat_lt, List, [], ◌++◌, length, Result, Ok, Err, refl, sym, ap, subst, ◌∙◌, append_assoc, append-nil, arith}
 use Rattle.std.proofs.lemmas.Bool.{eqb-true}
 use Rattle.std.proofs.lemmas.Bool.Decides.{nat_tests}
 use Rattle.std.proofs.lemmas.List.{nil_from_length}
 use Rattle.dj_bytes.specs.Spelling.{u2, u4, table_bytes}
-use Rattle.dj_bytes.specs.Steps.{Gives}
-use Rattle.dj_bytes.specs.Reading.{Cursor, start_of}
+use Rattle.dj_bytes.specs.Steps.{◌>>=◌, Gives}
+use Rattle.dj_bytes.specs.Reading.{Cursor, start_of, at_end, block_at, u2_at, table_at}
 use Rattle.dj_bytes.proofs.Bytes.{IsBytes}
-use Rattle.dj_bytes.proofs.Steps.{bind_again, guard_ok, guard_again}
+use Rattle.dj_bytes.specs.Faults.{IsCut, InTurn, Fits2}
+use Rattle.dj_bytes.proofs.Steps.{bind_again, four_steps, guard_ok, guard_again}
 use Rattle.dj_bytes.proofs.Spans.{Spans, Spans-then, Spans-end, Reads, step_takes, step_again}
 use Rattle.dj_bytes.proofs.Numbers.{u2_reads, u4_reads, block_reads}
 use Rattle.dj_bytes.proofs.Parts.{table_reads}
+use Rattle.dj_bytes.proofs.FaultLaws.{Refuses, Refuses-same, u2_refuses, u4_refuses, block_refuses, refuses_then, refuses_last, table_refuses, guard_refuses, end_refuses}
 use Rattle.dj_ops.specs.declared.rows.CatchRow.{CatchRow}
-use Rattle.dj_class.specs.declared.pool.PoolError.TheVariants as pool_errors
+use Rattle.dj_pool.specs.declared.pool.PoolError.TheVariants as pool_errors
 use Rattle.dj_class.specs.declared.class.ClassError.{ClassError}
 use Rattle.dj_class.specs.declared.class.ClassError.TheVariants as class_errors
 use Rattle.dj_class.specs.declared.code.CodeView.{CodeView}
 use Rattle.dj_class.specs.ClassFile.{AttributeInfo, attribute_bytes}
 use Rattle.dj_class.specs.Code.{CodeInfo, row_bytes, code_info_bytes, IsRow, IsCodeAttribute, IsCode}
+use Rattle.dj_class.specs.Faults.{Fault, Cut2}
+use Rattle.dj_class.specs.CodeFaults.{IsCodeLength, LengthFault, RowFault, CodeAttributeFault, BodyFault, IsCodeFault}
 use Rattle.dj_class.specs.CodeViews.{code_of, ReadsCode}
+use Rattle.dj_class.specs.Laws.{CodeOrFault, IsOneCode, IsFaultyCode}
 use Rattle.dj_class.specs.CodeReading.{code_length_at, code_front_at, row_at, code_attribute_at, code_read}
 use Rattle.dj_class.specs.Memory.{is_memory}
 
@@ -47,6 +52,14 @@ row_again c x next good s =
 pub row_reads : Reads row_at row_bytes IsRow
 row_reads = record { takes = row_takes; again = row_again }
 
+row_refuses : Refuses row_at RowFault
+unfolding row_at
+row_refuses =
+    refuses_then _ (u2_reads class_errors.Cut) (u2_refuses class_errors.Cut) (λ start _.
+    refuses_then _ (u2_reads class_errors.Cut) (u2_refuses class_errors.Cut) (λ end _.
+    refuses_then _ (u2_reads class_errors.Cut) (u2_refuses class_errors.Cut) (λ handler _.
+    refuses_last _ (u2_refuses class_errors.Cut))))
+
 -- ---- attributes
 
 code_attribute_takes : (c : Cursor) (x : AttributeInfo × Cursor) → IsBytes c.rest → code_attribute_at c ≡ Ok x → Spans c (attribute_bytes x.0) x.1 × IsCodeAttribute x.0
@@ -70,10 +83,14 @@ code_attribute_again c x next good s =
 pub code_attribute_reads : Reads code_attribute_at attribute_bytes IsCodeAttribute
 code_attribute_reads = record { takes = code_attribute_takes; again = code_attribute_again }
 
--- ---- what stands before the exception table
+code_attribute_refuses : Refuses code_attribute_at CodeAttributeFault
+unfolding code_attribute_at
+code_attribute_refuses =
+    refuses_then _ (u2_reads class_errors.Cut) (u2_refuses class_errors.Cut) (λ name _.
+    refuses_then _ (u4_reads class_errors.Cut) (u4_refuses class_errors.Cut) (λ len _.
+    refuses_last _ (block_refuses class_errors.Cut len)))
 
-abbrev IsCodeLength : ℕ → Type 0
-IsCodeLength n = (0 < n) × (n < 65536)
+-- ---- what stands before the exception table
 
 length_takes : (c : Cursor) (x : ℕ × Cursor) → IsBytes c.rest → code_length_at c ≡ Ok x → Spans c (u4 x.0) x.1 × IsCodeLength x.0
 unfolding code_length_at
@@ -91,6 +108,10 @@ length_again c n next good s =
 
 length_reads : Reads code_length_at u4 IsCodeLength
 length_reads = record { takes = length_takes; again = length_again }
+
+length_refuses : Refuses code_length_at LengthFault
+unfolding code_length_at
+length_refuses = guard_refuses (λ n. nat_lt 0 n && nat_lt n 65536) IsCodeLength class_errors.Index (u4_reads class_errors.Cut) (u4_refuses class_errors.Cut) (λ n h. grind (arith, nat_tests)) (λ n h. grind (arith, nat_tests))
 
 abbrev front_bytes : ℕ × ℕ × List ℕ → List ℕ
 front_bytes f = u2 f.0 ++ (u2 f.1 ++ (u4 (length f.2) ++ f.2))
@@ -123,6 +144,19 @@ front_again c f next good s =
 
 front_reads : Reads code_front_at front_bytes IsFront
 front_reads = record { takes = front_takes; again = front_again }
+
+-- this, and what follows it
+front_refuses_then : {B : Type 0} {Later : Fault} (k : (ℕ × ℕ × List ℕ) × Cursor → Result B ClassError) → ((f : ℕ × ℕ × List ℕ) → IsFront f → Refuses (λ c. k (f, c)) Later)
+    → Refuses (λ c. code_front_at c >>= k) (InTurn Cut2 u2 Fits2 (λ max_stack. InTurn Cut2 u2 Fits2 (λ max_locals. InTurn LengthFault u4 IsCodeLength (λ len. InTurn (IsCut class_errors.Cut len) (λ code. code) (λ code. length code ≡ len) (λ code. Later)))))
+unfolding code_front_at
+front_refuses_then k later = Refuses-same
+    (λ c. four_steps (u2_at class_errors.Cut c) (λ max_stack. u2_at class_errors.Cut max_stack.1) (λ max_stack max_locals. code_length_at max_locals.1) (λ max_stack max_locals len. block_at class_errors.Cut len.0 len.1)
+    (λ max_stack max_locals len code. ((max_stack.0, max_locals.0, code.0), code.1)) k)
+    (refuses_then _ (u2_reads class_errors.Cut) (u2_refuses class_errors.Cut) (λ max_stack fits_stack.
+    refuses_then _ (u2_reads class_errors.Cut) (u2_refuses class_errors.Cut) (λ max_locals fits_locals.
+    refuses_then _ length_reads length_refuses (λ len good.
+    refuses_then _ (block_reads class_errors.Cut len) (block_refuses class_errors.Cut len) (λ code whole.
+    later (max_stack, max_locals, code) (record { max_stack = fits_stack; max_locals = fits_locals; code = subst IsCodeLength (sym whole) good }))))))
 
 -- ---- the whole body
 
@@ -183,20 +217,61 @@ one_code body c d p q =
     let other = code_again body d q in
     cc
 
--- an error says that the body is no Code attribute's
-no_code : (body : List ℕ) (e : ClassError) → code_read body ≡ Err e → (c : CodeInfo) → IsCode body c → ⊥
-no_code body e h c is = let read = code_again body c is in absurd cc
+-- ---- faults
+
+-- the whole body, from where the reader stands
+abbrev body_at : Cursor → Result CodeInfo ClassError
+body_at c = do
+  front ← code_front_at c
+  table ← table_at class_errors.Cut row_at front.1
+  attributes ← table_at class_errors.Cut code_attribute_at table.1
+  if at_end attributes.1 then Ok (whole_of front.0 table.0 attributes.0) else Err (class_errors.Trailing attributes.1.place)
+
+body_refuses : Refuses body_at BodyFault
+body_refuses =
+    front_refuses_then _ (λ front _.
+    refuses_then _ (table_reads class_errors.Cut row_reads) (table_refuses class_errors.Cut row_reads row_refuses) (λ table _.
+    refuses_then _ (table_reads class_errors.Cut code_attribute_reads) (table_refuses class_errors.Cut code_attribute_reads code_attribute_refuses) (λ attributes _.
+    end_refuses class_errors.Trailing (whole_of front table attributes))))
+
+-- the first fault is what the reader meets
+fault_told : (body : List ℕ) (e : ClassError) → IsBytes body → code_read body ≡ Err e → IsCodeFault body e
+unfolding code_read
+fault_told body e fits h = body_refuses.tells (start_of body) e fits h
+
+fault_again : (body : List ℕ) (e : ClassError) → IsCodeFault body e → code_read body ≡ Err e
+unfolding code_read
+fault_again body e fault = body_refuses.again (start_of body) e fault
+
+-- a body has one first fault at most
+pub one_code_fault : (body : List ℕ) (a b : ClassError) → IsCodeFault body a → IsCodeFault body b → a ≡ b
+one_code_fault body a b p q =
+    let one = fault_again body a p in
+    let other = fault_again body b q in
+    cc
+
+pub faulty_is_no_code : (body : List ℕ) (e : ClassError) → IsCodeFault body e → (c : CodeInfo) → IsCode body c → ⊥
+faulty_is_no_code body e fault c is =
+    let one = fault_again body e fault in
+    let other = code_again body c is in
+    absurd cc
+
+decided : (body : List ℕ) (r : Result CodeInfo ClassError) → IsBytes body → code_read body ≡ r → CodeOrFault body
+decided body (Ok c) fits h = IsOneCode c (code_takes body c fits h)
+decided body (Err e) fits h = IsFaultyCode e (fault_told body e fits h)
+
+pub code_or_fault : (body : List ℕ) → IsBytes body → CodeOrFault body
+code_or_fault body fits = decided body (code_read body) fits refl
 
 pub reads_code : (body : List ℕ) (r : Result CodeView ClassError) → IsBytes body → Gives is_memory code_of r (code_read body) → ReadsCode body r
 reads_code body (Ok view) fits given = code_takes body (code_of view) fits given
 reads_code body (Err (class_errors.Pool pool_errors.Memory)) fits given = tt
-reads_code body (Err (class_errors.Pool (pool_errors.Cut p))) fits given = no_code body _ given
-reads_code body (Err (class_errors.Pool (pool_errors.Tag p))) fits given = no_code body _ given
-reads_code body (Err (class_errors.Pool (pool_errors.Link p))) fits given = no_code body _ given
-reads_code body (Err (class_errors.Pool (pool_errors.Text p))) fits given = no_code body _ given
-reads_code body (Err (class_errors.Pool (pool_errors.Unbuilt p))) fits given = no_code body _ given
+reads_code body (Err (class_errors.Pool (pool_errors.Cut p))) fits given = fault_told body _ fits given
+reads_code body (Err (class_errors.Pool (pool_errors.Tag p))) fits given = fault_told body _ fits given
+reads_code body (Err (class_errors.Pool (pool_errors.Link p))) fits given = fault_told body _ fits given
+reads_code body (Err (class_errors.Pool (pool_errors.Text p))) fits given = fault_told body _ fits given
 reads_code body (Err class_errors.Memory) fits given = tt
-reads_code body (Err class_errors.Magic) fits given = no_code body _ given
-reads_code body (Err (class_errors.Cut p)) fits given = no_code body _ given
-reads_code body (Err (class_errors.Index p)) fits given = no_code body _ given
-reads_code body (Err (class_errors.Trailing p)) fits given = no_code body _ given
+reads_code body (Err class_errors.Magic) fits given = fault_told body _ fits given
+reads_code body (Err (class_errors.Cut p)) fits given = fault_told body _ fits given
+reads_code body (Err (class_errors.Index p)) fits given = fault_told body _ fits given
+reads_code body (Err (class_errors.Trailing p)) fits given = fault_told body _ fits given

@@ -1,14 +1,7 @@
-pub mod Entries
-pub mod Loop
 pub mod Whole
-pub mod Decides
-pub mod PoolLaws
 pub mod PartLaws
 pub mod ClassLaws
-pub mod UnbuiltLaws
 pub mod AnswerLaws
-pub mod PoolFromLaws
 pub mod TextLaws
-pub mod TestsAre
-pub mod Rows
+pub mod Facts
 pub mod CodeLaws

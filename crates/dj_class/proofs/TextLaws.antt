@@ -5,7 +5,8 @@ use Rattle.std.specs.List.{AllByRecursion}
 use Rattle.std.proofs.lemmas.List.Elements.{All-from_recursion}
 use Rattle.dj_names.specs.Names.{IsUnqualifiedName, IsMethodName, IsClassName}
 use Rattle.dj_names.specs.Descriptors.{IsFieldDescriptor, IsMethodDescriptor}
-use Rattle.dj_class.specs.ClassFile.{Constant, AttributeInfo, MemberInfo, text_at, class_name_at, NamesClass, IsAttribute, AreAttributes, IsMember, IsField, IsMethod}
+use Rattle.dj_pool.specs.Pool.{Constant, text_at, class_name_at}
+use Rattle.dj_class.specs.ClassFile.{AttributeInfo, MemberInfo, NamesClass, IsAttribute, AreAttributes, IsMember, IsField, IsMethod}
 use Rattle.dj_class.specs.Laws.{HasText, AttributesHaveTexts, MemberHasTexts, ValidHasTexts}
 
 pub has_text : (o : Option (List ℕ)) (P : List ℕ → Type 0) → IsSomeAnd o P → HasText o P

@@ -1,26 +1,63 @@
 -- Laws of class files that hold whatever is read: what bytes can be, and which texts a valid class file has.
-use Rattle.std.specs.Prelude.{◌≡◌, ℕ, ◌⊎◌, ⊤, List, All, Option, Some}
+use Rattle.std.specs.Prelude.{◌≡◌, ℕ, ◌<◌, ◌⊎◌, ⊤, List, All, Option, Some, get_or}
 use Rattle.dj_names.specs.Names.{IsUnqualifiedName, IsMethodName, IsClassName}
 use Rattle.dj_names.specs.Descriptors.{IsFieldDescriptor, IsMethodDescriptor}
-use Rattle.dj_class.specs.ClassFile.{Constant, AttributeInfo, MemberInfo, ClassFile, text_at, class_name_at, IsValid, IsClassFile}
+use Rattle.dj_pool.specs.Pool.{Constant, text_at, class_name_at}
+use Rattle.dj_class.specs.declared.class.ClassError.{ClassError}
+use Rattle.dj_class.specs.ClassFile.{AttributeInfo, MemberInfo, ClassFile, IsValid, IsClassFile, IsMalformed}
 use Rattle.dj_class.specs.Code.{CodeInfo, IsCode}
-use Rattle.dj_class.specs.Unbuilt.{IsUnbuiltAt}
+use Rattle.dj_class.specs.Faults.{IsFault}
+use Rattle.dj_class.specs.CodeFaults.{IsCodeFault}
+
+-- each is below 256
+abbrev pub AreBytes : List ℕ → Type 0
+AreBytes bytes = (i : ℕ) → get_or bytes i 0 < 256
+
+-- ---- files
 
 -- bytes are one class file at most
 abbrev pub OneClassFile : Type 0
 OneClassFile = (bytes : List ℕ) (c d : ClassFile) → IsClassFile bytes c → IsClassFile bytes d → c ≡ d
 
--- a file with a constant that is not read yet is no class file
-abbrev pub NoClassWhereUnbuilt : Type 0
-NoClassWhereUnbuilt = (bytes : List ℕ) (c : ClassFile) (place : ℕ) → IsClassFile bytes c → IsUnbuiltAt bytes place → ⊥
+-- bytes have one first fault at most
+abbrev pub OneFault : Type 0
+OneFault = (bytes : List ℕ) (d e : ClassError) → IsFault bytes d → IsFault bytes e → d ≡ e
 
--- there is one place at most where the first such constant stands
-abbrev pub OneUnbuiltPlace : Type 0
-OneUnbuiltPlace = (bytes : List ℕ) (a b : ℕ) → IsUnbuiltAt bytes a → IsUnbuiltAt bytes b → a ≡ b
+-- a file with a fault is no class file
+abbrev pub FaultyIsMalformed : Type 0
+FaultyIsMalformed = (bytes : List ℕ) (e : ClassError) → IsFault bytes e → IsMalformed bytes
+
+-- a file is a class file, or it has a fault
+pub data ClassOrFault (bytes : List ℕ) : Type 0 where
+  IsOne : (c : ClassFile) → IsClassFile bytes c → ClassOrFault bytes
+  IsFaulty : (e : ClassError) → IsFault bytes e → ClassOrFault bytes
+
+abbrev pub EachClassOrFault : Type 0
+EachClassOrFault = (bytes : List ℕ) → AreBytes bytes → ClassOrFault bytes
+
+-- ---- bodies of Code attributes
 
 -- a body is one Code attribute's at most
 abbrev pub OneCode : Type 0
 OneCode = (body : List ℕ) (c d : CodeInfo) → IsCode body c → IsCode body d → c ≡ d
+
+-- a body has one first fault at most
+abbrev pub OneCodeFault : Type 0
+OneCodeFault = (body : List ℕ) (d e : ClassError) → IsCodeFault body d → IsCodeFault body e → d ≡ e
+
+-- a body with a fault is no Code attribute's
+abbrev pub FaultyIsNoCode : Type 0
+FaultyIsNoCode = (body : List ℕ) (e : ClassError) → IsCodeFault body e → (c : CodeInfo) → IsCode body c → ⊥
+
+-- a body is a Code attribute's, or it has a fault
+pub data CodeOrFault (body : List ℕ) : Type 0 where
+  IsOneCode : (c : CodeInfo) → IsCode body c → CodeOrFault body
+  IsFaultyCode : (e : ClassError) → IsCodeFault body e → CodeOrFault body
+
+abbrev pub EachCodeOrFault : Type 0
+EachCodeOrFault = (body : List ℕ) → AreBytes body → CodeOrFault body
+
+-- ---- texts
 
 -- there is a text, and it is so
 pub record HasText (found : Option (List ℕ)) (P : List ℕ → Type 0) : Type 0 where

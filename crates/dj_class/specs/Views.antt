@@ -1,11 +1,11 @@
 -- What the view of a class file shows, and what reading one answers.
 use Rattle.std.specs.Prelude.{ℕ, ⊤, List, Result, Ok, Err}
-use Rattle.dj_class.specs.declared.pool.PoolError.TheVariants as pool_errors
+use Rattle.dj_pool.specs.declared.pool.PoolError.TheVariants as pool_errors
 use Rattle.dj_class.specs.declared.class.ClassError.{ClassError}
 use Rattle.dj_class.specs.declared.class.ClassError.TheVariants as class_errors
 use Rattle.dj_class.specs.declared.class.ClassView.{ClassView}
 use Rattle.dj_class.specs.ClassFile.{ClassFile, IsClassFile}
-use Rattle.dj_class.specs.Unbuilt.{IsUnbuiltAt, IsMalformed}
+use Rattle.dj_class.specs.Faults.{IsFault}
 
 abbrev pub class_of : ClassView → ClassFile
 class_of c = record {
@@ -21,10 +21,9 @@ class_of c = record {
   attributes = c.attributes;
 }
 
--- a class file is read, or the first constant that is not read yet is told, or the file is no class file
+-- a class file is read, or its first fault is told, or memory ran out
 abbrev pub ReadsClass : List ℕ → Result ClassView ClassError → Type 0
 ReadsClass bytes (Ok view) = IsClassFile bytes (class_of view)
-ReadsClass bytes (Err (class_errors.Pool (pool_errors.Unbuilt place))) = IsUnbuiltAt bytes place
 ReadsClass bytes (Err (class_errors.Pool pool_errors.Memory)) = ⊤
 ReadsClass bytes (Err class_errors.Memory) = ⊤
-ReadsClass bytes (Err e) = IsMalformed bytes
+ReadsClass bytes (Err e) = IsFault bytes e

@@ -1,4 +1,4 @@
-ghost use Rattle.std.specs.Prelude.{◌≡◌, ◌+◌, ◌^◌, ◌<◌, ◌==◌, ◌||◌, ℕ, length, map};
+ghost use Rattle.std.specs.Prelude.{◌≡◌, ◌+◌, ◌^◌, ◌<◌, ◌≤◌, ◌==◌, ◌||◌, ℕ, length, map};
 ghost use Rattle.dj_bytes.specs.Steps.{Gives};
 ghost use Rattle.dj_bytes.specs.Reading.{many_at, table_at};
 ghost use Rattle.dj_bytes.specs.Views.{cursor_of};
@@ -6,17 +6,15 @@ ghost use Rattle.dj_names.specs.Tests.{unqualified_name_test, method_name_test, 
 ghost use Rattle.dj_class.specs.Parts.{attribute_of};
 ghost use Rattle.dj_class.specs.Members.{member_of};
 ghost use Rattle.dj_class.specs.Views.{class_of, ReadsClass};
-ghost use Rattle.dj_class.specs.Reading.{index_at, text_passes, is_class, attribute_at, member_at, versions_at, header_at, heading_at, class_file_of};
+ghost use Rattle.dj_pool.specs.Tests.{text_passes, is_class};
+ghost use Rattle.dj_class.specs.Reading.{index_at, is_super, attribute_at, member_at, magic_at, header_at, heading_at, class_file_of};
 ghost use Rattle.dj_class.specs.Memory.{is_memory};
 ghost use Rattle.dj_class.specs.Tests.{test_of, heading_of};
 ghost use Rattle.dj_class.specs.declared.class.ClassError.TheVariants as class_errors;
 
-use crate::lists::{Attributes, Indexes, Members};
-use crate::pool::{Pool, PoolError, read_pool_at};
+use crate::lists::{Attributes, Members};
 use dj_bytes::{Cursor, Cut};
-use dj_names::{
-    is_class_name, is_field_descriptor, is_method_descriptor, is_method_name, is_unqualified_name,
-};
+use dj_pool::{Indexes, JudgedPool, Pool, PoolError, read_judged_pool};
 use std::alloc::{AllocError, AllocFailed, Global};
 use thiserror::Error;
 
@@ -128,40 +126,22 @@ struct Opening {
     interfaces: Indexes,
 }
 
-fn passes(test: TextTest, text: &[u8]) -> bool
-    ensures { result ≡ test_of test text.now }
-{
-    match test {
-        TextTest::Any => true,
-        TextTest::FieldName => is_unqualified_name(text),
-        TextTest::MethodName => is_method_name(text),
-        TextTest::FieldDescriptor => is_field_descriptor(text),
-        TextTest::MethodDescriptor => is_method_descriptor(text),
-    }
-}
-
-fn text_passes(test: TextTest, pool: &Pool<'_>, index: u16) -> bool
+fn text_passes(test: TextTest, pool: &JudgedPool<'_>, index: u16) -> bool
     ensures { result ≡ text_passes (test_of test) pool.now index }
 {
-    match pool.text(index) {
-        Some(text) => passes(test, text),
-        None => false,
-    }
-}
-
-fn is_class(pool: &Pool<'_>, index: u16) -> bool
-    ensures { result ≡ is_class pool.now index }
-{
-    match pool.class_name(index) {
-        Some(name) => is_class_name(name),
-        None => false,
+    match test {
+        TextTest::Any => pool.names_text(index),
+        TextTest::FieldName => pool.names_unqualified(index),
+        TextTest::MethodName => pool.names_method(index),
+        TextTest::FieldDescriptor => pool.names_field_descriptor(index),
+        TextTest::MethodDescriptor => pool.names_method_descriptor(index),
     }
 }
 
 #[tactic(auto, unfolding(crate::specs::Reading::index_at))]
 fn read_text<'a>(
     test: TextTest,
-    pool: &Pool<'_>,
+    pool: &JudgedPool<'_>,
     cursor: Cursor<'a>,
 ) -> Result<(u16, Cursor<'a>), ClassError>
     ensures { Gives is_memory (λ x. (x.0, cursor_of x.1)) result
@@ -176,14 +156,14 @@ fn read_text<'a>(
 
 #[tactic(auto, unfolding(crate::specs::Reading::index_at))]
 fn read_class_index<'a>(
-    pool: &Pool<'_>,
+    pool: &JudgedPool<'_>,
     cursor: Cursor<'a>,
 ) -> Result<(u16, Cursor<'a>), ClassError>
     ensures { Gives is_memory (λ x. (x.0, cursor_of x.1)) result
         (index_at (is_class pool.now) (cursor_of cursor.entry)) }
 {
     let (index, after) = cursor.u16_at()?;
-    if !is_class(pool, index) {
+    if !pool.names_class(index) {
         return Err(ClassError::Index(cursor.place));
     }
     Ok((index, after))
@@ -191,14 +171,14 @@ fn read_class_index<'a>(
 
 #[tactic(auto, unfolding(crate::specs::Reading::index_at))]
 fn read_super_class<'a>(
-    pool: &Pool<'_>,
+    pool: &JudgedPool<'_>,
     cursor: Cursor<'a>,
 ) -> Result<(u16, Cursor<'a>), ClassError>
     ensures { Gives is_memory (λ x. (x.0, cursor_of x.1)) result
-        (index_at (λ index. index == 0 || is_class pool.now index) (cursor_of cursor.entry)) }
+        (index_at (is_super pool.now) (cursor_of cursor.entry)) }
 {
     let (index, after) = cursor.u16_at()?;
-    if index != 0 && !is_class(pool, index) {
+    if index != 0 && !pool.names_class(index) {
         return Err(ClassError::Index(cursor.place));
     }
     Ok((index, after))
@@ -206,7 +186,7 @@ fn read_super_class<'a>(
 
 #[tactic(auto, unfolding(crate::specs::Reading::attribute_at))]
 fn read_attribute<'a>(
-    pool: &Pool<'_>,
+    pool: &JudgedPool<'_>,
     cursor: Cursor<'a>,
 ) -> Result<(Attribute<'a>, Cursor<'a>), ClassError>
     ensures { Gives is_memory (λ x. (attribute_of x.0, cursor_of x.1)) result
@@ -218,16 +198,24 @@ fn read_attribute<'a>(
     Ok((Attribute { name, body }, after))
 }
 
+// As many parts as the count tells, and no more than the bytes that are left can hold, each of them so many bytes at least.
+pub(crate) fn room(count: u16, cursor: Cursor<'_>, least: usize) -> usize
+    requires { 0 < least }
+    ensures { result ≤ count }
+{
+    (count as usize).min(cursor.rest.len() / least)
+}
+
 fn read_attribute_list<'a>(
     alloc: Global,
-    pool: &Pool<'_>,
+    pool: &JudgedPool<'_>,
     count: u16,
     cursor: Cursor<'a>,
 ) -> Result<(Vec<Attribute<'a>>, Cursor<'a>), ClassError>
     ensures { Gives is_memory (λ x. (map attribute_of x.0.items, cursor_of x.1)) result
         (many_at (attribute_at pool.now) count (cursor_of cursor.entry)) }
 {
-    let mut attributes = Vec::with_capacity(alloc, count as usize)?;
+    let mut attributes = Vec::with_capacity(alloc, room(count, cursor, 6))?;
     let mut after = cursor;
     for i in 0..count {
         let (attribute, next) = read_attribute(pool, after)?;
@@ -240,7 +228,7 @@ fn read_attribute_list<'a>(
 #[tactic(auto, unfolding(dj_bytes::specs::Reading::table_at))]
 fn read_attributes<'a>(
     alloc: Global,
-    pool: &Pool<'_>,
+    pool: &JudgedPool<'_>,
     cursor: Cursor<'a>,
 ) -> Result<(Attributes<'a>, Cursor<'a>), ClassError>
     ensures { Gives is_memory (λ x. (x.0, cursor_of x.1)) result
@@ -256,7 +244,7 @@ fn read_member<'a>(
     alloc: Global,
     name_test: TextTest,
     desc_test: TextTest,
-    pool: &Pool<'_>,
+    pool: &JudgedPool<'_>,
     cursor: Cursor<'a>,
 ) -> Result<(MemberView<'a>, Cursor<'a>), ClassError>
     ensures { Gives is_memory (λ x. (member_of x.0, cursor_of x.1)) result
@@ -281,14 +269,14 @@ fn read_member_list<'a>(
     alloc: Global,
     name_test: TextTest,
     desc_test: TextTest,
-    pool: &Pool<'_>,
+    pool: &JudgedPool<'_>,
     count: u16,
     cursor: Cursor<'a>,
 ) -> Result<(Vec<MemberView<'a>>, Cursor<'a>), ClassError>
     ensures { Gives is_memory (λ x. (map member_of x.0.items, cursor_of x.1)) result
         (many_at (member_at (test_of name_test) (test_of desc_test) pool.now) count (cursor_of cursor.entry)) }
 {
-    let mut members = Vec::with_capacity(alloc, count as usize)?;
+    let mut members = Vec::with_capacity(alloc, room(count, cursor, 8))?;
     let mut after = cursor;
     for i in 0..count {
         let (member, next) = read_member(alloc, name_test, desc_test, pool, after)?;
@@ -303,7 +291,7 @@ fn read_members<'a>(
     alloc: Global,
     name_test: TextTest,
     desc_test: TextTest,
-    pool: &Pool<'_>,
+    pool: &JudgedPool<'_>,
     cursor: Cursor<'a>,
 ) -> Result<(Members<'a>, Cursor<'a>), ClassError>
     ensures { Gives is_memory (λ x. (x.0, cursor_of x.1)) result
@@ -316,14 +304,14 @@ fn read_members<'a>(
 
 fn read_interface_list<'a>(
     alloc: Global,
-    pool: &Pool<'_>,
+    pool: &JudgedPool<'_>,
     count: u16,
     cursor: Cursor<'a>,
 ) -> Result<(Vec<u16>, Cursor<'a>), ClassError>
     ensures { Gives is_memory (λ x. (x.0.items, cursor_of x.1)) result
         (many_at (index_at (is_class pool.now)) count (cursor_of cursor.entry)) }
 {
-    let mut interfaces = Vec::with_capacity(alloc, count as usize)?;
+    let mut interfaces = Vec::with_capacity(alloc, room(count, cursor, 2))?;
     let mut after = cursor;
     for i in 0..count {
         let (index, next) = read_class_index(pool, after)?;
@@ -336,7 +324,7 @@ fn read_interface_list<'a>(
 #[tactic(auto, unfolding(dj_bytes::specs::Reading::table_at))]
 fn read_interfaces<'a>(
     alloc: Global,
-    pool: &Pool<'_>,
+    pool: &JudgedPool<'_>,
     cursor: Cursor<'a>,
 ) -> Result<(Indexes, Cursor<'a>), ClassError>
     ensures { Gives is_memory (λ x. (x.0, cursor_of x.1)) result
@@ -347,35 +335,35 @@ fn read_interfaces<'a>(
     Ok((Indexes::from_vec(interfaces), after))
 }
 
-#[tactic(auto, unfolding(crate::specs::Reading::versions_at))]
-fn read_versions<'a>(cursor: Cursor<'a>) -> Result<((u16, u16), Cursor<'a>), ClassError>
-    ensures { Gives is_memory (λ x. ((x.0.0, x.0.1), cursor_of x.1)) result
-        (versions_at (cursor_of cursor.entry)) }
-{
-    let (minor, after) = cursor.u16_at()?;
-    let (major, after) = after.u16_at()?;
-    Ok(((minor, major), after))
-}
-
 // The magic number of class files (JVMS 4.1).
 const MAGIC: u32 = 0xcafe_babe;
+
+#[tactic(auto, unfolding(crate::specs::Reading::magic_at))]
+fn read_magic<'a>(cursor: Cursor<'a>) -> Result<(u32, Cursor<'a>), ClassError>
+    ensures { Gives is_memory (λ x. (x.0, cursor_of x.1)) result (magic_at (cursor_of cursor.entry)) }
+{
+    let (magic, after) = cursor.u32_at()?;
+    if magic != MAGIC {
+        return Err(ClassError::Magic);
+    }
+    Ok((magic, after))
+}
 
 #[tactic(auto, unfolding(crate::specs::Reading::header_at))]
 fn read_header<'a>(cursor: Cursor<'a>) -> Result<((u16, u16), Cursor<'a>), ClassError>
     ensures { Gives is_memory (λ x. ((x.0.0, x.0.1), cursor_of x.1)) result
         (header_at (cursor_of cursor.entry)) }
 {
-    let (magic, after) = cursor.u32_at()?;
-    if magic != MAGIC {
-        return Err(ClassError::Magic);
-    }
-    read_versions(after)
+    let (_, after) = read_magic(cursor)?;
+    let (minor, after) = after.u16_at()?;
+    let (major, after) = after.u16_at()?;
+    Ok(((minor, major), after))
 }
 
 #[tactic(auto, unfolding(crate::specs::Reading::heading_at))]
 fn read_opening<'a>(
     alloc: Global,
-    pool: &Pool<'_>,
+    pool: &JudgedPool<'_>,
     cursor: Cursor<'a>,
 ) -> Result<(Opening, Cursor<'a>), ClassError>
     ensures { Gives is_memory (λ x. (heading_of x.0, cursor_of x.1)) result
@@ -403,7 +391,7 @@ fn read_all<'a>(alloc: Global, file: &'a [u8]) -> Result<ClassView<'a>, ClassErr
 {
     let start = Cursor::start(file);
     let (versions, after) = read_header(start)?;
-    let (pool, after) = read_pool_at(alloc, after)?;
+    let (pool, after) = read_judged_pool(alloc, after)?;
     let (opening, after) = read_opening(alloc, &pool, after)?;
     let (fields, after) = read_members(
         alloc,
@@ -426,7 +414,7 @@ fn read_all<'a>(alloc: Global, file: &'a [u8]) -> Result<ClassView<'a>, ClassErr
     Ok(ClassView {
         minor: versions.0,
         major: versions.1,
-        pool,
+        pool: pool.into_pool(),
         flags: opening.flags,
         this_class: opening.this_class,
         super_class: opening.super_class,
@@ -437,7 +425,12 @@ fn read_all<'a>(alloc: Global, file: &'a [u8]) -> Result<ClassView<'a>, ClassErr
     })
 }
 
-/// The class file that the bytes are, all of them.
+/// The class file that the bytes are, all of them (JVMS 4.1 to 4.7). What it shows of texts and bodies is lent from the bytes.
+///
+/// Each error but want of memory tells the first item, in the order of reading, that is cut, that its place does not allow, or that
+/// follows the last item. An index is faulty where the pool has no such constant: the class and the interfaces, and the superclass
+/// where it is not 0, are classes that are no arrays; names are unqualified, those of methods without `<` and `>` but for `<init>` and
+/// `<clinit>`; descriptors are of their kind; names of attributes are texts.
 pub fn read_class<'a>(alloc: Global, file: &'a [u8]) -> Result<ClassView<'a>, ClassError>
     requires { length file.now < 2 ^ 32 }
     ensures means { ReadsClass file.now result }

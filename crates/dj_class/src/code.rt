@@ -8,7 +8,7 @@ ghost use Rattle.dj_class.specs.CodeViews.{code_of, ReadsCode};
 ghost use Rattle.dj_class.specs.Memory.{is_memory};
 ghost use Rattle.dj_class.specs.declared.class.ClassError.TheVariants as class_errors;
 
-use crate::class::{Attribute, ClassError};
+use crate::class::{Attribute, ClassError, room};
 use crate::lists::Attributes;
 use dj_bytes::Cursor;
 use dj_ops::{CatchRow, Rows};
@@ -75,7 +75,7 @@ fn read_row_list<'a>(
     ensures { Gives is_memory (λ x. (x.0.items, cursor_of x.1)) result
         (many_at row_at count (cursor_of cursor.entry)) }
 {
-    let mut rows = Vec::with_capacity(alloc, count as usize)?;
+    let mut rows = Vec::with_capacity(alloc, room(count, cursor, 8))?;
     let mut after = cursor;
     for _ in 0..count {
         let (row, next) = read_row(after)?;
@@ -114,7 +114,7 @@ fn read_code_attribute_list<'a>(
     ensures { Gives is_memory (λ x. (map attribute_of x.0.items, cursor_of x.1)) result
         (many_at code_attribute_at count (cursor_of cursor.entry)) }
 {
-    let mut attributes = Vec::with_capacity(alloc, count as usize)?;
+    let mut attributes = Vec::with_capacity(alloc, room(count, cursor, 6))?;
     let mut after = cursor;
     for _ in 0..count {
         let (attribute, next) = read_code_attribute(after)?;
@@ -159,6 +159,9 @@ fn read_whole_code<'a>(alloc: Global, body: &'a [u8]) -> Result<CodeView<'a>, Cl
 }
 
 /// The Code attribute (JVMS 4.7.3) that the body is, all of it. Places are within the body. Names of attributes are not looked up.
+///
+/// Each error but want of memory tells the first item, in the order of reading, that is cut, that its place does not allow, or that
+/// follows the last item: `Index` is the place of a code length that is 0 or above 65,535.
 pub fn read_code<'a>(alloc: Global, body: &'a [u8]) -> Result<CodeView<'a>, ClassError>
     requires { length body.now < 2 ^ 32 }
     ensures means { ReadsCode body.now result }

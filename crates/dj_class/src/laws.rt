@@ -1,23 +1,43 @@
-ghost use Rattle.dj_class.specs.Laws.{OneClassFile, NoClassWhereUnbuilt, OneUnbuiltPlace, OneCode, ValidHasTexts};
+ghost use Rattle.dj_class.specs.Laws.{OneClassFile, OneFault, FaultyIsMalformed, EachClassOrFault, OneCode, OneCodeFault, FaultyIsNoCode, EachCodeOrFault, ValidHasTexts};
 
 /// Bytes are one class file at most.
 pub fn one_class_file()
     ensures { OneClassFile }
 {}
 
-/// A file with a constant that is not read yet is no class file.
-pub fn no_class_where_unbuilt()
-    ensures { NoClassWhereUnbuilt }
+/// Bytes have one first fault at most.
+pub fn one_fault()
+    ensures { OneFault }
 {}
 
-/// There is one place at most where the first such constant stands.
-pub fn one_unbuilt_place()
-    ensures { OneUnbuiltPlace }
+/// A file with a fault is no class file.
+pub fn faulty_is_malformed()
+    ensures { FaultyIsMalformed }
+{}
+
+/// A file is a class file, or it has a fault.
+pub fn class_or_fault()
+    ensures { EachClassOrFault }
 {}
 
 /// A body is one Code attribute's at most.
 pub fn one_code()
     ensures { OneCode }
+{}
+
+/// A body has one first fault at most.
+pub fn one_code_fault()
+    ensures { OneCodeFault }
+{}
+
+/// A body with a fault is no Code attribute's.
+pub fn faulty_is_no_code()
+    ensures { FaultyIsNoCode }
+{}
+
+/// A body is a Code attribute's, or it has a fault.
+pub fn code_or_fault()
+    ensures { EachCodeOrFault }
 {}
 
 /// The texts that a valid class file names are there.

@@ -4,6 +4,10 @@ pub mod Sorting
 pub mod Listings
 pub mod Lists
 mod Facts
+mod WalkFacts
 mod Lookup
 mod Taken
 mod Walking
+mod Once
+mod Refusing
+mod Reading

@@ -41,7 +41,7 @@ module _ {X Y : Type 0} (f : Y → X) (R : X → X → Type 0) where
   AllPairs-map (y ∷ ys) pairs =
       AllPairs-cons R (f y) (map f ys) (All-map (R (f y)) f ys (AllPairs-head (λ a b. R (f a) (f b)) y ys pairs)) (AllPairs-map ys (AllPairs-tail (λ a b. R (f a) (f b)) y ys pairs))
 
-  All-unmap : (P : X → Type 0) (ys : List Y) → All P (map f ys) → All (λ y. P (f y)) ys
+  pub All-unmap : (P : X → Type 0) (ys : List Y) → All P (map f ys) → All (λ y. P (f y)) ys
   All-unmap P [] all k d within = absurd (omega arith)
   All-unmap P (y ∷ ys) all k d within =
       elim k as (λ (n : ℕ). n < length (y ∷ ys) → P (f (get_or (y ∷ ys) n d))) [

@@ -1,11 +1,14 @@
 -- A walk through folders, entry by entry.
-use Rattle.std.proofs.Common.{◌≡◌, ℕ, zero, suc, ◌+◌, ◌-◌, ◌<◌, ◌≤◌, Bool, true, false, List, [], ◌∷◌, ◌++◌, length, length-append, map, filter, take, get_or, string_bytes, Option, Some, None, IfSome, option_map, option_and_then, refl, sym, ap, ◌∙◌, subst, append_assoc, append-nil, arith, ◌&&◌}
-use Rattle.std.proofs.lemmas.List.{take_more, take_all, map-append}
+use Rattle.std.proofs.Common.{◌≡◌, ℕ, zero, suc, ◌+◌, ◌-◌, ◌<◌, ◌≤◌, Bool, true, false, List, [], ◌∷◌, ◌++◌, length, length-append, map, filter, take, get_or, string_bytes, Option, Some, None, IfSome, option_map, option_and_then, refl, sym, ap, ◌∙◌, subst, append_assoc, append-nil, arith, ◌&&◌, ◌||◌, not, cond}
+use Rattle.std.specs.Bool.{⊤}
+use Rattle.std.proofs.lemmas.List.{take_more, take_all, map-append, length-map}
 use Rattle.std.proofs.lemmas.List.Elements.{filter-append}
 use Rattle.dj_edge.specs.declared.walk.Entry.{Entry}
+use Rattle.dj_edge.specs.declared.walk.EntryKind.{EntryKind}
 use Rattle.dj_edge.specs.declared.walk.EntryKind.TheVariants as kinds
+use Rattle.dj_edge.specs.declared.walk.FolderEntries.{FolderEntries}
 use Rattle.dj_edge.specs.declared.walk.Walk.{Walk}
-use Rattle.dj_edge.specs.Walks.{Place, place_of, Tree, has_class_name, is_file, inside_of, with_inside, spread, met_in, class_files_in, texts_found, IsEntryTaken, IsWalked}
+use Rattle.dj_edge.specs.Walks.{Place, place_of, Tree, has_class_name, is_file, is_folder, is_kept, inside_of, with_inside, spread, met_in, class_files_in, texts_found, AreEntries, IsEntryTaken, IsWalked}
 
 class_files-append : (xs ys : List Place) → class_files_in (xs ++ ys) ≡ class_files_in xs ++ class_files_in ys
 class_files-append xs ys =
@@ -13,7 +16,7 @@ class_files-append xs ys =
     ap (map (λ (place : Place). place.0)) (filter-append is xs ys) ∙ map-append (λ (place : Place). place.0) (filter is xs) (filter is ys)
 
 -- a front and then the rest, where both are there
-abbrev joined : Option (List Place) → Option (List Place) → Option (List Place)
+abbrev pub joined : Option (List Place) → Option (List Place) → Option (List Place)
 joined a b = option_and_then (λ front. option_map (λ rest. front ++ rest) b) a
 
 joined_more : (a b c : Option (List Place)) (all more : List Place) → joined a b ≡ Some all → ((rest : List Place) → b ≡ Some rest → c ≡ Some (rest ++ more)) → joined a c ≡ Some (all ++ more)
@@ -101,7 +104,104 @@ so_far_folder tree levels done entry before mid between now far taken walked =
     (walked.found ∙ ap (λ (l : List (List ℕ)). l ++ class_files_in walked.places) none ∙ ap (λ (l : List (List ℕ)). texts_found mid ++ l) (sym files))
     (omega (arith, walked.entries, taken.entries))
 
--- all entries of the folder were taken
+-- ---- the entries that a walk does not look at
+
+abbrev unkept : List Place → List Place
+unkept all = filter (λ (place : Place). not (is_kept place)) all
+
+abbrev is_class_file : Place → Bool
+is_class_file place = is_file place.1 && has_class_name place.0
+
+count_step : (b : Bool) (x : Place) (d k a : List Place) → length d + length k ≡ length a → length (cond (not b) (x ∷ d) d) + length (cond b (x ∷ k) k) ≡ length (x ∷ a)
+count_step true x d k a h = omega arith
+count_step false x d k a h = omega arith
+
+unkept_count : (all : List Place) → length (unkept all) + length (filter is_kept all) ≡ length all
+unkept_count [] = refl
+unkept_count (x ∷ xs) = count_step (is_kept x) x (unkept xs) (filter is_kept xs) xs (unkept_count xs)
+
+unkept_no_class : (kind : EntryKind) (named : Bool) → (is_folder kind || named) ≡ false → (is_file kind && named) ≡ false
+unkept_no_class kinds.Folder named h = absurd cc
+unkept_no_class kinds.File true h = absurd cc
+unkept_no_class kinds.File false h = refl
+unkept_no_class kinds.Other named h = refl
+
+unkept_inside : (kind : EntryKind) (named : Bool) (inside : Option (List Place)) → (is_folder kind || named) ≡ false → inside_of kind named inside ≡ Some []
+unkept_inside kinds.Folder named inside h = absurd cc
+unkept_inside kinds.File named inside h = refl
+unkept_inside kinds.Other true inside h = absurd cc
+unkept_inside kinds.Other false inside h = refl
+
+filter_step : (test : Place → Bool) (x : Place) (d : List Place) → filter test d ≡ [] → (kept : Bool) → (kept ≡ false → test x ≡ false) → filter test (cond (not kept) (x ∷ d) d) ≡ []
+filter_step test x d none true fails = none
+filter_step test x d none false fails = ap (λ (b : Bool). cond b (x ∷ filter test d) (filter test d)) (fails refl) ∙ none
+
+unkept_filtered : (all : List Place) → filter is_class_file (unkept all) ≡ []
+unkept_filtered [] = refl
+unkept_filtered (x ∷ xs) = filter_step is_class_file x (unkept xs) (unkept_filtered xs) (is_kept x) (unkept_no_class x.1 (has_class_name x.0))
+
+-- what is met of a list of places, and of those of them that matter: either both or none, the same class files, and as many more as don't matter
+abbrev pub Alike : List Place → Option (List Place) → Option (List Place) → Type 0
+Alike all (Some places) (Some kept) = (class_files_in places ≡ class_files_in kept) × (length places + length (filter is_kept all) ≡ length kept + length all)
+Alike all None None = ⊤
+Alike all (Some places) None = ⊥
+Alike all None (Some kept) = ⊥
+
+alike_kept : (x : Place) (xs : List Place) (w a b : Option (List Place)) → is_kept x ≡ true → Alike xs a b → Alike (x ∷ xs) (joined w a) (joined w b)
+alike_kept x xs None a b is h = tt
+alike_kept x xs (Some m) None None is h = tt
+alike_kept x xs (Some m) (Some places) None is h = absurd h
+alike_kept x xs (Some m) None (Some kept) is h = absurd h
+alike_kept x xs (Some m) (Some places) (Some kept) is h =
+    let more : length (filter is_kept (x ∷ xs)) ≡ length (x ∷ filter is_kept xs) = ap (λ (b : Bool). length (cond b (x ∷ filter is_kept xs) (filter is_kept xs))) is in (
+      class_files-append m places ∙ ap (λ (l : List (List ℕ)). class_files_in m ++ l) h.0 ∙ sym (class_files-append m kept),
+      omega (arith, h.1, more, length-append m places, length-append m kept),
+    )
+
+alike_unkept : (x : Place) (xs : List Place) (a b : Option (List Place)) → is_kept x ≡ false → Alike xs a b → Alike (x ∷ xs) (joined (Some (x ∷ [])) a) b
+alike_unkept x xs None None is h = tt
+alike_unkept x xs (Some places) None is h = absurd h
+alike_unkept x xs None (Some kept) is h = absurd h
+alike_unkept x xs (Some places) (Some kept) is h =
+    let same : length (filter is_kept (x ∷ xs)) ≡ length (filter is_kept xs) = ap (λ (b : Bool). length (cond b (x ∷ filter is_kept xs) (filter is_kept xs))) is in
+    let no : class_files_in (x ∷ places) ≡ class_files_in places =
+    ap (λ (b : Bool). map (λ (place : Place). place.0) (cond b (x ∷ filter is_class_file places) (filter is_class_file places))) (unkept_no_class x.1 (has_class_name x.0) is) in
+    (no ∙ h.0, omega (arith, h.1, same))
+
+alike_step : (inside : Tree) (x : Place) (xs : List Place) (b : Bool) → is_kept x ≡ b → Alike xs (spread inside xs) (spread inside (filter is_kept xs))
+    → Alike (x ∷ xs) (spread inside (x ∷ xs)) (spread inside (cond b (x ∷ filter is_kept xs) (filter is_kept xs)))
+unfolding spread
+alike_step inside x xs true is h = alike_kept x xs (with_inside inside x) (spread inside xs) (spread inside (filter is_kept xs)) is h
+alike_step inside x xs false is h =
+    let alone : with_inside inside x ≡ Some (x ∷ []) = ap (option_map (λ (l : List Place). x ∷ l)) (unkept_inside x.1 (has_class_name x.0) (inside x.0) is) in
+    let P : Option (List Place) → Type 0 = λ w. Alike (x ∷ xs) (joined w (spread inside xs)) (spread inside (filter is_kept xs)) in
+    subst P (sym alone) (alike_unkept x xs (spread inside xs) (spread inside (filter is_kept xs)) is h)
+
+pub spread_alike : (inside : Tree) (all : List Place) → Alike all (spread inside all) (spread inside (filter is_kept all))
+unfolding spread
+spread_alike inside [] = (refl, refl)
+spread_alike inside (x ∷ xs) = alike_step inside x xs (is_kept x) refl (spread_alike inside xs)
+
+from_kept : (all : List Place) (a b : Option (List Place)) (kept : List Place) → Alike all a b → b ≡ Some kept
+    → (places : List Place) × (a ≡ Some places) × (class_files_in places ≡ class_files_in kept) × (length places + length (filter is_kept all) ≡ length kept + length all)
+from_kept all (Some places) (Some k) kept h e =
+    let same : k ≡ kept = cc in
+    (places, refl, h.0 ∙ ap class_files_in same, omega (arith, h.1, ap length same))
+from_kept all (Some places) None kept h e = absurd h
+from_kept all None (Some k) kept h e = absurd h
+from_kept all None None kept h e = absurd cc
+
+pub to_kept : (all : List Place) (a b : Option (List Place)) (places : List Place) → Alike all a b → a ≡ Some places
+    → (kept : List Place) × (b ≡ Some kept) × (length places + length (filter is_kept all) ≡ length kept + length all)
+to_kept all (Some p) (Some kept) places h e =
+    let same : p ≡ places = cc in
+    (kept, refl, omega (arith, h.1, ap length same))
+to_kept all (Some p) None places h e = absurd h
+to_kept all None (Some kept) places h e = absurd h
+to_kept all None None places h e = absurd cc
+
+-- ---- all entries of the folder were taken
+
 met_whole : (t : Tree) (levels : ℕ) (folder : List ℕ) (entries places : List Place) → 0 < levels → t folder ≡ Some entries → spread (met_in t (levels - 1)) entries ≡ Some places → met_in t levels folder ≡ Some places
 unfolding met_in
 met_whole t zero folder entries places some read e = absurd (omega arith)
@@ -109,19 +209,38 @@ met_whole t (suc k) folder entries places some read e =
     let less : suc k - 1 ≡ k = omega arith in
     ap (option_and_then (spread (met_in t k))) read ∙ ap (λ n. spread (met_in t n) entries) (sym less) ∙ e
 
-whole_told : (tree : Option Tree) (levels : ℕ) (folder : List ℕ) (entries : List Entry) (places : List Place) → 0 < levels → IfSome tree (λ t. t folder ≡ Some (map place_of entries))
-    → IfSome tree (λ t. spread (met_in t (levels - 1)) (map place_of entries) ≡ Some places) → IfSome tree (λ t. met_in t levels folder ≡ Some places)
-whole_told None levels folder entries places some read e = tt
-whole_told (Some t) levels folder entries places some read e = met_whole t levels folder (map place_of entries) places some read e
+walked_untold : (levels : ℕ) (folder : List ℕ) (most : ℕ) (entries : FolderEntries) (before first now : Walk) → AreEntries None folder most entries
+    → texts_found first ≡ texts_found before → first.entries ≡ before.entries + entries.count → SoFar None levels entries.kept.items first now → IsWalked None levels folder before now
+walked_untold levels folder most entries before first now read same count far =
+    let none : class_files_in (unkept read.places) ≡ [] = ap (map (λ (place : Place). place.0)) (unkept_filtered read.places) in
+    let files : class_files_in (far.places ++ unkept read.places) ≡ class_files_in far.places =
+    class_files-append far.places (unkept read.places) ∙ ap (λ (l : List (List ℕ)). class_files_in far.places ++ l) none ∙ append-nil (class_files_in far.places) in
+    let size : length entries.kept.items ≡ length (filter is_kept read.places) = sym (length-map entries.kept.items place_of) ∙ ap length read.kept in
+    record {
+      places = far.places ++ unkept read.places;
+      told = tt;
+      found = far.found ∙ ap (λ (l : List (List ℕ)). l ++ class_files_in far.places) same ∙ ap (λ (l : List (List ℕ)). texts_found before ++ l) (sym files);
+      entries = omega (arith, far.entries, count, read.count, size, unkept_count read.places, length-append far.places (unkept read.places));
+    }
 
-pub walked_whole : (tree : Option Tree) (levels : ℕ) (folder : List ℕ) (entries : List Entry) (before first now : Walk) → 0 < levels → IfSome tree (λ t. t folder ≡ Some (map place_of entries))
-    → texts_found first ≡ texts_found before → first.entries ≡ before.entries + length entries → SoFar tree levels entries first now → IsWalked tree levels folder before now
-walked_whole tree levels folder entries before first now some read same count far = record {
-  places = far.places;
-  told = whole_told tree levels folder entries far.places some read far.told;
-  found = far.found ∙ ap (λ (l : List (List ℕ)). l ++ class_files_in far.places) same;
-  entries = omega (arith, far.entries, count);
-}
+walked_told : (t : Tree) (levels : ℕ) (folder : List ℕ) (most : ℕ) (entries : FolderEntries) (before first now : Walk) → 0 < levels → AreEntries (Some t) folder most entries
+    → texts_found first ≡ texts_found before → first.entries ≡ before.entries + entries.count → SoFar (Some t) levels entries.kept.items first now → IsWalked (Some t) levels folder before now
+walked_told t levels folder most entries before first now some read same count far =
+    let inside : Tree = met_in t (levels - 1) in
+    let kept : spread (met_in t (levels - 1)) (filter is_kept read.places) ≡ Some far.places = ap (spread (met_in t (levels - 1))) (sym read.kept) ∙ far.told in
+    let whole = from_kept read.places (spread (met_in t (levels - 1)) read.places) (spread (met_in t (levels - 1)) (filter is_kept read.places)) far.places (spread_alike (met_in t (levels - 1)) read.places) kept in
+    let size : length entries.kept.items ≡ length (filter is_kept read.places) = sym (length-map entries.kept.items place_of) ∙ ap length read.kept in
+    record {
+      places = whole.0;
+      told = met_whole t levels folder read.places whole.0 some read.told whole.1;
+      found = far.found ∙ ap (λ (l : List (List ℕ)). l ++ class_files_in far.places) same ∙ ap (λ (l : List (List ℕ)). texts_found before ++ l) (sym whole.2);
+      entries = omega (arith, far.entries, count, read.count, size, whole.3);
+    }
+
+pub walked_whole : (tree : Option Tree) (levels : ℕ) (folder : List ℕ) (most : ℕ) (entries : FolderEntries) (before first now : Walk) → 0 < levels → AreEntries tree folder most entries
+    → texts_found first ≡ texts_found before → first.entries ≡ before.entries + entries.count → SoFar tree levels entries.kept.items first now → IsWalked tree levels folder before now
+walked_whole None levels folder most entries before first now some read same count far = walked_untold levels folder most entries before first now read same count far
+walked_whole (Some t) levels folder most entries before first now some read same count far = walked_told t levels folder most entries before first now some read same count far
 
 -- ---- the same at equal values
 

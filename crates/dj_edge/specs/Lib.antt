@@ -7,3 +7,6 @@ pub mod Hosts
 pub mod Sinks
 pub mod Streams
 pub mod Walks
+pub mod Listings
+pub mod Reads
+pub mod Systems

@@ -1,12 +1,12 @@
 -- What a walk through folders meets, where what the folders have is told.
-use Rattle.std.specs.Prelude.{◌≡◌, ℕ, zero, suc, ◌+◌, ◌<◌, ◌≤◌, ⊤, Bool, true, false, ◌&&◌, cond, List, [], ◌∷◌, ◌++◌, length, map, filter, codes, nat_eq, string_bytes, Option, Some, None, IfSome, option_map, option_and_then, Result, Ok, Err}
+use Rattle.std.specs.Prelude.{◌≡◌, ℕ, zero, suc, ◌+◌, ◌<◌, ◌≤◌, ⊤, Bool, true, false, ◌&&◌, ◌||◌, cond, List, [], ◌∷◌, ◌++◌, length, map, filter, codes, nat_eq, string_bytes, Option, Some, None, IfSome, option_map, option_and_then, Result, Ok, Err}
 use Rattle.std.specs.List.{ends_with}
-use Rattle.std.specs.Global.{Vec}
 use Rattle.dj_edge.specs.declared.files.ListError.{ListError}
 use Rattle.dj_edge.specs.declared.files.ListError.TheVariants as list_errors
 use Rattle.dj_edge.specs.declared.walk.Entry.{Entry}
 use Rattle.dj_edge.specs.declared.walk.EntryKind.{EntryKind}
 use Rattle.dj_edge.specs.declared.walk.EntryKind.TheVariants as kinds
+use Rattle.dj_edge.specs.declared.walk.FolderEntries.{FolderEntries}
 use Rattle.dj_edge.specs.declared.walk.Walk.{Walk}
 
 -- a path, and what stands there
@@ -16,15 +16,10 @@ Place = List ℕ × EntryKind
 abbrev pub place_of : Entry → Place
 place_of entry = (string_bytes entry.path, entry.kind)
 
--- the entries of the folder under a path, or none where it can't be read
+-- the entries of the folder under a path, or none where it can't be read to its end: it isn't there, or one of its entries
+-- can't be looked at or has a name that is not UTF-8
 abbrev pub Tree : Type 0
 Tree = List ℕ → Option (List Place)
-
--- a folder's entries, or that it can't be read or has more than so many
-abbrev pub IsFolderRead : Option Tree → List ℕ → ℕ → Result (Vec Entry) ListError → Type 0
-IsFolderRead tree folder most (Ok entries) = (length entries.items ≤ most) × IfSome tree (λ t. t folder ≡ Some (map place_of entries.items))
-IsFolderRead tree folder most (Err list_errors.Failed) = IfSome tree (λ t. IfSome (t folder) (λ places. most < length places))
-IsFolderRead tree folder most (Err list_errors.Memory) = ⊤
 
 abbrev pub has_class_name : List ℕ → Bool
 has_class_name path = ends_with nat_eq path (codes ".class")
@@ -51,6 +46,45 @@ unfoldable pub met_in : Tree → ℕ → Tree
 met_in tree zero folder = None
 met_in tree (suc levels) folder = option_and_then (spread (met_in tree levels)) (tree folder)
 
+abbrev pub is_folder : EntryKind → Bool
+is_folder kinds.Folder = true
+is_folder _ = false
+
+-- the entry is a folder, or named as a class file: no other entry matters to a walk
+abbrev pub is_kept : Place → Bool
+is_kept place = is_folder place.1 || has_class_name place.0
+
+-- ---- reading one folder
+
+-- all that the folder has is left to be read, or the folder can't be read
+abbrev pub IsOpened : {T : Type 0} → Option Tree → Option (List Place) → List ℕ → Result T ListError → Type 0
+IsOpened tree left folder (Ok done) = IfSome tree (λ t. t folder ≡ left)
+IsOpened tree left folder (Err list_errors.Failed) = IfSome tree (λ t. t folder ≡ None)
+IsOpened tree left folder (Err list_errors.Memory) = ⊤
+
+-- the first of what was left, or that nothing was left, or that the folder can't be read to its end
+abbrev pub IsNextEntry : Option Tree → Option (List Place) → Option (List Place) → Result (Option Entry) ListError → Type 0
+IsNextEntry tree old new (Ok (Some entry)) = IfSome tree (λ t. old ≡ option_map (λ places. place_of entry ∷ places) new)
+IsNextEntry tree old new (Ok None) = IfSome tree (λ t. old ≡ Some [])
+IsNextEntry tree old new (Err list_errors.Failed) = IfSome tree (λ t. old ≡ None)
+IsNextEntry tree old new (Err list_errors.Memory) = ⊤
+
+-- the entries that matter were kept, and all were counted, at most so many
+pub record AreEntries (tree : Option Tree) (folder : List ℕ) (most : ℕ) (entries : FolderEntries) : Type 0 where
+  pub places : List Place
+  pub told : IfSome tree (λ t. t folder ≡ Some places)
+  pub kept : map place_of entries.kept.items ≡ filter is_kept places
+  pub count : entries.count ≡ length places
+  pub few : entries.count ≤ most
+
+-- a folder's entries, or that it can't be read or has more than so many
+abbrev pub IsFolderRead : Option Tree → List ℕ → ℕ → Result FolderEntries ListError → Type 0
+IsFolderRead tree folder most (Ok entries) = AreEntries tree folder most entries
+IsFolderRead tree folder most (Err list_errors.Failed) = IfSome tree (λ t. (places : List Place) → t folder ≡ Some places → most < length places)
+IsFolderRead tree folder most (Err list_errors.Memory) = ⊤
+
+-- ---- the walk
+
 abbrev pub is_file : EntryKind → Bool
 is_file kinds.File = true
 is_file _ = false
@@ -69,6 +103,12 @@ pub record IsEntryTaken (entry : Entry) (before now : Walk) (is_folder : Bool) :
   pub found : texts_found now ≡ texts_found before ++ class_files_in (place_of entry ∷ [])
   pub entries : now.entries ≡ before.entries
 
+-- the entry was taken; or it is named as a class file and is neither a file nor a folder
+abbrev pub IsTaken : Entry → Walk → Walk → Result Bool ListError → Type 0
+IsTaken entry before now (Ok is_folder) = IsEntryTaken entry before now is_folder
+IsTaken entry before now (Err list_errors.Failed) = (inside : Option (List Place)) → inside_of entry.kind (has_class_name (string_bytes entry.path)) inside ≡ None
+IsTaken entry before now (Err list_errors.Memory) = ⊤
+
 -- all places that are met in the folder, down to so many levels, were met
 pub record IsWalked (tree : Option Tree) (levels : ℕ) (folder : List ℕ) (before now : Walk) : Type 0 where
   pub places : List Place
@@ -76,10 +116,35 @@ pub record IsWalked (tree : Option Tree) (levels : ℕ) (folder : List ℕ) (bef
   pub found : texts_found now ≡ texts_found before ++ class_files_in places
   pub entries : now.entries ≡ before.entries + length places
 
+-- the most entries that a walk meets
+abbrev pub most_entries : ℕ
+most_entries = 1048576
+
+-- these places can't be met: where all could be, there are more than a walk meets, after so many before
+abbrev pub IsUnmet : Option (List Place) → ℕ → Type 0
+IsUnmet met before = (places : List Place) → met ≡ Some places → most_entries < before + length places
+
+-- the folder was walked, or can't be
+abbrev pub WalksFolder : {T : Type 0} → Option Tree → ℕ → List ℕ → Walk → Walk → Result T ListError → Type 0
+WalksFolder tree levels folder before now (Ok done) = IsWalked tree levels folder before now
+WalksFolder tree levels folder before now (Err list_errors.Failed) = IfSome tree (λ t. IsUnmet (met_in t levels folder) before.entries)
+WalksFolder tree levels folder before now (Err list_errors.Memory) = ⊤
+
+-- what is met in the folder with a slash, and in 64 levels of folders below it
+abbrev pub met_below : Tree → List ℕ → Option (List Place)
+met_below tree folder = met_in tree 65 (folder ++ codes "/")
+
 -- the folder with a slash, and 64 levels of folders below it, were walked: each folder could be read, no folder lies deeper,
 -- there are at most 1,048,576 entries, and the class files among them were found
 pub record IsWalk (tree : Option Tree) (folder : List ℕ) (found : List (List ℕ)) : Type 0 where
   pub places : List Place
-  pub told : IfSome tree (λ t. met_in t 65 (folder ++ codes "/") ≡ Some places)
-  pub few : length places ≤ 1048576
+  pub told : IfSome tree (λ t. met_below t folder ≡ Some places)
+  pub few : length places ≤ most_entries
   pub class_files : found ≡ class_files_in places
+
+-- a walk, which fails only where one of the folders can't be read, one lies deeper, there are more entries, or what is
+-- neither a file nor a folder is named as a class file
+abbrev pub Walks : {T : Type 0} → (T → List (List ℕ)) → Option Tree → List ℕ → Result T ListError → Type 0
+Walks paths_of tree folder (Ok found) = IsWalk tree folder (paths_of found)
+Walks paths_of tree folder (Err list_errors.Failed) = IfSome tree (λ t. IsUnmet (met_below t folder) 0)
+Walks paths_of tree folder (Err list_errors.Memory) = ⊤

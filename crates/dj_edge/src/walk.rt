@@ -1,6 +1,7 @@
-//! The class files in a folder and in the folders below it, over anything that reads one folder.
-ghost use Rattle.std.specs.Prelude.{◌≡◌, ◌≤◌, List, Option, IfOk, OnOk, map, string_bytes};
-ghost use Rattle.dj_edge.specs.Walks.{Tree, IsFolderRead, IsEntryTaken, IsWalked, IsWalk};
+//! The class files in a folder and in the folders below it, over anything that reads one folder at a time.
+ghost use Rattle.std.specs.Prelude.{◌≡◌, ◌≤◌, ◌++◌, ◌∷◌, [], List, Option, Result, OnOk, IfErr, filter, map, string_bytes};
+ghost use Rattle.dj_edge.specs.Walks.{Tree, Place, place_of, is_kept, IsOpened, IsNextEntry, IsFolderRead, IsTaken, WalksFolder, Walks};
+ghost use Rattle.dj_edge.specs.declared.files.ListError.TheVariants.{Memory};
 
 use crate::files::ListError;
 use std::alloc::Global;
@@ -31,15 +32,84 @@ pub struct Entry {
     pub kind: EntryKind,
 }
 
-/// What reads a folder.
+impl Entry {
+    ghost use Rattle.std.specs.Prelude.{◌≡◌};
+    ghost use Rattle.dj_edge.specs.Walks.{place_of, is_kept};
+
+    /// Whether a walk looks at it: it is a folder, or named as a class file.
+    fn is_kept(&self) -> bool
+        ensures { result ≡ is_kept (place_of self.now) }
+    {
+        match self.kind {
+            EntryKind::Folder => true,
+            EntryKind::File | EntryKind::Other => self.path.as_bytes().ends_with(b".class"),
+        }
+    }
+}
+
+/// What reads folders, one at a time.
 pub trait Folders {
     /// What each folder has, where it is told. No call changes it.
     ghost tree: { Self → Option Tree };
 
-    /// The entries of the folder, or a failure where it can't be read or has more than `most`.
-    fn entries(&mut self, alloc: Global, folder: &str, most: u32) -> Result<Vec<Entry>, ListError>
+    /// What the open folder has that was not read yet, or none where it can't be read to its end.
+    ghost left: { Self → Option (List Place) };
+
+    /// Opens the folder, in place of the one that was open.
+    fn open(&mut self, folder: &str) -> Result<(), ListError>
         ensures unchanged { tree self.new ≡ tree self.old }
-        ensures reads { IsFolderRead (tree self.old) folder.now most result };
+        ensures opens { IsOpened (tree self.old) (left self.new) folder.now result };
+
+    /// The next entry of the open folder, none at its end. It fails where the entry can't be looked at or its name is not UTF-8.
+    fn next(&mut self, alloc: Global) -> Result<Option<Entry>, ListError>
+        ensures unchanged { tree self.new ≡ tree self.old }
+        ensures reads { IsNextEntry (tree self.old) (left self.old) (left self.new) result };
+}
+
+/// What a walk keeps of a folder.
+#[derive(Drop)]
+struct FolderEntries {
+    /// The folders in it, and what is named as a class file.
+    kept: Vec<Entry>,
+    /// How many entries it has.
+    count: u32,
+}
+
+/// Adds an entry where a walk looks at it.
+fn keep(kept: &mut Vec<Entry>, entry: Entry) -> Result<(), ListError>
+    ensures kept { OnOk result (map place_of kept.new.items ≡ map place_of kept.old.items ++ filter is_kept (place_of entry ∷ [])) }
+    ensures no_fault { IfErr result (λ error. error ≡ Memory) }
+{
+    if entry.is_kept() {
+        match kept.push(entry) {
+            Ok(()) => Ok(()),
+            Err(_) => Err(ListError::Memory),
+        }
+    } else {
+        Ok(())
+    }
+}
+
+/// Reads a folder, which has at most `most` entries. Those that a walk doesn't look at are counted alone.
+fn read_folder<F: Folders>(
+    alloc: Global,
+    folders: &mut F,
+    folder: &str,
+    most: u32,
+) -> Result<FolderEntries, ListError>
+    requires { most ≤ MOST_ENTRIES }
+    ensures unchanged { F.tree folders.new ≡ F.tree folders.old }
+    ensures reads { IsFolderRead (F.tree folders.old) folder.now most result }
+{
+    folders.open(folder)?;
+    let mut kept = Vec::new(alloc);
+    for count in 0..most + 1 {
+        match folders.next(alloc)? {
+            Some(entry) => keep(&mut kept, entry)?,
+            None => return Ok(FolderEntries { kept, count }),
+        }
+    }
+    Err(ListError::Failed)
 }
 
 /// What a walk met so far.
@@ -53,16 +123,20 @@ impl Walk {
     /// Takes an entry, and answers whether it is a folder. A class file is found; no other thing may be named as one.
     fn take(&mut self, entry: &Entry) -> Result<bool, ListError>
         ensures few { self.new.entries ≡ self.old.entries }
-        ensures taken { IfOk result (IsEntryTaken entry.now self.old self.new) }
+        ensures taken { IsTaken entry.now self.old self.new result }
     {
         let is_class = entry.path.as_bytes().ends_with(b".class");
         match entry.kind {
             EntryKind::Folder => Ok(true),
             EntryKind::Other if is_class => Err(ListError::Failed),
             EntryKind::File if is_class => {
-                let path = entry.path.clone().map_err(|_| ListError::Memory)?;
-                self.found.push(path).map_err(|_| ListError::Memory)?;
-                Ok(false)
+                let Ok(path) = entry.path.clone() else {
+                    return Err(ListError::Memory);
+                };
+                match self.found.push(path) {
+                    Ok(()) => Ok(false),
+                    Err(_) => Err(ListError::Memory),
+                }
             }
             _ => Ok(false),
         }
@@ -80,14 +154,14 @@ fn walk_folder<F: Folders>(
     requires { walk.old.entries ≤ MOST_ENTRIES }
     ensures unchanged { F.tree folders.new ≡ F.tree folders.old }
     ensures few { walk.new.entries ≤ MOST_ENTRIES }
-    ensures walked { OnOk result (IsWalked (F.tree folders.old) levels folder.now walk.old walk.new) }
+    ensures walked { WalksFolder (F.tree folders.old) levels folder.now walk.old walk.new result }
 {
     if levels == 0 {
         return Err(ListError::Failed);
     }
-    let entries = folders.entries(alloc, folder, MOST_ENTRIES - walk.entries)?;
-    walk.entries += entries.len() as u32;
-    for entry in &entries {
+    let entries = read_folder(alloc, folders, folder, MOST_ENTRIES - walk.entries)?;
+    walk.entries += entries.count;
+    for entry in &entries.kept {
         if walk.take(entry)? {
             walk_folder(alloc, folders, entry.path.as_str(), levels - 1, walk)?;
         }
@@ -95,17 +169,19 @@ fn walk_folder<F: Folders>(
     Ok(())
 }
 
-/// The class files in the folder or below it, each path as it was met. It fails where a folder can't be read or lies
-/// more than 64 levels below the first, where more than 1,048,576 entries are met, and where a class file's name is not a file's.
+/// The class files in the folder or below it, each path as it was met. It fails exactly where a folder can't be read or lies
+/// more than 64 levels below the first, where more than 1,048,576 entries are met, or where a class file's name is not a file's.
 pub fn files_below<F: Folders>(
     alloc: Global,
     folders: &mut F,
     folder: &str,
 ) -> Result<Vec<String>, ListError>
     ensures unchanged { F.tree folders.new ≡ F.tree folders.old }
-    ensures walk { IfOk result (λ found. IsWalk (F.tree folders.old) folder.now (map string_bytes found.items)) }
+    ensures walks { Walks (λ found. map string_bytes found.items) (F.tree folders.old) folder.now result }
 {
-    let first = format!(in alloc; "{folder}/").map_err(|_| ListError::Memory)?;
+    let Ok(first) = format!(in alloc; "{folder}/") else {
+        return Err(ListError::Memory);
+    };
     let mut walk = Walk {
         found: Vec::new(alloc),
         entries: 0,

@@ -2,13 +2,9 @@
 #![tactic(auto)]
 
 #[cfg(test)]
-mod class;
-#[cfg(test)]
 mod edge;
 #[cfg(test)]
 mod names;
-#[cfg(test)]
-mod ops;
 #[cfg(test)]
 mod report;
 #[cfg(test)]

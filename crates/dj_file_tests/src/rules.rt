@@ -1,8 +1,9 @@
 ghost use Rattle.std.specs.Prelude.{◌<◌, ◌^◌, length, All};
 
-use dj_class::{ClassError, PoolError};
+use dj_class::ClassError;
+use dj_pool::PoolError;
 use dj_report::{PathFile, Violation};
-use dj_rules::{RulesError, first_unbuilt, is_memory, is_unbuilt, rules, units_of_path};
+use dj_rules::{RulesError, is_memory, rules, units_of_path};
 use std::alloc::Global;
 
 // A class A with a method verify, without its last byte.
@@ -22,9 +23,6 @@ const TWICE: &[u8] =
     b"\xca\xfe\xba\xbe\0\0\05\0\x09\x01\0\x01D\x07\0\x01\x01\0\x10java/lang/Object\x07\0\x03\x01\0\x01n\
     \x01\0\x03()V\x01\0\x08finalize\x01\0\x04Code\0\x21\0\x02\0\x04\0\0\0\0\0\x03\x01\x01\0\x05\0\x06\0\
     \0\x01\x01\0\x05\0\x06\0\0\x01\x01\0\x07\0\x06\0\0\0\0";
-
-// A file whose first constant is an Integer.
-const UNBUILT: &[u8] = b"\xca\xfe\xba\xbe\0\0\04\0\x02\x03\0\0\0\x01\0\x21";
 
 // A path, a member and a rule.
 type Line = (&'static [u8], &'static [u8], u8);
@@ -85,41 +83,6 @@ fn violations(rt: HostRuntime) {
     }
 }
 
-// Files, and the path of the first that is not read yet.
-const FIRSTS: [(&[PathFile<'static>], Option<&str>); 2] = [
-    (
-        &[
-            PathFile {
-                path: "B.class",
-                bytes: NATIVE,
-            },
-            PathFile {
-                path: "C.class",
-                bytes: UNBUILT,
-            },
-            PathFile {
-                path: "D.class",
-                bytes: UNBUILT,
-            },
-        ],
-        Some("C.class"),
-    ),
-    (
-        &[PathFile {
-            path: "B.class",
-            bytes: NATIVE,
-        }],
-        None,
-    ),
-];
-
-#[test]
-fn first_file_not_read_yet(rt: HostRuntime) {
-    for (files, wanted) in &FIRSTS {
-        assert!(rt; first_unbuilt(rt.alloc(), files) == Ok(*wanted));
-    }
-}
-
 fn units_are(alloc: Global, path: &str, wanted: &[u16]) -> Result<bool, RulesError> {
     let units = units_of_path(alloc, path)?;
     Ok(units.as_slice() == wanted)
@@ -131,17 +94,16 @@ fn units_of_a_path(rt: HostRuntime) {
     assert!(rt; units_are(rt.alloc(), "a\u{e9}\u{20ac}\u{1f600}", &wanted) == Ok(true));
 }
 
-// An error, and whether it is want of memory and whether it is of a constant that is not read yet.
-const ERRORS: [(ClassError, bool, bool); 4] = [
-    (ClassError::Memory, true, false),
-    (ClassError::Pool(PoolError::Memory), true, false),
-    (ClassError::Pool(PoolError::Unbuilt(10)), false, true),
-    (ClassError::Pool(PoolError::Tag(10)), false, false),
+// An error, and whether it is want of memory.
+const ERRORS: [(ClassError, bool); 3] = [
+    (ClassError::Memory, true),
+    (ClassError::Pool(PoolError::Memory), true),
+    (ClassError::Pool(PoolError::Tag(10)), false),
 ];
 
 #[test]
 fn errors_told_apart(rt: HostRuntime) {
-    for (error, memory, unbuilt) in &ERRORS {
-        assert!(rt; is_memory(*error) == *memory && is_unbuilt(*error) == *unbuilt);
+    for (error, memory) in &ERRORS {
+        assert!(rt; is_memory(*error) == *memory);
     }
 }

@@ -1,95 +1,163 @@
 ghost use Rattle.std.specs.Prelude.{None};
 
-use dj_edge::{Entry, EntryKind, Folders, ListError, files_below};
+use dj_edge::{Entry, EntryKind, Folders, ListError, files_below, list_folder};
 use std::alloc::{AllocError, Global};
 use std::test::Fail;
 
-// Each folder has a folder, down to so many levels, and something named as a class file. One reading fails.
+// Each folder has a folder, down to so many levels, and something named as a class file. One opening or one entry fails.
 #[derive(Drop)]
 struct Chain {
     levels: u32,
     failing: u32,
     kind: EntryKind,
-    reads: u32,
-    most: u32,
-}
-
-fn entry(alloc: Global, folder: &str, name: &str, kind: EntryKind) -> Result<Entry, AllocError> {
-    let path = format!(in alloc; "{folder}{name}")?;
-    Ok(Entry { path, kind })
+    calls: u32,
+    opened: u32,
+    left: u32,
+    folder: String,
 }
 
 impl Chain {
-    fn entries_of(&self, alloc: Global, folder: &str) -> Result<Vec<Entry>, AllocError> {
-        let mut entries = Vec::new(alloc);
-        if self.reads <= self.levels {
-            entries.push(entry(alloc, folder, "d/", EntryKind::Folder)?)?;
+    fn new(alloc: Global, levels: u32, failing: u32, kind: EntryKind) -> Chain {
+        Chain {
+            levels,
+            failing,
+            kind,
+            calls: 0,
+            opened: 0,
+            left: 0,
+            folder: String::new(alloc),
         }
-        entries.push(entry(alloc, folder, "A.class", self.kind)?)?;
-        entries.push(entry(alloc, folder, "A.txt", EntryKind::Other)?)?;
-        Ok(entries)
+    }
+
+    fn entry(&self, alloc: Global, name: &str, kind: EntryKind) -> Result<Entry, AllocError> {
+        let path = format!(in alloc; "{}{name}", self.folder.as_str())?;
+        Ok(Entry { path, kind })
+    }
+
+    fn fails(&mut self) -> bool {
+        self.calls = self.calls.saturating_add(1);
+        self.calls == self.failing
     }
 }
 
 impl Folders for Chain {
     ghost tree = { λ _. None };
 
-    fn entries(&mut self, alloc: Global, folder: &str, most: u32) -> Result<Vec<Entry>, ListError> {
-        self.reads = self.reads.saturating_add(1);
-        self.most = most;
-        if self.reads == self.failing {
+    ghost left = { λ _. None };
+
+    fn open(&mut self, folder: &str) -> Result<(), ListError> {
+        if self.fails() {
             return Err(ListError::Failed);
         }
-        match self.entries_of(alloc, folder) {
-            Ok(entries) if entries.len() <= most as usize => Ok(entries),
-            Ok(_) => Err(ListError::Failed),
+        self.opened = self.opened.saturating_add(1);
+        self.left = if self.opened <= self.levels { 3 } else { 2 };
+        self.folder.clear();
+        self.folder.push_str(folder).map_err(|_| ListError::Memory)
+    }
+
+    fn next(&mut self, alloc: Global) -> Result<Option<Entry>, ListError> {
+        if self.fails() {
+            return Err(ListError::Failed);
+        }
+        let left = self.left;
+        self.left = left.saturating_sub(1);
+        let entry = match left {
+            0 => return Ok(None),
+            1 => self.entry(alloc, "A.txt", EntryKind::Other),
+            2 => self.entry(alloc, "A.class", self.kind),
+            _ => self.entry(alloc, "d/", EntryKind::Folder),
+        };
+        match entry {
+            Ok(entry) => Ok(Some(entry)),
             Err(_) => Err(ListError::Memory),
         }
     }
 }
 
-// How many files were found, the last of them, and how many entries the last folder might have had.
+// How many class files were found and the first of them, or how the walk failed; and how many calls there were.
 fn walking(
     alloc: Global,
     levels: u32,
     failing: u32,
     kind: EntryKind,
 ) -> Result<String, AllocError> {
-    let mut folders = Chain {
-        levels,
-        failing,
-        kind,
-        reads: 0,
-        most: 0,
-    };
+    let mut folders = Chain::new(alloc, levels, failing, kind);
     let found = files_below(alloc, &mut folders, "f");
-    let most = folders.most;
+    let calls = folders.calls;
     match &found {
         Ok(paths) => match paths.first() {
-            Some(first) => format!(in alloc; "{} {} {most}", paths.len(), first.as_str()),
-            None => format!(in alloc; "none {most}"),
+            Some(first) => format!(in alloc; "{} {} {calls}", paths.len(), first.as_str()),
+            None => format!(in alloc; "none {calls}"),
         },
-        Err(ListError::Failed) => format!(in alloc; "failed {most}"),
-        Err(ListError::Memory) => format!(in alloc; "memory {most}"),
+        Err(ListError::Failed) => format!(in alloc; "failed {calls}"),
+        Err(ListError::Memory) => format!(in alloc; "memory {calls}"),
     }
 }
 
 #[test]
 fn walks_or_fails(rt: HostRuntime) -> Result<(), Fail> {
     let rows = [
-        (0, 99, EntryKind::File, "1 f/A.class 1048576"),
-        (2, 99, EntryKind::File, "3 f/d/d/A.class 1048570"),
-        (2, 99, EntryKind::Folder, "failed 1048446"),
-        (2, 99, EntryKind::Other, "failed 1048570"),
-        (2, 1, EntryKind::File, "failed 1048576"),
-        (2, 3, EntryKind::File, "failed 1048570"),
-        (65, 99, EntryKind::File, "failed 1048384"),
+        (0, 999, EntryKind::File, "1 f/A.class 4"),
+        (2, 999, EntryKind::File, "3 f/d/d/A.class 14"),
+        (2, 999, EntryKind::Other, "failed 14"),
+        (2, 1, EntryKind::File, "failed 1"),
+        (2, 4, EntryKind::File, "failed 4"),
+        (2, 14, EntryKind::File, "failed 14"),
+        (64, 999, EntryKind::File, "65 f/"),
+        (65, 999, EntryKind::File, "failed 325"),
     ];
     for (levels, failing, kind, wanted) in rows {
         let walked = walking(rt.alloc(), levels, failing, kind)?;
-        assert_eq!(rt; walked.as_str(), wanted);
+        assert!(rt; walked.as_str().starts_with(wanted));
     }
-    let deepest = walking(rt.alloc(), 64, 99, EntryKind::File)?;
-    assert!(rt; deepest.as_str().starts_with("65 f/d/d/"));
     Ok(())
+}
+
+// Each class file once, and at most so many.
+#[test]
+fn lists_each_once(rt: HostRuntime) -> Result<(), Fail> {
+    let alloc = rt.alloc();
+    for (most, wanted) in [(9, 3), (3, 3), (2, 2), (0, 0)] {
+        let mut folders = Chain::new(alloc, 2, 999, EntryKind::File);
+        let listed = list_folder(alloc, &mut folders, "f", most);
+        let count = listed.as_ref().map_or(99, |paths| paths.len());
+        assert_eq!(rt; count, wanted);
+    }
+    Ok(())
+}
+
+// Folders that tell what they have: each is empty, or none can be read.
+#[derive(Drop)]
+struct Told(bool);
+
+impl Folders for Told {
+    ghost use Rattle.std.specs.Prelude.{Some, None, [], cond};
+
+    ghost tree = { λ told. Some (λ _. cond told.0 (Some []) None) };
+
+    ghost left = { λ told. cond told.0 (Some []) None };
+
+    fn open(&mut self, _folder: &str) -> Result<(), ListError> {
+        if self.0 {
+            Ok(())
+        } else {
+            Err(ListError::Failed)
+        }
+    }
+
+    fn next(&mut self, _alloc: Global) -> Result<Option<Entry>, ListError> {
+        if self.0 {
+            Ok(None)
+        } else {
+            Err(ListError::Failed)
+        }
+    }
+}
+
+#[test]
+fn empty_or_unread(rt: HostRuntime) {
+    let empty = list_folder(rt.alloc(), &mut Told(true), "f", 9);
+    assert!(rt; matches!(&empty, Ok(paths) if paths.is_empty()));
+    let unread = list_folder(rt.alloc(), &mut Told(false), "f", 9);
+    assert!(rt; matches!(&unread, Err(ListError::Failed)));
 }

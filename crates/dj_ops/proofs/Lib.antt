@@ -1,7 +1,14 @@
-pub mod Tables
-pub mod Laws
-pub mod Refusals
+pub mod Rising
+pub mod Parts
+pub mod FormFacts
+pub mod Families
+pub mod SwitchLaws
+pub mod Taken
+pub mod Again
+pub mod Causes
+pub mod SwitchCauses
+pub mod Refused
 pub mod Whole
-pub mod Examples
-pub mod Opcodes
-pub mod Cuts
+pub mod Sizes
+mod Opcodes
+mod Examples

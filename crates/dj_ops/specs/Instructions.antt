@@ -1,10 +1,12 @@
 -- Instructions and the bytes that spell them (JVMS chapter 6).
-use Rattle.std.specs.Prelude.{◌≡◌, ℕ, ◌+◌, ◌^◌, ◌<◌, ◌≤◌, ◌%◌, ◌⊎◌, Bool, true, false, ℤ, pos, ◌+ℤ◌, ◌-ℤ◌, ◌<ℤ◌, FitsSigned, List, [], ◌∷◌, ◌++◌, length, slice_range, AllPairs}
+use Rattle.std.specs.Prelude.{◌≡◌, ℕ, ◌+◌, ◌-◌, ◌^◌, ◌<◌, ◌≤◌, ◌%◌, ◌⊎◌, Bool, true, false, ℤ, pos, ◌+ℤ◌, ◌-ℤ◌, ◌<ℤ◌, FitsSigned, List, [], ◌∷◌, ◌++◌, length, replicate, slice_range, AllPairs, Result, Ok, Err}
 use Rattle.std.specs.List.{flat_map, AllByRecursion}
 use Rattle.std.specs.Int.{w8, w16, w32}
 use Rattle.dj_bytes.specs.Spelling.{u2, s1, s2, s4}
 use Rattle.dj_ops.specs.declared.instruction.Instr.{Instr}
 use Rattle.dj_ops.specs.declared.instruction.Instr.TheVariants as instrs
+use Rattle.dj_ops.specs.declared.read.OpError.{OpError}
+use Rattle.dj_ops.specs.declared.read.OpError.TheVariants as errors
 use Rattle.dj_ops.specs.Forms.{Form, Bare, SignedByte, SignedShort, ShortLiteral, LongLiteral, Slot, ShortOffset, LongOffset, MemberIndex, ClassIndex, form_of}
 
 -- ---- operands, by the form of the opcode
@@ -89,6 +91,12 @@ pub record IsPadding (at : ℕ) (padding : List ℕ) : Type 0 where
   pub few : length padding < 4
   pub aligned : (at + 1 + length padding) % 4 ≡ 0
 
+-- the padding of an instruction: switches alone have some
+abbrev pub IsPaddingOf : ℕ → Instr → List ℕ → Type 0
+IsPaddingOf at (instrs.Table default low targets) padding = IsPadding at padding
+IsPaddingOf at (instrs.Lookup default pairs) padding = IsPadding at padding
+IsPaddingOf at instr padding = padding ≡ []
+
 -- the offset of a target is counted from the opcode
 abbrev pub offset : ℕ → ℤ → ℤ
 offset at target = target -ℤ pos at
@@ -97,40 +105,50 @@ offset at target = target -ℤ pos at
 abbrev pub IsFar : ℕ → ℤ → Type 0
 IsFar at target = FitsSigned w32 (offset at target)
 
-pub record SpellsTable (at : ℕ) (default low : ℤ) (targets : List ℤ) (bytes : List ℕ) : Type 0 where
-  pub padding : List ℕ
-  pub padded : IsPadding at padding
-  pub default_fits : IsFar at default
-  pub targets_fit : AllByRecursion (IsFar at) targets
-  pub are : bytes ≡ 170 ∷ padding ++ s4 (offset at default) ++ s4 low ++ s4 (low +ℤ pos (length targets) -ℤ pos 1)
-      ++ flat_map (λ target. s4 (offset at target)) targets
+-- the offsets fit their fields
+abbrev pub AreOffsets : ℕ → Instr → Type 0
+AreOffsets at (instrs.Branch op target) = IsOffset (form_of op) (offset at target)
+AreOffsets at (instrs.Table default low targets) = IsFar at default × AllByRecursion (IsFar at) targets
+AreOffsets at (instrs.Lookup default pairs) = IsFar at default × AllByRecursion (λ pair. IsFar at pair.1) pairs
+AreOffsets at instr = Unit {0}
 
-pub record SpellsLookup (at : ℕ) (default : ℤ) (pairs : List (ℤ × ℤ)) (bytes : List ℕ) : Type 0 where
-  pub padding : List ℕ
-  pub padded : IsPadding at padding
-  pub default_fits : IsFar at default
-  pub targets_fit : AllByRecursion (λ pair. IsFar at pair.1) pairs
-  pub are : bytes ≡ 171 ∷ padding ++ s4 (offset at default) ++ s4 (pos (length pairs))
-      ++ flat_map (λ pair. s4 pair.0 ++ s4 (offset at pair.1)) pairs
+-- the last number of a table
+abbrev pub high_of : ℤ → List ℤ → ℤ
+high_of low targets = low +ℤ pos (length targets) -ℤ pos 1
 
-abbrev pub Spells : ℕ → Instr → List ℕ → Type 0
-Spells at (instrs.Simple op) bytes = bytes ≡ op ∷ []
-Spells at (instrs.Push op value) bytes = bytes ≡ op ∷ signed_bytes (form_of op) value
-Spells at (instrs.Literal op index) bytes = bytes ≡ op ∷ literal_bytes (form_of op) index
-Spells at (instrs.Local op slot false) bytes = bytes ≡ op ∷ slot ∷ []
-Spells at (instrs.Local op slot true) bytes = bytes ≡ 196 ∷ op ∷ u2 slot
-Spells at (instrs.Inc slot by false) bytes = bytes ≡ 132 ∷ slot ∷ s1 by
-Spells at (instrs.Inc slot by true) bytes = bytes ≡ 196 ∷ 132 ∷ u2 slot ++ s2 by
-Spells at (instrs.Branch op target) bytes =
-    IsOffset (form_of op) (offset at target) × (bytes ≡ op ∷ signed_bytes (form_of op) (offset at target))
-Spells at (instrs.Table default low targets) bytes = SpellsTable at default low targets bytes
-Spells at (instrs.Lookup default pairs) bytes = SpellsLookup at default pairs bytes
-Spells at (instrs.Member op index) bytes = bytes ≡ op ∷ u2 index
-Spells at (instrs.Interface index count) bytes = bytes ≡ 185 ∷ u2 index ++ count ∷ 0 ∷ []
-Spells at (instrs.Dynamic index) bytes = bytes ≡ 186 ∷ u2 index ++ 0 ∷ 0 ∷ []
-Spells at (instrs.Class op index) bytes = bytes ≡ op ∷ u2 index
-Spells at (instrs.Array base) bytes = bytes ≡ 188 ∷ base ∷ []
-Spells at (instrs.Multi index dims) bytes = bytes ≡ 197 ∷ u2 index ++ dims ∷ []
+abbrev pub target_bytes : ℕ → ℤ → List ℕ
+target_bytes at target = s4 (offset at target)
+
+abbrev pub pair_bytes : ℕ → ℤ × ℤ → List ℕ
+pair_bytes at pair = s4 pair.0 ++ s4 (offset at pair.1)
+
+-- the bytes at an address, with this padding
+abbrev pub bytes_with : List ℕ → ℕ → Instr → List ℕ
+bytes_with padding at (instrs.Simple op) = op ∷ []
+bytes_with padding at (instrs.Push op value) = op ∷ signed_bytes (form_of op) value
+bytes_with padding at (instrs.Literal op index) = op ∷ literal_bytes (form_of op) index
+bytes_with padding at (instrs.Local op slot false) = op ∷ slot ∷ []
+bytes_with padding at (instrs.Local op slot true) = 196 ∷ op ∷ u2 slot
+bytes_with padding at (instrs.Inc slot by false) = 132 ∷ slot ∷ s1 by
+bytes_with padding at (instrs.Inc slot by true) = 196 ∷ 132 ∷ u2 slot ++ s2 by
+bytes_with padding at (instrs.Branch op target) = op ∷ signed_bytes (form_of op) (offset at target)
+bytes_with padding at (instrs.Table default low targets) =
+    170 ∷ padding ++ target_bytes at default ++ s4 low ++ s4 (high_of low targets) ++ flat_map (target_bytes at) targets
+bytes_with padding at (instrs.Lookup default pairs) =
+    171 ∷ padding ++ target_bytes at default ++ s4 (pos (length pairs)) ++ flat_map (pair_bytes at) pairs
+bytes_with padding at (instrs.Member op index) = op ∷ u2 index
+bytes_with padding at (instrs.Interface index count) = 185 ∷ u2 index ++ count ∷ 0 ∷ []
+bytes_with padding at (instrs.Dynamic index) = 186 ∷ u2 index ++ 0 ∷ 0 ∷ []
+bytes_with padding at (instrs.Class op index) = op ∷ u2 index
+bytes_with padding at (instrs.Array base) = 188 ∷ base ∷ []
+bytes_with padding at (instrs.Multi index dims) = 197 ∷ u2 index ++ dims ∷ []
+
+-- the bytes are this instruction's at this address
+pub record Spells (at : ℕ) (instr : Instr) (bytes : List ℕ) : Type 0 where
+  pub padding : List ℕ
+  pub padded : IsPaddingOf at instr padding
+  pub offsets : AreOffsets at instr
+  pub are : bytes ≡ bytes_with padding at instr
 
 -- the code has this instruction at this address, up to the next
 pub record Stands (code : List ℕ) (at : ℕ) (instr : Instr) (next : ℕ) : Type 0 where
@@ -138,3 +156,25 @@ pub record Stands (code : List ℕ) (at : ℕ) (instr : Instr) (next : ℕ) : Ty
   pub within : next ≤ length code
   pub spelled : Spells at instr (slice_range code at next)
   pub proper : IsProper instr
+
+-- ---- the bytes that are written: the padding is zeros
+
+abbrev pub padding_count : ℕ → ℕ
+padding_count at = 3 - at % 4
+
+abbrev pub zeros : ℕ → Instr → List ℕ
+zeros at (instrs.Table default low targets) = replicate (padding_count at) 0
+zeros at (instrs.Lookup default pairs) = replicate (padding_count at) 0
+zeros at instr = []
+
+abbrev pub written : ℕ → Instr → List ℕ
+written at instr = bytes_with (zeros at instr) at instr
+
+-- how many bytes an instruction has at an address
+abbrev pub length_at : ℕ → Instr → ℕ
+length_at at instr = length (written at instr)
+
+-- the bytes were appended, or there was no memory and none was
+abbrev pub Appended : Result (Unit {0}) OpError → List ℕ → List ℕ → List ℕ → Type 0
+Appended (Ok _) old new bytes = new ≡ old ++ bytes
+Appended (Err e) old new bytes = (e ≡ errors.Memory) × (new ≡ old)

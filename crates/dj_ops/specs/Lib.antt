@@ -1,5 +1,5 @@
 pub mod Forms
 pub mod Instructions
-pub mod Straight
+pub mod Refusals
 pub mod Reading
-pub mod Cuts
+pub mod Laws

@@ -1,16 +1,27 @@
-//! One instruction and its bytes (JVMS chapter 6), straight code, and exception tables.
+//! Instructions and their bytes (JVMS chapter 6), exception tables, and the frames of stack maps.
 #![tactic(auto)]
 
-mod cut;
 mod frames;
+mod instrs;
 mod instruction;
+mod laws;
+mod lengths;
 mod lists;
+mod operands;
 mod read;
 mod rows;
+mod starts;
+mod switches;
+mod write;
+mod write_switches;
 
-pub use cut::{Instrs, cut_is_straight, one_cut, read_instrs};
 pub use frames::{Form, Frame, Frames, VType, VTypes};
+pub use instrs::Instrs;
 pub use instruction::Instr;
+pub use laws::{next_address, one_instruction, spelled_length, written_spells, written_stands};
+pub use lengths::length;
 pub use lists::{NoMemory, Pairs, Targets};
-pub use read::{OpError, one_instruction, read_instr};
+pub use read::{OpError, read_instr};
 pub use rows::{CatchRow, Rows};
+pub use starts::Starts;
+pub use write::write_instr;

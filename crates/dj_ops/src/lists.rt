@@ -55,6 +55,13 @@ impl Targets {
         }
     }
 
+    /// The targets of a vector.
+    pub fn from_vec(targets: Vec<i64>) -> Targets
+        ensures { result ≡ targets.items }
+    {
+        Targets { targets }
+    }
+
     /// Appends a target.
     pub fn push(&mut self, item: i64) -> Result<(), NoMemory>
         ensures ok { OnOk result (self.new ≡ self.old ++ item ∷ []) }
@@ -93,6 +100,13 @@ impl Pairs {
         Pairs {
             pairs: Vec::new(alloc),
         }
+    }
+
+    /// The pairs of a vector.
+    pub fn from_vec(pairs: Vec<(i32, i64)>) -> Pairs
+        ensures { result ≡ pairs.items }
+    {
+        Pairs { pairs }
     }
 
     /// Appends a match and its target.

@@ -1,21 +1,20 @@
 -- The lines of a class file and of a file, as the functions gather them.
-use Rattle.std.proofs.Common.{◌≡◌, ℕ, ◌+◌, ◌^◌, ◌<◌, ◌≤◌, get_or, ◌⊎◌, ◌↔◌, List, [], ◌∷◌, ◌++◌, map, take, length, refl, sym, subst, inl, inr, arith, Contains, All}
-use Rattle.std.proofs.lemmas.List.Elements.{All-contains, All-push}
+use Rattle.std.proofs.Common.{◌≡◌, ℕ, ◌≤◌, ◌⊎◌, ◌↔◌, List, [], ◌∷◌, map, take, length, refl, sym, subst, inl, inr, arith, Contains}
 use Rattle.dj_report.specs.declared.report.Violation.{Violation}
 use Rattle.dj_class.specs.declared.class.MemberView.{MemberView}
-use Rattle.dj_class.specs.ClassFile.{Constant, MemberInfo, ClassFile, IsClassFile}
+use Rattle.dj_pool.specs.Pool.{Constant}
+use Rattle.dj_class.specs.ClassFile.{MemberInfo, ClassFile, IsClassFile}
 use Rattle.dj_class.specs.Members.{member_of}
-use Rattle.dj_class.proofs.TestsAre.{tests_decide}
+use Rattle.dj_pool.proofs.Decides.{tests_decide}
 use Rattle.dj_class.proofs.ClassLaws.{one_class_file}
 use Rattle.dj_report.specs.declared.report.PathFile.{PathFile}
 use Rattle.dj_report.specs.Lines.{file_line, member_line, Adds, Gains, IsLineAmong}
 use Rattle.dj_report.specs.Order.{IsInOrder}
 use Rattle.dj_report.proofs.Sorted.{contains_none}
-use Rattle.dj_report.proofs.Adding.{IsAmong, adds_same, adds_both, among_map, contains_map, from_contains_map, adds_none_yet, adds_one_more, exactly_found, exactly_same, among_one_more}
+use Rattle.dj_report.proofs.Adding.{IsAmong, adds_same, adds_both, among_map, contains_map, from_contains_map, adds_none_yet, adds_one_more, exactly_found, exactly_same}
 use Rattle.dj_rules.specs.Lines.{IsPairLine, pair_of}
-use Rattle.std.proofs.lemmas.List.{take_all, take_more}
+use Rattle.std.proofs.lemmas.List.{take_all}
 use Rattle.dj_rules.specs.Violations.{member_text, this_name, IsNative, IsFinalizer, HasOtherVersion, IsNamedAs, IsMethodLine, IsClassLine, IsNoClassFile, IsLineOf, IsViolation, AreViolations}
-use Rattle.dj_rules.specs.Reads.{AreUnbarred, Keeps}
 use Rattle.dj_rules.specs.Views.{path_file_view}
 
 -- the pair of a method of the condition
@@ -99,75 +98,3 @@ pub one_file_lines : (file : PathFile) (found lines : List Violation) → Adds (
 one_file_lines file found lines adds =
     all_lines (file ∷ []) 1 found lines (omega arith)
     (adds_one_more IsOwnFileLine (file ∷ []) 0 file [] [] found (omega arith) (adds_none_yet IsOwnFileLine (file ∷ []) []) adds)
-
--- ---- files of which some have lines
-
--- the files that were kept have the lines of all so far
-abbrev pub HaveLinesOf : List PathFile → List PathFile → Type 0
-HaveLinesOf kept files = (v : Violation) → IsLineAmong IsOwnFileLine kept v ↔ IsLineAmong IsOwnFileLine files v
-
--- a file more, which is kept
-pub kept_more : (kept files : List PathFile) (file : PathFile) → HaveLinesOf kept files → HaveLinesOf (kept ++ file ∷ []) (files ++ file ∷ [])
-kept_more kept files file same v = (
-  λ all. elim ((among_one_more IsOwnFileLine kept file v).1 all) [
-    | inl old ↦ (among_one_more IsOwnFileLine files file v).0 (inl ((same v).0 old))
-    | inr own ↦ (among_one_more IsOwnFileLine files file v).0 (inr own)
-  ],
-  λ all. elim ((among_one_more IsOwnFileLine files file v).1 all) [
-    | inl old ↦ (among_one_more IsOwnFileLine kept file v).0 (inl ((same v).1 old))
-    | inr own ↦ (among_one_more IsOwnFileLine kept file v).0 (inr own)
-  ],
-)
-
--- a file more, which has no line
-pub clean_more : (kept files : List PathFile) (file : PathFile) → ((v : Violation) → IsOwnFileLine file v → ⊥) → HaveLinesOf kept files → HaveLinesOf kept (files ++ file ∷ [])
-clean_more kept files file none same v = (
-  λ all. (among_one_more IsOwnFileLine files file v).0 (inl ((same v).0 all)),
-  λ all. elim ((among_one_more IsOwnFileLine files file v).1 all) [
-    | inl old ↦ (same v).1 old
-    | inr own ↦ absurd (none v own)
-  ],
-)
-
--- a file more, kept or not
-pub kept_step : (files : List PathFile) (i : ℕ) (d : PathFile) (old new : List PathFile) → i < length files → Keeps (get_or files i d) old new → HaveLinesOf old (take i files) → HaveLinesOf new (take (i + 1) files)
-kept_step files i d old new lt (inl grown) same =
-    subst (λ (kept : List PathFile). HaveLinesOf kept (take (i + 1) files)) (sym grown)
-    (subst (λ (all : List PathFile). HaveLinesOf (old ++ get_or files i d ∷ []) all) (sym (take_more files i d lt)) (kept_more old (take i files) (get_or files i d) same))
-kept_step files i d old new lt (inr stays) same =
-    subst (λ (kept : List PathFile). HaveLinesOf kept (take (i + 1) files)) (sym stays.0)
-    (subst (λ (all : List PathFile). HaveLinesOf old all) (sym (take_more files i d lt)) (clean_more old (take i files) (get_or files i d) stays.1 same))
-
-abbrev IsShort : PathFile → Type 0
-IsShort file = length file.bytes.now < 2 ^ 32
-
-pub kept_short : (files : List PathFile) (i : ℕ) (d : PathFile) (old new : List PathFile) → i < length files → All IsShort files → Keeps (get_or files i d) old new → All IsShort old → All IsShort new
-kept_short files i d old new lt all (inl grown) short = subst (All IsShort) (sym grown) (All-push IsShort old (get_or files i d) short (all i d lt))
-kept_short files i d old new lt all (inr stays) short = subst (All IsShort) (sym stays.0) short
-
--- the lines of the files that were kept are those of all
-pub kept_lines : (kept files : List PathFile) (lines : List Violation) → HaveLinesOf kept files → AreViolations (map path_file_view kept) lines → AreViolations (map path_file_view files) lines
-kept_lines kept files lines same =
-    exactly_same (IsViolation (map path_file_view kept)) (IsViolation (map path_file_view files)) lines (λ v. (
-      λ is. (among_map path_file_view IsLineOf files v).0 ((same v).0 ((among_map path_file_view IsLineOf kept v).1 is)),
-      λ is. (among_map path_file_view IsLineOf kept v).0 ((same v).1 ((among_map path_file_view IsLineOf files v).1 is)),
-    ))
-
--- ---- files without lines
-
--- a class file of an accepted version, named as its path, without barred methods has no line
-pub no_class_line : (path : List ℕ) (c : ClassFile) (views : List MemberView) → (HasOtherVersion c → ⊥) → IsNamedAs path (this_name c) → map member_of views ≡ c.methods
-    → All (AreUnbarred c.pool) views → (v : Violation) → IsClassLine path c v → ⊥
-no_class_line path c views version named are unbarred v (inl line) = version line.0
-no_class_line path c views version named are unbarred v (inr (inl line)) = line.0 named
-no_class_line path c views version named are unbarred v (inr (inr (inl line))) =
-    let seen = from_contains_map member_of views line.method (subst (λ ms. Contains ms line.method) (sym are) line.own) in
-    (All-contains (AreUnbarred c.pool) views seen.0 unbarred seen.1).0 (subst (λ m. IsNative m) (sym seen.2) line.such)
-no_class_line path c views version named are unbarred v (inr (inr (inr line))) =
-    let seen = from_contains_map member_of views line.method (subst (λ ms. Contains ms line.method) (sym are) line.own) in
-    (All-contains (AreUnbarred c.pool) views seen.0 unbarred seen.1).1 (subst (λ m. IsFinalizer c.pool m) (sym seen.2) line.such)
-
--- and so has a file that is it
-pub no_file_line : (path bytes : List ℕ) (c : ClassFile) → IsClassFile bytes c → ((v : Violation) → IsClassLine path c v → ⊥) → (v : Violation) → IsLineOf (path, bytes) v → ⊥
-no_file_line path bytes c is none v (inl no_class) = no_class.0 c is
-no_file_line path bytes c is none v (inr other) = none v (subst (λ (d : ClassFile). IsClassLine path d v) (one_class_file tests_decide bytes other.0 c other.1 is) other.2)

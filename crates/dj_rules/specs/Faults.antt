@@ -1,6 +1,6 @@
 -- Why a class file was not read.
 use Rattle.std.specs.Prelude.{Bool, true, false}
-use Rattle.dj_class.specs.declared.pool.PoolError.TheVariants as pool_errors
+use Rattle.dj_pool.specs.declared.pool.PoolError.TheVariants as pool_errors
 use Rattle.dj_class.specs.declared.class.ClassError.{ClassError}
 use Rattle.dj_class.specs.declared.class.ClassError.TheVariants as class_errors
 
@@ -9,8 +9,3 @@ abbrev pub is_memory : ClassError → Bool
 is_memory class_errors.Memory = true
 is_memory (class_errors.Pool pool_errors.Memory) = true
 is_memory e = false
-
--- a constant is not read yet
-abbrev pub is_unbuilt : ClassError → Bool
-is_unbuilt (class_errors.Pool (pool_errors.Unbuilt place)) = true
-is_unbuilt e = false

@@ -1,6 +1,7 @@
 -- Lines of members, by the indexes of their names and descriptors.
 use Rattle.std.specs.Prelude.{◌≡◌, ℕ, List, [], ◌++◌, unwrap_or}
-use Rattle.dj_class.specs.ClassFile.{Constant, MemberInfo, text_at}
+use Rattle.dj_pool.specs.Pool.{Constant, text_at}
+use Rattle.dj_class.specs.ClassFile.{MemberInfo}
 use Rattle.dj_report.specs.declared.report.Violation.{Violation}
 use Rattle.dj_report.specs.Lines.{member_line}
 

@@ -6,7 +6,9 @@ use Rattle.std.specs.Str.{chars}
 use Rattle.std.specs.Char.Escape.{encode_utf16}
 use Rattle.dj_edge.specs.Held.{File}
 use Rattle.dj_names.specs.ModifiedUtf8.{Spells}
-use Rattle.dj_class.specs.ClassFile.{Constant, MemberInfo, ClassFile, IsClassFile, text_at, class_name_at}
+use Rattle.dj_pool.specs.Pool.{Constant, text_at, class_name_at}
+use Rattle.dj_class.specs.Access as access
+use Rattle.dj_class.specs.ClassFile.{MemberInfo, ClassFile, IsClassFile}
 use Rattle.dj_report.specs.declared.report.Violation.{Violation}
 use Rattle.dj_report.specs.Lines.{file_line, member_line, AreExactly}
 
@@ -28,9 +30,9 @@ pub record IsNamedAs (path name : List ℕ) : Type 0 where
 abbrev pub this_name : ClassFile → List ℕ
 this_name c = unwrap_or (class_name_at c.pool c.this_class) []
 
--- JVMS table 4.6-A: ACC_NATIVE is the bit 0x0100
+-- JVMS table 4.6-A: ACC_NATIVE
 abbrev pub IsNative : MemberInfo → Type 0
-IsNative m = IsBitSet m.flags 8
+IsNative m = IsBitSet m.flags access.native
 
 -- a method that the garbage collector of a Java machine would call
 abbrev pub IsFinalizer : List Constant → MemberInfo → Type 0

@@ -1,7 +1,8 @@
 ghost use Rattle.std.specs.Prelude.{◌≡◌};
-ghost use Rattle.dj_rules.specs.Faults.{is_memory, is_unbuilt};
+ghost use Rattle.dj_rules.specs.Faults.{is_memory};
 
-use dj_class::{ClassError, PoolError};
+use dj_class::ClassError;
+use dj_pool::PoolError;
 
 /// Whether there was no memory.
 pub fn is_memory(error: ClassError) -> bool
@@ -11,11 +12,4 @@ pub fn is_memory(error: ClassError) -> bool
         error,
         ClassError::Memory | ClassError::Pool(PoolError::Memory)
     )
-}
-
-/// Whether a constant is not read yet.
-pub fn is_unbuilt(error: ClassError) -> bool
-    ensures { result ≡ is_unbuilt error }
-{
-    matches!(error, ClassError::Pool(PoolError::Unbuilt(_)))
 }

@@ -25,7 +25,7 @@ pub(crate) fn add_file_lines(
 {
     match view {
         FileView::Class(class) => add_class_lines(alloc, found, file.path, class),
-        FileView::Malformed | FileView::Unbuilt => {
+        FileView::Malformed => {
             add_file_line(alloc, found, file.path, MALFORMED)?;
             Ok(())
         }

@@ -8,14 +8,12 @@ mod judge;
 mod lines;
 mod members;
 mod named;
-mod unbuilt;
 mod view;
 mod whole;
 
 pub use error::RulesError;
-pub use faults::{is_memory, is_unbuilt};
+pub use faults::is_memory;
 pub use files::rules;
 pub use judge::{Judged, judge_files};
 pub use named::units_of_path;
-pub use unbuilt::first_unbuilt;
 pub use view::{FileView, view_file};

@@ -3,8 +3,8 @@ ghost use Rattle.dj_report.specs.Lines.{Adds};
 ghost use Rattle.dj_rules.specs.Lines.{IsPairLine, pair_text};
 
 use crate::error::RulesError;
-use dj_class::Pool;
 use dj_names::Name;
+use dj_pool::Pool;
 use dj_report::{Violation, add_line};
 use std::alloc::Global;
 

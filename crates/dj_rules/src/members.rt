@@ -1,15 +1,15 @@
-ghost use Rattle.std.specs.Prelude.{◌≡◌, ◌↔◌, ℕ, false, Some, All, Contains, OnOk, IsTrue};
-ghost use Rattle.dj_class.specs.ClassFile.{text_at};
+ghost use Rattle.std.specs.Prelude.{◌≡◌, ◌↔◌, ℕ, Some, Contains, OnOk, IsTrue};
+ghost use Rattle.dj_pool.specs.Pool.{text_at};
 ghost use Rattle.dj_class.specs.Members.{member_of};
 ghost use Rattle.dj_class.specs.Views.{class_of};
 ghost use Rattle.dj_report.specs.Lines.{Adds, Gains, IsLineAmong};
 ghost use Rattle.dj_rules.specs.Lines.{IsPairLine, pair_of};
-ghost use Rattle.dj_rules.specs.Reads.{AreUnbarred};
 ghost use Rattle.dj_rules.specs.Violations.{IsNative, IsFinalizer, IsMethodLine};
 
 use crate::error::RulesError;
 use crate::lines::{MemberLines, add_member_line};
-use dj_class::{ClassView, MemberView, Pool};
+use dj_class::{ClassView, MemberView};
+use dj_pool::Pool;
 use dj_report::Violation;
 use std::alloc::Global;
 
@@ -18,13 +18,10 @@ const NATIVE: u8 = 7;
 
 const FINALIZER: u8 = 8;
 
-// JVMS table 4.6-A.
-const ACC_NATIVE: u16 = 0x0100;
-
 fn is_native(method: &MemberView<'_>) -> bool
     ensures { IsTrue result ↔ IsNative (member_of method.now) }
 {
-    method.flags & ACC_NATIVE != 0
+    method.access().is_native()
 }
 
 fn is_text(pool: &Pool<'_>, index: u16, text: &[u8]) -> bool
@@ -130,16 +127,4 @@ pub fn add_finalizer_lines(
         rule: FINALIZER,
     };
     add_pair_lines(alloc, found, &lines, &each_once(pairs))
-}
-
-/// Whether a method is native or a finalizer.
-pub fn has_barred_method(pool: &Pool<'_>, methods: &[MemberView<'_>]) -> bool
-    ensures { result ≡ false → All (AreUnbarred pool.now) methods.now }
-{
-    for method in methods {
-        if is_native(method) || is_finalizer(pool, method) {
-            return true;
-        }
-    }
-    false
 }

@@ -1,9 +1,9 @@
 ghost use Rattle.std.specs.Prelude.{◌≡◌, ◌<◌, ◌^◌, length, Err, IfOk};
 ghost use Rattle.dj_class.specs.Views.{ReadsClass};
-ghost use Rattle.dj_rules.specs.Reads.{IsViewOf, shows_unbuilt};
+ghost use Rattle.dj_rules.specs.Reads.{IsViewOf};
 
 use crate::error::RulesError;
-use crate::faults::{is_memory, is_unbuilt};
+use crate::faults::is_memory;
 use dj_class::{ClassError, ClassView, read_class};
 use std::alloc::Global;
 
@@ -14,15 +14,6 @@ pub enum FileView<'a> {
     Class(ClassView<'a>),
     /// No class file.
     Malformed,
-    /// A file that has a constant which is not read yet.
-    Unbuilt,
-}
-
-/// Whether a constant is not read yet.
-pub fn shows_unbuilt(view: &FileView<'_>) -> bool
-    ensures { result ≡ shows_unbuilt view.now }
-{
-    matches!(view, FileView::Unbuilt)
 }
 
 // What the bytes are that were not read for this reason.
@@ -32,8 +23,6 @@ fn view_of_fault<'a>(bytes: &'a [u8], error: ClassError) -> Result<FileView<'a>,
 {
     if is_memory(error) {
         Err(RulesError::Memory)
-    } else if is_unbuilt(error) {
-        Ok(FileView::Unbuilt)
     } else {
         Ok(FileView::Malformed)
     }

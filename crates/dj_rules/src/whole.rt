@@ -1,11 +1,11 @@
-ghost use Rattle.std.specs.Prelude.{◌≡◌, ◌↔◌, ◌<◌, ◌^◌, true, length, IsTrue, OnOk, IfOk};
+ghost use Rattle.std.specs.Prelude.{◌≡◌, ◌↔◌, ◌<◌, ◌^◌, length, IsTrue, OnOk};
 ghost use Rattle.dj_report.specs.declared.report.Violation.{Violation};
 ghost use Rattle.dj_class.specs.Views.{class_of};
 ghost use Rattle.dj_report.specs.Lines.{file_line, Adds};
 ghost use Rattle.dj_rules.specs.Violations.{this_name, HasOtherVersion, IsNamedAs, IsClassLine};
 
 use crate::error::RulesError;
-use crate::members::{add_finalizer_lines, add_native_lines, has_barred_method};
+use crate::members::{add_finalizer_lines, add_native_lines};
 use crate::named::is_named_as;
 use dj_class::ClassView;
 use dj_report::{Violation, add_file_line};
@@ -76,15 +76,4 @@ pub fn add_class_lines(
     add_name_lines(alloc, found, path, view)?;
     add_native_lines(alloc, found, path, view)?;
     add_finalizer_lines(alloc, found, path, view)
-}
-
-/// Whether a file that is this class file has no line.
-pub fn is_clean_class(alloc: Global, path: &str, view: &ClassView<'_>) -> Result<bool, RulesError>
-    requires { length (this_name (class_of view.now)) < 2 ^ 32 }
-    ensures { IfOk result (λ clean. clean ≡ true → (v : Violation) → IsClassLine path.now (class_of view.now) v → ⊥) }
-{
-    if has_other_version(view) || has_barred_method(&view.pool, view.methods.as_slice()) {
-        return Ok(false);
-    }
-    is_named_as(alloc, path, class_name(view))
 }

@@ -2,7 +2,7 @@ ghost use Rattle.std.specs.Prelude.{◌<◌, ◌^◌, length, All};
 
 use dj_names::{Kind, Name, Outcome, Thresholds, Value};
 use dj_report::PathFile;
-use dj_rules::{Judged, RulesError, judge_files};
+use dj_rules::{RulesError, judge_files};
 use dj_straight::{
     Action, Ending, IntOperation, StraightMethod, StraightSet, run_method, shape_fault,
     straight_set,
@@ -38,10 +38,7 @@ fn is_class_a(set: &StraightSet) -> bool {
 fn set_of_files(alloc: Global, files: &[PathFile<'_>]) -> Result<Option<StraightSet>, RulesError>
     requires { All (λ file. length file.bytes.now < 2 ^ 32) files.now }
 {
-    match judge_files(alloc, files)? {
-        Judged::Built(_, only) => straight_set(alloc, files, only),
-        Judged::Unbuilt(_) => Ok(None),
-    }
+    straight_set(alloc, files, judge_files(alloc, files)?.only)
 }
 
 #[test]

@@ -6,3 +6,4 @@ pub mod SomeLines
 pub mod SomeRun
 pub mod OneJudgement
 pub mod SomeJudgement
+mod Facts

@@ -1,15 +1,12 @@
 -- Files are judged in one way at most: no stage both decides and hands on, and none decides two reports.
-use Rattle.std.proofs.Common.{◌≡◌, ℕ, List, [], ◌∷◌, Some, None, refl, sym, ap, ◌∙◌, subst, inl, inr}
-use Rattle.std.specs.List.{AllByRecursion}
+use Rattle.std.proofs.Common.{◌≡◌, ℕ, List, [], ◌∷◌, Some, None, refl, sym, ap, ◌∙◌, subst}
 use Rattle.dj_names.specs.declared.run.Outcome.{Outcome}
 use Rattle.dj_names.specs.declared.run.Costs.{Costs}
 use Rattle.dj_edge.specs.Held.{File}
-use Rattle.dj_edge.proofs.Lists.{cut_cases, at_cut}
 use Rattle.dj_report.specs.Stages.{DecidesOne, DecideOne}
 use Rattle.dj_report.specs.declared.report.Report.TheVariants as reports
 use Rattle.dj_report.specs.declared.report.Violation.{Violation}
 use Rattle.dj_report.proofs.InOrder.{same_violations}
-use Rattle.dj_rules.specs.Built.{IsBuilt, IsFirstUnbuilt}
 use Rattle.dj_rules.specs.Violations.{AreViolations}
 use Rattle.dj_straight.specs.Program.{Program}
 use Rattle.dj_straight.specs.Metered.{RunsTo}
@@ -18,20 +15,7 @@ use Rattle.dj_straight.specs.Straight.{IsStraightSet}
 use Rattle.dj_straight.proofs.Straights.{one_program}
 use Rattle.dj_sandbox.specs.Limits.{default_thresholds}
 use Rattle.dj_sandbox.specs.Entry.{entry_method, AreRunViolations}
-use Rattle.dj_sandbox.specs.Judging.{ReadsConstants, JudgesFiles, Accepts, FindsStraight, JudgesRun, Runs, IsFirstPath, check_stages, run_stages}
-
-not_unbuilt : (files : List File) (path : List ℕ) → AllByRecursion IsBuilt files → IsFirstUnbuilt files path → ⊥
-not_unbuilt files path built first = at_cut IsBuilt first.front first.file first.rest (subst (AllByRecursion IsBuilt) first.parts built) first.place first.unbuilt
-
-same_path : (files : List File) (p q : List ℕ) → IsFirstUnbuilt files p → IsFirstUnbuilt files q → p ≡ q
-same_path files p q a b =
-    elim (cut_cases a.front b.front a.file b.file a.rest b.rest (sym a.parts ∙ b.parts)) [
-      | inl e ↦ absurd (at_cut IsBuilt a.front a.file e.0 (subst (AllByRecursion IsBuilt) e.1 b.before) a.place a.unbuilt)
-      | inr c ↦ elim c [
-        | inl same ↦ a.path_is ∙ ap (λ (f : File). f.0) same ∙ sym b.path_is
-        | inr e ↦ absurd (at_cut IsBuilt b.front b.file e.0 (subst (AllByRecursion IsBuilt) e.1 a.before) b.place b.unbuilt)
-      ]
-    ]
+use Rattle.dj_sandbox.specs.Judging.{JudgesFiles, Accepts, FindsStraight, JudgesRun, Runs, IsFirstPath, check_stages, run_stages}
 
 same_lines : (files : List File) (xs ys : List Violation) → AreViolations files xs → AreViolations files ys → xs ≡ ys
 same_lines files xs ys a b =
@@ -52,12 +36,6 @@ same_first_path [] p q a b = absurd a
 same_first_path (file ∷ files) p q a b = a ∙ sym b
 
 -- ---- stage by stage
-
-constants_one : (files : List File) → DecidesOne (ReadsConstants files)
-constants_one files (Some r) (Some s) (p, r-is, a) (q, s-is, b) = ap Some (r-is ∙ ap reports.Later (same_path files p q a b) ∙ sym s-is)
-constants_one files (Some r) None (p, r-is, a) built = absurd (not_unbuilt files p built a)
-constants_one files None (Some s) built (q, s-is, b) = absurd (not_unbuilt files q built b)
-constants_one files None None a b = refl
 
 files_one : (files : List File) → DecidesOne (JudgesFiles files)
 files_one files (Some r) (Some s) (xs, r-is, a, some) (ys, s-is, b, other) = ap Some (r-is ∙ ap reports.Rejected (same_lines files xs ys a b) ∙ sym s-is)
@@ -100,7 +78,7 @@ runs_one files class input None b none p = absurd none
 -- ---- the order of work
 
 pub check_one : (files : List File) → DecideOne (check_stages files)
-check_one files = (constants_one files, (files_one files, (accepts_one files, tt)))
+check_one files = (files_one files, (accepts_one files, tt))
 
 pub run_one : (files : List File) (class input : List ℕ) → DecideOne (run_stages files class input)
-run_one files class input = (constants_one files, (files_one files, (straight_one files, (run_lines_one files class, (runs_one files class input, tt)))))
+run_one files class input = (files_one files, (straight_one files, (run_lines_one files class, (runs_one files class input, tt))))

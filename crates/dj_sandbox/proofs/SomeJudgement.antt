@@ -1,56 +1,18 @@
 -- Files are not without a report: each stage of judging them has an answer where those before it handed on.
-use Rattle.std.proofs.Common.{◌≢◌, ℕ, List, [], ◌∷◌, length, Option, Some, None, refl, ap, inl, inr}
-use Rattle.std.specs.Prelude.{◌⊎◌}
-use Rattle.std.specs.List.{AllByRecursion}
+use Rattle.std.proofs.Common.{◌≢◌, ℕ, List, [], ◌∷◌, length, Option, Some, None, refl, inl, inr}
 use Rattle.dj_edge.specs.Held.{File}
-use Rattle.dj_class.specs.Unbuilt.{IsUnbuiltAt}
 use Rattle.dj_report.specs.Stages.{Stage, Answers, AnswerInTurn}
 use Rattle.dj_report.specs.declared.report.Report.{Report}
 use Rattle.dj_report.specs.declared.report.Report.TheVariants as reports
 use Rattle.dj_report.specs.declared.report.Violation.{Violation}
-use Rattle.dj_rules.specs.Built.{IsBuilt, IsFirstUnbuilt}
 use Rattle.dj_rules.specs.Violations.{AreViolations}
 use Rattle.dj_straight.specs.Program.{Program}
 use Rattle.dj_straight.specs.Straight.{IsStraightSet, IsNotStraight}
 use Rattle.dj_sandbox.specs.Entry.{AreRunViolations}
-use Rattle.dj_sandbox.specs.Judging.{ReadsConstants, JudgesFiles, Accepts, FindsStraight, JudgesRun, Runs, check_stages, run_stages}
-use Rattle.dj_sandbox.proofs.Classical.{NotNot, unit, bind, so, decide}
+use Rattle.dj_sandbox.specs.Judging.{JudgesFiles, Accepts, FindsStraight, JudgesRun, Runs, check_stages, run_stages}
+use Rattle.dj_sandbox.proofs.Classical.{NotNot, so, decide}
 use Rattle.dj_sandbox.proofs.SomeLines.{some_violations}
 use Rattle.dj_sandbox.proofs.SomeRun.{some_run_violations, some_end}
-
-some_built : (files : List File) → NotNot (AllByRecursion IsBuilt files ⊎ ((path : List ℕ) × IsFirstUnbuilt files path))
-some_built [] = unit (inl tt)
-some_built (file ∷ files) = bind (decide ((place : ℕ) × IsUnbuiltAt file.1 place)) (elim [
-  | inl (place, unbuilt) ↦ unit (inr (
-    file.0,
-    record {
-      front = [];
-      file = file;
-      rest = files;
-      place = place;
-      parts = refl;
-      before = tt;
-      unbuilt = unbuilt;
-      path_is = refl;
-    },
-  ))
-  | inr not ↦ so (some_built files) (elim [
-    | inl all ↦ inl ((λ place unbuilt. not (place, unbuilt)), all)
-    | inr (path, first) ↦ inr (
-      path,
-      record {
-        front = file ∷ first.front;
-        file = first.file;
-        rest = first.rest;
-        place = first.place;
-        parts = ap (λ (more : List File). file ∷ more) first.parts;
-        before = ((λ place unbuilt. not (place, unbuilt)), first.before);
-        unbuilt = first.unbuilt;
-        path_is = first.path_is;
-      },
-    )
-  ])
-])
 
 -- an answer, where there is one
 pub answers : (stage : Stage Report) → NotNot ((a : Option Report) × stage a) → Answers stage
@@ -60,12 +22,6 @@ not_nil : (v : Violation) (violations : List Violation) → v ∷ violations ≢
 not_nil v violations e = absurd cc
 
 -- ---- stage by stage
-
-constants_answer : (files : List File) → Answers (ReadsConstants files)
-constants_answer files = answers (ReadsConstants files) (so (some_built files) (elim [
-  | inl built ↦ (None, built)
-  | inr (path, first) ↦ (Some (reports.Later path), (path, refl, first))
-]))
 
 judged_files : (files : List File) (violations : List Violation) → AreViolations files violations → (a : Option Report) × JudgesFiles files a
 judged_files files [] are = (None, are)
@@ -106,17 +62,13 @@ runs_answer files class input (program, straight, none) =
 -- ---- the order of work
 
 pub check_answers : (files : List File) → AnswerInTurn (check_stages files)
-check_answers files = (constants_answer files, λ built. (files_answer files, λ none. (accepts_answers files, λ on. on)))
+check_answers files = (files_answer files, λ none. (accepts_answers files, λ on. on))
 
 pub run_answers : (files : List File) (class input : List ℕ) → AnswerInTurn (run_stages files class input)
 run_answers files class input = (
-  constants_answer files,
-  λ built. (
-    files_answer files,
-    λ none. (
-      straight_answers files,
-      λ straight.
-          (run_lines_answer files class straight, λ lines. (runs_answer files class input lines, λ on. on)),
-    ),
+  files_answer files,
+  λ none. (
+    straight_answers files,
+    λ straight. (run_lines_answer files class straight, λ lines. (runs_answer files class input lines, λ on. on)),
   ),
 )

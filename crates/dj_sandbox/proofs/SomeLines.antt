@@ -1,8 +1,9 @@
 -- The lines of files: whatever the files are, there is a list of them.
 use Rattle.std.proofs.Common.{◌≡◌, ℕ, ◌⊎◌, List, Contains, subst, inl, inr}
 use Rattle.dj_edge.specs.Held.{File}
-use Rattle.dj_class.specs.ClassFile.{Constant, MemberInfo, ClassFile, IsClassFile}
-use Rattle.dj_class.proofs.TestsAre.{tests_decide}
+use Rattle.dj_pool.specs.Pool.{Constant}
+use Rattle.dj_class.specs.ClassFile.{MemberInfo, ClassFile, IsClassFile}
+use Rattle.dj_pool.proofs.Decides.{tests_decide}
 use Rattle.dj_class.proofs.ClassLaws.{one_class_file}
 use Rattle.dj_report.specs.declared.report.Violation.{Violation}
 use Rattle.dj_report.specs.Lines.{file_line, member_line}

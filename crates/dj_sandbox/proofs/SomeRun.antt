@@ -4,7 +4,8 @@ use Rattle.std.specs.List.{AllByRecursion}
 use Rattle.dj_edge.specs.Held.{File}
 use Rattle.dj_names.specs.declared.run.Outcome.{Outcome}
 use Rattle.dj_names.specs.declared.run.Costs.{Costs}
-use Rattle.dj_class.specs.ClassFile.{Constant, MemberInfo}
+use Rattle.dj_pool.specs.Pool.{Constant}
+use Rattle.dj_class.specs.ClassFile.{MemberInfo}
 use Rattle.dj_straight.specs.Program.{Name, Program, HasNoFields, Class, Method, Code, Body, Abstract, Runs, same_name, method_in, body_code, code_in, code_of, runs_static}
 use Rattle.dj_straight.specs.FrameKinds.{Signature}
 use Rattle.dj_straight.specs.Shape.{HasShape, IsShapeFault}

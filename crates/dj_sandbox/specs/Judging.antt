@@ -1,6 +1,5 @@
 -- The order in which class files that were read are judged, and one of them is run. A file is its path within the folder, with its bytes.
 use Rattle.std.specs.Prelude.{◌≡◌, ◌≢◌, ℕ, List, [], ◌∷◌, Some, None, length}
-use Rattle.std.specs.List.{AllByRecursion}
 use Rattle.dj_names.specs.declared.run.Outcome.{Outcome}
 use Rattle.dj_names.specs.declared.run.Costs.{Costs}
 use Rattle.dj_edge.specs.Held.{File}
@@ -8,18 +7,12 @@ use Rattle.dj_report.specs.Stages.{Stage}
 use Rattle.dj_report.specs.declared.report.Report.{Report}
 use Rattle.dj_report.specs.declared.report.Report.TheVariants as reports
 use Rattle.dj_report.specs.declared.report.Violation.{Violation}
-use Rattle.dj_rules.specs.Built.{IsBuilt, IsFirstUnbuilt}
 use Rattle.dj_rules.specs.Violations.{AreViolations}
 use Rattle.dj_straight.specs.Program.{Program}
 use Rattle.dj_straight.specs.Metered.{RunsTo}
 use Rattle.dj_straight.specs.Straight.{IsStraightSet, IsNotStraight}
 use Rattle.dj_sandbox.specs.Limits.{default_thresholds}
 use Rattle.dj_sandbox.specs.Entry.{entry_method, AreRunViolations}
-
--- all constants are read; or else the first file that has another is told
-abbrev pub ReadsConstants : List File → Stage Report
-ReadsConstants files (Some report) = (path : List ℕ) × (report ≡ reports.Later path) × IsFirstUnbuilt files path
-ReadsConstants files None = AllByRecursion IsBuilt files
 
 -- no rule is violated that is judged of every set; or else the violations are told
 abbrev pub JudgesFiles : List File → Stage Report
@@ -57,9 +50,9 @@ Runs files class input None = ⊥
 
 -- how files are checked
 abbrev pub check_stages : List File → List (Stage Report)
-check_stages files = ReadsConstants files ∷ JudgesFiles files ∷ Accepts files ∷ []
+check_stages files = JudgesFiles files ∷ Accepts files ∷ []
 
 -- how files are checked, and the class of this name is run on these bytes
 abbrev pub run_stages : List File → List ℕ → List ℕ → List (Stage Report)
 run_stages files class input =
-    ReadsConstants files ∷ JudgesFiles files ∷ FindsStraight files ∷ JudgesRun files class ∷ Runs files class input ∷ []
+    JudgesFiles files ∷ FindsStraight files ∷ JudgesRun files class ∷ Runs files class input ∷ []

@@ -5,10 +5,10 @@ use Rattle.std.specs.List.{list_any}
 abbrev pub IsAmong : ℕ → List ℕ → Type 0
 IsAmong status statuses = IsTrue (list_any (nat_eq status) statuses)
 
--- accepted, rejected, or not read yet
+-- accepted or rejected
 abbrev pub check_statuses : List ℕ
-check_statuses = 0 ∷ 2 ∷ 75 ∷ []
+check_statuses = 0 ∷ 2 ∷ []
 
--- a result, an exception, rejected, a threshold, or not read or run yet
+-- a result, an exception, rejected, a threshold, or not run yet
 abbrev pub run_statuses : List ℕ
 run_statuses = 0 ∷ 1 ∷ 2 ∷ 3 ∷ 75 ∷ []

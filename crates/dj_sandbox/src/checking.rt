@@ -1,23 +1,14 @@
-ghost use Rattle.std.specs.Prelude.{◌≡◌, ◌<◌, ◌≤◌, ◌^◌, length, map, All, IfOk};
+ghost use Rattle.std.specs.Prelude.{◌<◌, ◌≤◌, ◌^◌, length, map, All, IfOk};
 ghost use Rattle.dj_report.specs.Stages.{IsDecided};
 ghost use Rattle.dj_report.specs.Text.{report_status};
-ghost use Rattle.dj_report.specs.declared.report.Report.TheVariants.{Later};
 ghost use Rattle.dj_rules.specs.Views.{path_file_view};
 ghost use Rattle.dj_sandbox.specs.Judging.{check_stages};
 ghost use Rattle.dj_sandbox.specs.Limits.{most_files};
 ghost use Rattle.dj_sandbox.specs.Statuses.{IsAmong, check_statuses};
 
-use dj_names::Name;
 use dj_report::{PathFile, Report};
-use dj_rules::{Judged, RulesError, judge_files};
+use dj_rules::{RulesError, rules};
 use std::alloc::Global;
-
-/// The report that the file of this path is not read yet.
-pub fn later(alloc: Global, path: &str) -> Result<Report, RulesError>
-    ensures { IfOk result (λ report. report ≡ Later path.now) }
-{
-    Ok(Report::Later(Name::from_slice(alloc, path.as_bytes())?))
-}
 
 /// The report on class files, each under its path within the folder.
 pub fn check(alloc: Global, files: &[PathFile<'_>]) -> Result<Report, RulesError>
@@ -26,10 +17,7 @@ pub fn check(alloc: Global, files: &[PathFile<'_>]) -> Result<Report, RulesError
     ensures decided { IfOk result (IsDecided (check_stages (map path_file_view files.now))) }
     ensures status { IfOk result (λ report. IsAmong (report_status report) check_statuses) }
 {
-    let violations = match judge_files(alloc, files)? {
-        Judged::Unbuilt(path) => return later(alloc, path),
-        Judged::Built(violations, _) => violations,
-    };
+    let violations = rules(alloc, files)?;
     if !violations.as_slice().is_empty() {
         return Ok(Report::Rejected(violations));
     }

@@ -15,11 +15,10 @@ ghost use Rattle.dj_sandbox.specs.Judging.{IsFirstPath, run_stages};
 ghost use Rattle.dj_sandbox.specs.Shaped.{AreShaped};
 ghost use Rattle.dj_sandbox.specs.Statuses.{IsAmong, run_statuses};
 
-use crate::checking::later;
 use crate::run_rules::{entry_of, run_violations};
-use dj_names::Thresholds;
+use dj_names::{Name, Thresholds};
 use dj_report::{PathFile, Report};
-use dj_rules::{Judged, RulesError, judge_files};
+use dj_rules::{RulesError, judge_files};
 use dj_straight::{Ending, StraightSet, run_method, straight_set};
 use std::alloc::Global;
 
@@ -30,6 +29,13 @@ const THRESHOLDS: Thresholds = Thresholds {
     jump: 1_000_000,
     throw: 1_000_000,
 };
+
+// The report that the set with the file of this path is not run yet.
+fn later(alloc: Global, path: &str) -> Result<Report, RulesError>
+    ensures { IfOk result (λ report. report ≡ Later path.now) }
+{
+    Ok(Report::Later(Name::from_slice(alloc, path.as_bytes())?))
+}
 
 /// The report that a set which isn't straight is not run yet, by its first file.
 fn later_first(alloc: Global, files: &[PathFile<'_>]) -> Result<Report, RulesError>
@@ -78,14 +84,10 @@ pub fn verify(
     ensures status { IfOk result (λ report. IsAmong (report_status report) run_statuses) }
 {
     let judged = judge_files(alloc, files)?;
-    let (violations, only) = match judged {
-        Judged::Unbuilt(path) => return later(alloc, path),
-        Judged::Built(violations, only) => (violations, only),
-    };
-    if !violations.as_slice().is_empty() {
-        return Ok(Report::Rejected(violations));
+    if !judged.violations.as_slice().is_empty() {
+        return Ok(Report::Rejected(judged.violations));
     }
-    let Some(set) = straight_set(alloc, files, only)? else {
+    let Some(set) = straight_set(alloc, files, judged.only)? else {
         return later_first(alloc, files);
     };
     let violations = run_violations(alloc, files, &set.class, class)?;

@@ -1,3 +1,5 @@
+pub mod StraightInstrs
+pub mod Cuts
 pub mod ArrayLaws
 pub mod StraightRuns
 pub mod Linked
@@ -18,3 +20,4 @@ mod FrameFacts
 mod ShapeFacts
 mod RunFacts
 mod StraightFacts
+pub mod Unread

@@ -4,7 +4,8 @@ use Rattle.std.specs.List.{flat_map, AllByRecursion}
 use Rattle.std.proofs.lemmas.List.{take_more, map_push}
 use Rattle.std.proofs.lemmas.Grind.{flat_map-append}
 use Rattle.dj_class.specs.declared.class.Attribute.{Attribute}
-use Rattle.dj_class.specs.ClassFile.{Constant, AttributeInfo, IsAttribute}
+use Rattle.dj_pool.specs.Pool.{Constant}
+use Rattle.dj_class.specs.ClassFile.{AttributeInfo, IsAttribute}
 use Rattle.dj_class.specs.Parts.{attribute_of}
 use Rattle.dj_class.specs.Code.{CodeInfo, IsCode}
 use Rattle.dj_class.proofs.CodeLaws.{one_code}

@@ -18,7 +18,8 @@ use Rattle.std.specs.Prelude.{Vec}
 use Rattle.std.specs.Global.{Global}
 use Rattle.std.proofs.lemmas.List.{length-map, take_more, get_or-map}
 use Rattle.dj_straight.specs.Finds.{Finds, now_of, names_view}
-use Rattle.dj_class.specs.ClassFile.{Constant, MemberInfo, text_at}
+use Rattle.dj_pool.specs.Pool.{Constant, text_at}
+use Rattle.dj_class.specs.ClassFile.{MemberInfo}
 use Rattle.dj_straight.specs.Program.{Method}
 use Rattle.dj_straight.specs.Straight.{IsPlainMethod, ArePlainNames, AreStraightMethods, AreDistinctMethods}
 

@@ -5,12 +5,13 @@ use Rattle.std.proofs.lemmas.List.{length-map}
 use Rattle.std.proofs.lemmas.List.Elements.{All-from_recursion}
 use Rattle.dj_edge.specs.Held.{File}
 use Rattle.dj_ops.specs.declared.instruction.Instr.{Instr}
-use Rattle.dj_ops.specs.Cuts.{AreInstructions}
-use Rattle.dj_ops.proofs.Cuts.{one_cut_from}
-use Rattle.dj_class.specs.ClassFile.{Constant, AttributeInfo, MemberInfo, ClassFile, IsClassFile, text_at}
+use Rattle.dj_straight.specs.Cuts.{AreInstructions}
+use Rattle.dj_straight.proofs.Cuts.{one_cut_from}
+use Rattle.dj_pool.specs.Pool.{Constant, text_at}
+use Rattle.dj_class.specs.ClassFile.{AttributeInfo, MemberInfo, ClassFile, IsClassFile}
 use Rattle.dj_class.specs.Code.{CodeInfo}
 use Rattle.dj_class.proofs.CodeLaws.{one_code}
-use Rattle.dj_class.proofs.TestsAre.{tests_decide}
+use Rattle.dj_pool.proofs.Decides.{tests_decide}
 use Rattle.dj_class.proofs.ClassLaws.{one_class_file}
 use Rattle.dj_straight.specs.Instructions.{instruction_of}
 use Rattle.dj_straight.specs.Program.{Name, Program, HasNoFields, Class, Method, Code, Runs, same_name, method_in, runs_static, initialiser_name, class_has_initialiser, has_initialiser}

@@ -8,7 +8,7 @@ use Rattle.dj_names.specs.declared.run.Element.{Element}
 use Rattle.dj_names.specs.declared.run.Element.TheVariants as elements
 use Rattle.dj_ops.specs.declared.instruction.Instr.{Instr}
 use Rattle.dj_ops.specs.declared.instruction.Instr.TheVariants as instrs
-use Rattle.dj_ops.specs.Straight.{first_byte}
+use Rattle.dj_straight.specs.StraightInstrs.{first_byte}
 
 -- what is computed from two ints
 pub data IntOperation : Type 0 where

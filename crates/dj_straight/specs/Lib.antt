@@ -1,3 +1,5 @@
+pub mod StraightInstrs
+pub mod Cuts
 pub mod Objects
 pub mod Instructions
 pub mod StackMaps

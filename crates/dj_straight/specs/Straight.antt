@@ -5,8 +5,9 @@ use Rattle.std.specs.Int.{IsBitSet}
 use Rattle.std.specs.List.{list_any, flat_map, starts_with}
 use Rattle.dj_edge.specs.Held.{File}
 use Rattle.dj_ops.specs.declared.instruction.Instr.{Instr}
-use Rattle.dj_ops.specs.Cuts.{AreInstructions}
-use Rattle.dj_class.specs.ClassFile.{Constant, AttributeInfo, MemberInfo, ClassFile, IsClassFile, text_at, class_name_at}
+use Rattle.dj_straight.specs.Cuts.{AreInstructions}
+use Rattle.dj_pool.specs.Pool.{Constant, text_at, class_name_at}
+use Rattle.dj_class.specs.ClassFile.{AttributeInfo, MemberInfo, ClassFile, IsClassFile}
 use Rattle.dj_class.specs.Code.{CodeInfo, IsCode}
 use Rattle.dj_straight.specs.Instructions.{instruction_of}
 use Rattle.dj_straight.specs.Program.{Program, Class, Method, Code, Runs}

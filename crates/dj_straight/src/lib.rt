@@ -2,12 +2,14 @@
 //! rewritten classes, and nothing else stands on them.
 #![tactic(auto)]
 
+mod cut;
 mod laws;
 mod machine;
 mod program;
 mod shape;
 mod straight;
 
+pub use cut::{cut_is_straight, one_cut, read_instrs};
 pub use laws::{
     no_fault_with_shape, one_end, one_shape_fault, same_in_every_program, shape_or_fault,
     sound_effect, straight_code_ends, worked_runs,

@@ -1,6 +1,6 @@
 ghost use Rattle.std.specs.Prelude.{◌≡◌};
 ghost use Rattle.dj_straight.specs.Instructions.{instruction_of, local_does, local_rows, new_array, simple};
-ghost use Rattle.dj_ops.specs.Straight.{first_byte};
+ghost use Rattle.dj_straight.specs.StraightInstrs.{first_byte};
 ghost use Rattle.dj_straight.specs.Methods.{action_view};
 
 use dj_names::{Kind, Name, Value};
@@ -83,7 +83,7 @@ pub fn action_of(instr: &Instr) -> Action
 }
 
 /// The byte with which an instruction begins.
-fn first_byte(instr: &Instr) -> u8
+pub fn first_byte(instr: &Instr) -> u8
     ensures { result ≡ first_byte instr.now }
 {
     match instr {

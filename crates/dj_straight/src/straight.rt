@@ -1,5 +1,6 @@
 ghost use Rattle.std.specs.Prelude.{◌≡◌, ◌↔◌, [], Some, map, IsTrue, IfOk, IfSome, MatchOption};
-ghost use Rattle.dj_class.specs.ClassFile.{class_name_at, IsValid};
+ghost use Rattle.dj_pool.specs.Pool.{class_name_at};
+ghost use Rattle.dj_class.specs.ClassFile.{IsValid};
 ghost use Rattle.dj_class.specs.Views.{class_of};
 ghost use Rattle.dj_straight.specs.Methods.{object_name, class_view, program_view};
 ghost use Rattle.dj_straight.specs.Running.{AreRunnable};
@@ -96,7 +97,7 @@ fn class_of_file(
 {
     match view {
         FileView::Class(class) => straight_class(alloc, class),
-        FileView::Malformed | FileView::Unbuilt => Ok(None),
+        FileView::Malformed => Ok(None),
     }
 }
 

@@ -1,28 +1,10 @@
--- The limits, the thresholds, what is asked and the statuses of reports in plain values.
+-- What is asked and the statuses of reports in plain values.
 use Rattle.std.specs.Prelude.{◌≡◌, ℕ, List, [], ◌∷◌, ◌++◌, Some, None, map, codes}
 use Rattle.std.proofs.Common.{refl}
 use Rattle.dj_edge.specs.Held.{Held}
-use Rattle.dj_sandbox.specs.Limits.{most_files, most_file_bytes, most_total_bytes, most_input_bytes, default_thresholds}
 use Rattle.djvm_cli.specs.Job.{Check, Verify}
 use Rattle.djvm_cli.specs.Report.{class_paths, asks}
 use Rattle.djvm_cli.specs.Ends.{report_statuses, AsksInOrder}
-
-files : most_files ≡ 4096
-files = refl
-
-file_bytes : most_file_bytes ≡ 4194304
-file_bytes = refl
-
-total_bytes : most_total_bytes ≡ 67108864
-total_bytes = refl
-
-input_bytes : most_input_bytes ≡ 1048576
-input_bytes = refl
-
-thresholds : default_thresholds ≡ record { alloc = 67108864; invoke = 1000000; jump = 1000000; throw = 1000000 }
-thresholds = refl
-
--- ---- what a job asks, and its statuses
 
 verify_words : List (List ℕ)
 verify_words = codes "verify" ∷ codes "c/" ∷ codes "A" ∷ codes "in" ∷ []
@@ -45,5 +27,5 @@ asks_nothing held grows =
       none_is_some (x ∷ front) rest none some = absurd cc
 
 statuses : map report_statuses (None ∷ Some (Check []) ∷ Some (Verify [] [] []) ∷ [])
-    ≡ (64 ∷ []) ∷ (0 ∷ 2 ∷ 7 ∷ 75 ∷ []) ∷ (0 ∷ 1 ∷ 2 ∷ 3 ∷ 7 ∷ 65 ∷ 75 ∷ []) ∷ []
+    ≡ (64 ∷ []) ∷ (0 ∷ 2 ∷ 7 ∷ []) ∷ (0 ∷ 1 ∷ 2 ∷ 3 ∷ 7 ∷ 65 ∷ 75 ∷ []) ∷ []
 statuses = refl

@@ -2,7 +2,7 @@ pub mod Folders
 pub mod Loading
 pub mod Reporting
 pub mod Same
-pub mod EachOnce
 pub mod SomeLimits
 pub mod SomeReport
 mod Facts
+mod LimitFacts

@@ -64,7 +64,7 @@ OutOfMemory words held old new = Broken words held old new ⊎ Appends old new [
 -- the statuses of the reports of a job: ABSENT has 65
 abbrev pub report_statuses : Option Job → List ℕ
 report_statuses None = 64 ∷ []
-report_statuses (Some (Check folder)) = 0 ∷ 2 ∷ 7 ∷ 75 ∷ []
+report_statuses (Some (Check folder)) = 0 ∷ 2 ∷ 7 ∷ []
 report_statuses (Some (Verify folder entry input)) = 0 ∷ 1 ∷ 2 ∷ 3 ∷ 7 ∷ 65 ∷ 75 ∷ []
 
 -- every status that a call with these words ends with: those of its reports, and those of faults and of want of memory

@@ -4,24 +4,23 @@
 mod clock_host;
 mod cut;
 mod djvm;
-mod folder_files;
 mod laws;
-mod listing;
 mod load;
 mod out_sink;
+mod system;
 #[cfg(test)]
 mod tests;
-mod walk;
 mod words;
 
 use clock_host::ClockHost;
-use folder_files::FolderFiles;
+use dj_edge::FolderFiles;
 use out_sink::OutSink;
 use std::alloc::AllocError;
 use std::env;
 use std::io::ErrorKind;
 use std::process::ExitCode;
 use std::rt::Env;
+use system::SystemFiles;
 
 /// The words of the command line without the program's name, or none where one of them is not UTF-8.
 fn words_of<R: Env + AllocGlobal>(rt: &R) -> Result<Vec<String>, AllocError> {
@@ -42,7 +41,7 @@ fn main(rt: HostRuntime) -> ExitCode {
     let Ok(words) = words_of(&rt) else {
         return ExitCode::from(67);
     };
-    let mut files = FolderFiles::new(&rt);
+    let mut files = FolderFiles::new(rt.alloc(), SystemFiles::new(&rt));
     let mut host = ClockHost::new(&rt);
     let mut sink = OutSink::new(&rt);
     let status = djvm::djvm(rt.alloc(), &words, &mut files, &mut host, &mut sink);

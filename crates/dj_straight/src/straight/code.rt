@@ -8,9 +8,11 @@ ghost use Rattle.dj_straight.specs.Methods.{action_view};
 ghost use Rattle.dj_straight.specs.Straight.{is_named, bodies_of, IsStraightCode, IsStraightBody, HasStraightCode};
 ghost use Rattle.dj_straight.specs.Finds.{Finds, found_code};
 
+use crate::cut::read_instrs;
 use crate::program::{Action, action_of};
-use dj_class::{Attribute, CodeView, Pool, read_code};
-use dj_ops::{Instr, read_instrs};
+use dj_class::{Attribute, CodeView, read_code};
+use dj_ops::Instr;
+use dj_pool::Pool;
 use dj_rules::{RulesError, is_memory};
 use std::alloc::Global;
 

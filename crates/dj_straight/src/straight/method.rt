@@ -2,7 +2,8 @@ ghost use Rattle.std.specs.Prelude.{◌≡◌, ◌↔◌, map, Some, IsTrue, IfO
 ghost use Rattle.std.specs.Int.{IsBitSet};
 ghost use Rattle.std.specs.List.{AllByRecursion};
 ghost use Rattle.dj_edge.specs.Counts.{AllDiffer};
-ghost use Rattle.dj_class.specs.ClassFile.{text_at, IsAttribute, IsMethod};
+ghost use Rattle.dj_pool.specs.Pool.{text_at};
+ghost use Rattle.dj_class.specs.ClassFile.{IsAttribute, IsMethod};
 ghost use Rattle.dj_class.specs.Members.{member_of};
 ghost use Rattle.dj_straight.specs.Methods.{straight_descriptor, method_view};
 ghost use Rattle.dj_straight.specs.Straight.{IsPlainMethod, ArePlainNames, IsStraightMethod, AreStraightMethods, AreDistinctMethods};
@@ -10,8 +11,9 @@ ghost use Rattle.dj_straight.specs.Finds.{Finds, methods_view, names_view, now_o
 
 use crate::program::{ACC_STATIC, DESCRIPTOR, StraightMethod};
 use crate::straight::code::code_of_attributes;
-use dj_class::{MemberView, Pool};
+use dj_class::MemberView;
 use dj_names::Name;
+use dj_pool::Pool;
 use dj_rules::RulesError;
 use std::alloc::Global;
 use std::collections::BTreeSet;

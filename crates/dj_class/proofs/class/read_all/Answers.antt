@@ -40,4 +40,4 @@ returns c =
     let front : Front = record { header = ((c.in_ok-versions.versions.0, c.in_ok-versions.versions.1), cursor_of c.in_ok-versions.after); pool = (c.in_ok-pool.pool, cursor_of c.in_ok-pool.after); heading = (heading_of c.in_ok-opening.opening, cursor_of c.in_ok-opening.after) } in
     let h : ReadsFront c.args.file.now front = record { header = ap header_at (sym c.start-start.ensures) ∙ c.in_ok-versions.ensures; pool = rw c.in_ok-pool.ensures; heading = c.in_ok-opening.ensures } in
     let left : at_end (cursor_of c.in_ok-attributes.after) ≡ true = sym c.if-not-is_at_end.ensures in
-    has_attributes c.args.file.now front (c.in_ok-fields.fields, cursor_of c.in_ok-fields.after) (c.in_ok-methods.methods, cursor_of c.in_ok-methods.after) (c.in_ok-attributes.attributes, cursor_of c.in_ok-attributes.after) h c.in_ok-fields.ensures c.in_ok-methods.ensures c.in_ok-attributes.ensures ∙ rw left refl
+    has_attributes c.args.file.now front (c.in_ok-fields.fields, cursor_of c.in_ok-fields.after) (c.in_ok-methods.methods, cursor_of c.in_ok-methods.after) (c.in_ok-attributes.attributes, cursor_of c.in_ok-attributes.after) h c.in_ok-fields.ensures c.in_ok-methods.ensures c.in_ok-attributes.ensures ∙ rw (left, c.into_pool.ensures) refl

@@ -1,5 +1,5 @@
 use Rattle.std.proofs.Common.{arith}
-use Rattle.dj_class.proofs.TestsAre.{tests_decide}
+use Rattle.dj_pool.proofs.Decides.{tests_decide}
 use Rattle.dj_class.proofs.AnswerLaws.{reads_class}
 use Rattle.dj_class.proofs.class.read_class.Goals as goal
 

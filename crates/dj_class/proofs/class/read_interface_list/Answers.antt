@@ -2,7 +2,8 @@ use Rattle.std.proofs.lemmas.Result.{err_from_is_err_and}
 use Rattle.dj_bytes.specs.Reading.{many_at}
 use Rattle.dj_bytes.specs.Views.{cursor_of}
 use Rattle.dj_bytes.proofs.Loop.{goes_on, ends, is_done}
-use Rattle.dj_class.specs.Reading.{index_at, is_class}
+use Rattle.dj_pool.specs.Tests.{is_class}
+use Rattle.dj_class.specs.Reading.{index_at}
 use Rattle.dj_class.specs.Memory.{is_memory}
 use Rattle.dj_class.proofs.class.read_interface_list.Goals as goal
 

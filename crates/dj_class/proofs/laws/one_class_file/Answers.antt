@@ -1,4 +1,4 @@
-use Rattle.dj_class.proofs.TestsAre.{tests_decide}
+use Rattle.dj_pool.proofs.Decides.{tests_decide}
 use Rattle.dj_class.proofs.ClassLaws.{one_class_file}
 use Rattle.dj_class.proofs.laws.one_class_file.Goals as goal
 

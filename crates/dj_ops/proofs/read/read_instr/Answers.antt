@@ -1,15 +1,31 @@
-use Rattle.std.proofs.Common.{arith}
-use Rattle.dj_ops.proofs.Whole.{what_is_read, what_stands, what_is_refused, what_has_cause}
+use Rattle.std.proofs.Common.{ap, sym, subst, ◌∙◌, arith}
+use Rattle.dj_bytes.specs.Steps.{Fails}
+use Rattle.dj_bytes.specs.Reading.{Cursor}
+use Rattle.dj_bytes.specs.Views.{cursor_of}
+use Rattle.dj_ops.specs.Reading.{is_memory, instr_at}
+use Rattle.dj_ops.proofs.Whole.{what_is_read, read_all_read, read_all_refused, failed_all_read, failed_refused, failed_all_refused}
 use Rattle.dj_ops.proofs.read.read_instr.Goals as goal
 
-pub returns-clause-read : goal.returns-clause-read
-returns-clause-read c = what_is_read c.args.code.now c.args.at c.instr_of.result (λ i. omega (arith, c.type_inv.code i)) c.requires.within c.instr_of.ensures
+pub returns-in-Ok-clause-read : goal.returns-in-Ok-clause-read
+returns-in-Ok-clause-read c =
+    what_is_read c.args.code.now c.args.at (c.in-Ok.instr, cursor_of c.in-Ok.after) (λ i. omega (arith, c.type_inv.code i)) c.requires.within (ap instr_at (sym c.at.ensures) ∙ c.in-Ok.ensures)
 
-pub returns-clause-all_read : goal.returns-clause-all_read
-returns-clause-all_read c = what_stands c.args.code.now c.args.at c.instr_of.result c.instr_of.ensures
+pub returns-in-Ok-clause-all_read : goal.returns-in-Ok-clause-all_read
+returns-in-Ok-clause-all_read c =
+    read_all_read c.args.code.now c.args.at (c.in-Ok.instr, cursor_of c.in-Ok.after) (ap instr_at (sym c.at.ensures) ∙ c.in-Ok.ensures)
 
-pub returns-clause-refused : goal.returns-clause-refused
-returns-clause-refused c = what_is_refused c.args.code.now c.args.at c.instr_of.result (λ i. omega (arith, c.type_inv.code i)) c.requires.within c.instr_of.ensures
+pub returns-in-Ok-clause-all_refused : goal.returns-in-Ok-clause-all_refused
+returns-in-Ok-clause-all_refused c =
+    read_all_refused c.args.code.now c.args.at (c.in-Ok.instr, cursor_of c.in-Ok.after) (λ i. omega (arith, c.type_inv.code i)) c.requires.within (ap instr_at (sym c.at.ensures) ∙ c.in-Ok.ensures)
 
-pub returns-clause-all_refused : goal.returns-clause-all_refused
-returns-clause-all_refused c = what_has_cause c.args.code.now c.args.at c.instr_of.result (λ i. omega (arith, c.type_inv.code i)) c.requires.within c.instr_of.ensures
+pub returns-in-Err-clause-all_read : goal.returns-in-Err-clause-all_read
+returns-in-Err-clause-all_read c =
+    failed_all_read c.args.code.now c.args.at c.in-Err.e (subst (λ (k : Cursor). Fails (is_memory c.in-Err.e) c.in-Err.e (instr_at k)) c.at.ensures c.in-Err.ensures)
+
+pub returns-in-Err-clause-refused : goal.returns-in-Err-clause-refused
+returns-in-Err-clause-refused c =
+    failed_refused c.args.code.now c.args.at c.in-Err.e (λ i. omega (arith, c.type_inv.code i)) c.requires.within (subst (λ (k : Cursor). Fails (is_memory c.in-Err.e) c.in-Err.e (instr_at k)) c.at.ensures c.in-Err.ensures)
+
+pub returns-in-Err-clause-all_refused : goal.returns-in-Err-clause-all_refused
+returns-in-Err-clause-all_refused c =
+    failed_all_refused c.args.code.now c.args.at c.in-Err.e (λ i. omega (arith, c.type_inv.code i)) c.requires.within (subst (λ (k : Cursor). Fails (is_memory c.in-Err.e) c.in-Err.e (instr_at k)) c.at.ensures c.in-Err.ensures)

@@ -3,7 +3,7 @@ use Rattle.dj_class.specs.Views.{class_of}
 use Rattle.dj_report.proofs.Adding.{on_ok}
 use Rattle.dj_rules.specs.Reads.{IsViewOf}
 use Rattle.dj_rules.proofs.FileLines.{adds_class_file, adds_no_class_file}
-use Rattle.dj_rules.proofs.Faulty.{short_name, no_class_view}
+use Rattle.dj_rules.proofs.Faulty.{short_name}
 use Rattle.dj_rules.proofs.files.add_file_lines.Goals as goal
 
 pub add_class_lines-requires : goal.add_class_lines-requires
@@ -20,4 +20,4 @@ returns-in-Class c =
 pub returns-in_ok-add_file_line-in-Malformed : goal.returns-in_ok-add_file_line-in-Malformed
 returns-in_ok-add_file_line-in-Malformed c =
     adds_no_class_file c.args.file.now.path.now c.args.file.now.bytes.now c.args.found.now.items c.add_file_line.new.found.items
-    (no_class_view c.args.file.now.bytes.now c.args.view.now c.requires c.in-Malformed.is) c.in_ok-add_file_line-in-Malformed.ensures
+    (subst (IsViewOf c.args.file.now.bytes.now) c.in-Malformed.is c.requires) c.in_ok-add_file_line-in-Malformed.ensures

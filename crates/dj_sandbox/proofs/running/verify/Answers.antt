@@ -26,24 +26,20 @@ returns-clause-decided c =
     let files = map path_file_view c.args.files.now in
     let class = c.args.class.now in
     let program = program_view c.in-Some.set.class in
-    let judged = rw c.in-Built.is at c.in_ok-judged.ensures in
     let straight = rw c.in-Some.is at c.in_ok-set.ensures.straight in
-    let sound : c.in-Built.violations ≡ [] =
-    nil_of_empty c.in-Built.violations c.as_slice.result.now c.as_slice.ensures (sym c.if-not-is_empty.false ∙ c.is_empty.ensures) in
+    let sound : c.in_ok-judged.judged.violations ≡ [] =
+    nil_of_empty c.in_ok-judged.judged.violations c.as_slice.result.now c.as_slice.ensures (sym c.if-not-is_empty.false ∙ c.is_empty.ensures) in
     let none : c.in_ok-violations.violations ≡ [] =
     nil_of_empty c.in_ok-violations.violations c.as_slice-2.result.now c.as_slice-2.ensures (sym c.if-not-is_empty-2.false ∙ c.is_empty-2.ensures) in
-    let no_lines = subst (AreViolations files) sound judged.1 in
+    let no_lines = subst (AreViolations files) sound c.in_ok-judged.ensures.violations in
     let no_run_lines = subst (AreRunViolations files program class) none c.in_ok-violations.ensures.lines in
     inr (
-      judged.0,
+      no_lines,
       inr (
-        no_lines,
+        (program, straight),
         inr (
-          (program, straight),
-          inr (
-            (program, straight, no_run_lines),
-            inl (program, c.in_ok-ending.ending.outcome, c.in_ok-ending.ending.costs, straight, refl, c.in_ok-ending.ensures.runs),
-          ),
+          (program, straight, no_run_lines),
+          inl (program, c.in_ok-ending.ending.outcome, c.in_ok-ending.ending.costs, straight, refl, c.in_ok-ending.ensures.runs),
         ),
       ),
     )

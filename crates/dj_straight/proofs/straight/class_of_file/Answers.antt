@@ -2,7 +2,7 @@ use Rattle.std.proofs.Common.{subst}
 use Rattle.dj_class.specs.Views.{class_of}
 use Rattle.dj_class.specs.ClassFile.{IsClassFile}
 use Rattle.dj_rules.specs.Reads.{IsViewOf}
-use Rattle.dj_rules.proofs.Faulty.{no_class_view}
+use Rattle.dj_rules.specs.Violations.{IsNoClassFile}
 use Rattle.dj_straight.specs.Methods.{class_view}
 use Rattle.dj_straight.specs.Straight.{IsStraightClass, IsStraightFile}
 use Rattle.dj_straight.proofs.StraightCode.{ok_finds}
@@ -21,4 +21,6 @@ returns-in-Class c =
     ok_finds c.straight_class.result class_view (IsStraightClass (class_of c.in-Class.class)) (IsStraightFile c.args.file.now.bytes.now) same.0 same.1 c.straight_class.ensures
 
 pub returns-in-Malformed : goal.returns-in-Malformed
-returns-in-Malformed c = λ y file. no_class_view c.args.file.now.bytes.now c.args.view.now c.requires c.in-Malformed.is file.0 file.1
+returns-in-Malformed c = λ y file.
+    let none : IsNoClassFile c.args.file.now.bytes.now = subst (IsViewOf c.args.file.now.bytes.now) c.in-Malformed.is c.requires in
+    none file.0 file.1

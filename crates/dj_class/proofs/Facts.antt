@@ -1,0 +1,187 @@
+-- The definitions at plain values: a class file and its bytes, what is faulty in files that differ from it in one byte, rows, code lengths and access flags.
+use Rattle.std.proofs.Common.{◌≡◌, ◌≢◌, ℕ, ◌+◌, true, false, List, [], ◌∷◌, ◌++◌, map, take, drop, Result, Ok, Err, refl, arith, inl, inr}
+use Rattle.std.specs.Prelude.{codes}
+use Rattle.dj_bytes.specs.Reading.{many_at, table_at}
+use Rattle.dj_names.specs.NameReading.{reads_class_name}
+use Rattle.dj_names.specs.DescReading.{dims_read, name_read, class_read, of_read, type_read, params_read, field_read, return_read, method_read}
+use Rattle.dj_names.specs.UnitReading.{unit_read, long_read, two_read, three_read}
+use Rattle.dj_names.specs.Tests.{unqualified_name_test, method_name_test, class_name_test, units_read, modified_utf8_test, field_descriptor_test, method_descriptor_test, array_descriptor_test}
+use Rattle.dj_pool.specs.declared.pool.PoolError.TheVariants as pool_errors
+use Rattle.dj_pool.specs.Pool.{Utf8, Class}
+use Rattle.dj_pool.specs.Reading.{utf8_at, number4_at, number8_at, named_at, paired_at, handle_at, untagged_at, constant_at_cursor, slot_at, slots_at, first_unlinked, linked_slots_at, pool_at}
+use Rattle.dj_pool.proofs.Decides.{tests_decide}
+use Rattle.dj_class.specs.declared.class.ClassError.{ClassError}
+use Rattle.dj_class.specs.declared.class.ClassError.TheVariants as errors
+use Rattle.dj_class.specs.ClassFile.{ClassFile, class_bytes}
+use Rattle.dj_class.specs.Code.{row_bytes}
+use Rattle.dj_class.specs.Faults.{IsFault}
+use Rattle.dj_class.specs.CodeFaults.{IsCodeLength, IsCodeFault}
+use Rattle.dj_class.specs.Access.{access_table}
+use Rattle.dj_class.specs.Reading.{index_at, attribute_at, member_at, magic_at, header_at, heading_at, class_file_of}
+use Rattle.dj_class.specs.CodeReading.{code_length_at, code_front_at, row_at, code_read}
+use Rattle.dj_class.proofs.ClassLaws.{fault_again}
+
+-- ---- a class file of one method
+
+class_a : ClassFile
+class_a = record {
+  minor = 0;
+  major = 52;
+  pool = Utf8 (codes "A") ∷ Class 1 ∷ Utf8 (codes "java/lang/Object") ∷ Class 3 ∷ Utf8 (codes "verify") ∷ Utf8 (codes "([B)[B") ∷ Utf8 (codes "Code") ∷ [];
+  flags = 33;
+  this_class = 2;
+  super_class = 4;
+  interfaces = [];
+  fields = [];
+  methods = record { flags = 9; name = 5; desc = 6; attributes = record { name = 7; body = (0 ∷ 1 ∷ 0 ∷ 1 ∷ 0 ∷ 0 ∷ 0 ∷ 2 ∷ 42 ∷ 176 ∷ 0 ∷ 0 ∷ 0 ∷ 0 ∷ []) } ∷ [] } ∷ [];
+  attributes = [];
+}
+
+bytes_a : List ℕ
+bytes_a = 202 ∷ 254 ∷ 186 ∷ 190 ∷ 0 ∷ 0 ∷ 0 ∷ 52 ∷ 0 ∷ 8 ∷ 1 ∷ 0 ∷ 1 ∷ 65 ∷ 7 ∷ 0 ∷ 1 ∷ 1 ∷ 0 ∷ 16 ∷ 106 ∷ 97 ∷ 118 ∷ 97 ∷ 47 ∷ 108 ∷ 97 ∷ 110 ∷ 103 ∷ 47 ∷ 79 ∷ 98 ∷ 106 ∷ 101 ∷ 99 ∷ 116 ∷ 7 ∷ 0 ∷ 3 ∷ 1 ∷ 0 ∷ 6 ∷ 118 ∷ 101 ∷ 114 ∷ 105 ∷ 102 ∷ 121 ∷ 1 ∷ 0 ∷ 6 ∷ 40 ∷ 91 ∷ 66 ∷ 41 ∷ 91 ∷ 66 ∷ 1 ∷ 0 ∷ 4 ∷ 67 ∷ 111 ∷ 100 ∷ 101 ∷ 0 ∷ 33 ∷ 0 ∷ 2 ∷ 0 ∷ 4 ∷ 0 ∷ 0 ∷ 0 ∷ 0 ∷ 0 ∷ 1 ∷ 0 ∷ 9 ∷ 0 ∷ 5 ∷ 0 ∷ 6 ∷ 0 ∷ 1 ∷ 0 ∷ 7 ∷ 0 ∷ 0 ∷ 0 ∷ 14 ∷ 0 ∷ 1 ∷ 0 ∷ 1 ∷ 0 ∷ 0 ∷ 0 ∷ 2 ∷ 42 ∷ 176 ∷ 0 ∷ 0 ∷ 0 ∷ 0 ∷ 0 ∷ 0 ∷ []
+
+-- the file is spelled so
+class_a-bytes : class_bytes class_a ≡ bytes_a
+unfolding class_a bytes_a
+class_a-bytes = refl
+
+-- with one byte put another way
+changed : ℕ → ℕ → List ℕ
+changed place byte = take place bytes_a ++ byte ∷ drop (place + 1) bytes_a
+
+-- ---- what is read of files
+
+files : List (List ℕ)
+files =
+    bytes_a
+    ∷ ((take 3 bytes_a)
+    ∷ ((take 6 bytes_a)
+    ∷ ((take 8 bytes_a)
+    ∷ ((take 65 bytes_a)
+    ∷ ((take 97 bytes_a)
+    ∷ ((take 105 bytes_a)
+    ∷ ((bytes_a ++ 0 ∷ [])
+    ∷ ((changed 3 191)
+    ∷ ((changed 10 2)
+    ∷ ((changed 16 4)
+    ∷ ((changed 13 255)
+    ∷ ((changed 67 1)
+    ∷ ((changed 67 0)
+    ∷ ((changed 69 5)
+    ∷ ((changed 71 1)
+    ∷ ((changed 79 6)
+    ∷ ((changed 81 5)
+    ∷ ((changed 85 2) ∷ []))))))))))))))))))
+
+answers : List (Result ClassFile ClassError)
+answers =
+    Ok class_a
+    ∷ (Err (errors.Cut 0)
+    ∷ (Err (errors.Cut 6)
+    ∷ (Err (errors.Pool (pool_errors.Cut 8))
+    ∷ (Err (errors.Cut 64)
+    ∷ (Err (errors.Cut 90)
+    ∷ (Err (errors.Cut 104)
+    ∷ (Err (errors.Trailing 106)
+    ∷ (Err errors.Magic
+    ∷ (Err (errors.Pool (pool_errors.Tag 10))
+    ∷ (Err (errors.Pool (pool_errors.Link 2))
+    ∷ (Err (errors.Pool (pool_errors.Text 1))
+    ∷ (Err (errors.Index 66)
+    ∷ (Err (errors.Index 66)
+    ∷ (Err (errors.Index 68)
+    ∷ (Err (errors.Index 72)
+    ∷ (Err (errors.Index 78)
+    ∷ (Err (errors.Index 80)
+    ∷ (Err (errors.Index 84) ∷ []))))))))))))))))))
+
+files-read : map class_file_of files ≡ answers
+unfolding files answers class_a bytes_a changed utf8_at number4_at number8_at named_at paired_at handle_at untagged_at constant_at_cursor slot_at slots_at first_unlinked linked_slots_at pool_at unit_read long_read two_read three_read units_read modified_utf8_test unqualified_name_test method_name_test class_name_test field_descriptor_test method_descriptor_test array_descriptor_test reads_class_name dims_read name_read class_read of_read type_read params_read field_read return_read method_read many_at table_at index_at attribute_at member_at magic_at header_at heading_at class_file_of
+files-read = refl
+
+-- a class that is an array's: the pool allows it, the file's class may be none
+array_file : List ℕ
+array_file = 202 ∷ 254 ∷ 186 ∷ 190 ∷ 0 ∷ 0 ∷ 0 ∷ 52 ∷ 0 ∷ 3 ∷ 1 ∷ 0 ∷ 2 ∷ 91 ∷ 73 ∷ 7 ∷ 0 ∷ 1 ∷ 0 ∷ 33 ∷ 0 ∷ 2 ∷ 0 ∷ 0 ∷ 0 ∷ 0 ∷ 0 ∷ 0 ∷ 0 ∷ 0 ∷ 0 ∷ 0 ∷ []
+
+array_file-read : class_file_of array_file ≡ Err (errors.Index 20)
+unfolding array_file utf8_at number4_at number8_at named_at paired_at handle_at untagged_at constant_at_cursor slot_at slots_at first_unlinked linked_slots_at pool_at unit_read long_read two_read three_read units_read modified_utf8_test unqualified_name_test method_name_test class_name_test field_descriptor_test method_descriptor_test array_descriptor_test reads_class_name dims_read name_read class_read of_read type_read params_read field_read return_read method_read many_at table_at index_at attribute_at member_at magic_at header_at heading_at class_file_of
+array_file-read = refl
+
+-- the superclass may be none
+no_super-read : class_file_of (changed 69 0) ≡ Ok (record { minor = 0; major = 52; pool = class_a.pool; flags = 33; this_class = 2; super_class = 0; interfaces = []; fields = []; methods = class_a.methods; attributes = [] })
+unfolding class_a bytes_a changed utf8_at number4_at number8_at named_at paired_at handle_at untagged_at constant_at_cursor slot_at slots_at first_unlinked linked_slots_at pool_at unit_read long_read two_read three_read units_read modified_utf8_test unqualified_name_test method_name_test class_name_test field_descriptor_test method_descriptor_test array_descriptor_test reads_class_name dims_read name_read class_read of_read type_read params_read field_read return_read method_read many_at table_at index_at attribute_at member_at magic_at header_at heading_at class_file_of
+no_super-read = refl
+
+-- a class file has no fault
+class_a-faultless : (e : ClassError) → IsFault bytes_a e → ⊥
+unfolding class_a bytes_a utf8_at number4_at number8_at named_at paired_at handle_at untagged_at constant_at_cursor slot_at slots_at first_unlinked linked_slots_at pool_at unit_read long_read two_read three_read units_read modified_utf8_test unqualified_name_test method_name_test class_name_test field_descriptor_test method_descriptor_test array_descriptor_test reads_class_name dims_read name_read class_read of_read type_read params_read field_read return_read method_read many_at table_at index_at attribute_at member_at magic_at header_at heading_at class_file_of
+class_a-faultless e fault =
+    let read : class_file_of bytes_a ≡ Ok class_a = refl in
+    let told = fault_again tests_decide bytes_a e fault in
+    absurd cc
+
+-- a fault has one place
+array_file-fault : (e : ClassError) → IsFault array_file e → e ≡ errors.Index 20
+array_file-fault e fault = let told = fault_again tests_decide array_file e fault in let read = array_file-read in cc
+
+-- four bytes that are not CA FE BA BE
+zeros-fault : IsFault (0 ∷ 0 ∷ 0 ∷ 0 ∷ []) errors.Magic
+zeros-fault = inl (inr (record { value = 0; rest = []; parts = refl; item = omega arith; wrong = λ h. absurd (omega (arith, h)); told = refl }))
+
+-- only two names of methods have < and >; those of fields may
+init-names : map method_name_test (codes "<init>" ∷ (codes "<clinit>" ∷ (codes "<x>" ∷ (codes "x" ∷ [])))) ≡ true ∷ (true ∷ (false ∷ (true ∷ [])))
+unfolding method_name_test unqualified_name_test
+init-names = refl
+
+-- ---- bodies of Code attributes
+
+-- the four fields of a row, in their order
+row-bytes : row_bytes (record { start = 1; end = 2; handler = 3; catch_type = 4 }) ≡ 0 ∷ 1 ∷ 0 ∷ 2 ∷ 0 ∷ 3 ∷ 0 ∷ 4 ∷ []
+row-bytes = refl
+
+row-bytes_not : row_bytes (record { start = 1; end = 2; handler = 3; catch_type = 4 }) ≢ row_bytes (record { start = 2; end = 1; handler = 3; catch_type = 4 })
+row-bytes_not h = absurd cc
+
+row-read : row_at (record { place = 0; rest = 0 ∷ 1 ∷ 0 ∷ 2 ∷ 0 ∷ 3 ∷ 0 ∷ 4 ∷ [] }) ≡ Ok (record { start = 1; end = 2; handler = 3; catch_type = 4 }, record { place = 8; rest = [] })
+unfolding row_at
+row-read = refl
+
+longest : IsCodeLength 65535
+longest = (omega arith, omega arith)
+
+longest_not : IsCodeLength 65536 → ⊥
+longest_not h = omega (arith, h.1)
+
+none_not : IsCodeLength 0 → ⊥
+none_not h = omega (arith, h.0)
+
+-- the length 65,535 is asked for its bytes, and 65,536 refused where it stands
+lengths-read : map code_read ((0 ∷ 1 ∷ 0 ∷ 1 ∷ 0 ∷ 0 ∷ 255 ∷ 255 ∷ 177 ∷ []) ∷ ((0 ∷ 1 ∷ 0 ∷ 1 ∷ 0 ∷ 1 ∷ 0 ∷ 0 ∷ 177 ∷ []) ∷ ((0 ∷ 1 ∷ 0 ∷ 1 ∷ 0 ∷ 0 ∷ 0 ∷ 0 ∷ []) ∷ []))) ≡ Err (errors.Cut 8) ∷ (Err (errors.Index 4) ∷ (Err (errors.Index 4) ∷ []))
+unfolding code_read code_front_at code_length_at
+lengths-read = refl
+
+length-fault : IsCodeFault (0 ∷ 1 ∷ 0 ∷ 1 ∷ 0 ∷ 1 ∷ 0 ∷ 0 ∷ []) (errors.Index 4)
+length-fault = inr (record {
+  value = 1;
+  rest = 0 ∷ 1 ∷ 0 ∷ 1 ∷ 0 ∷ 0 ∷ [];
+  parts = refl;
+  good = omega arith;
+  fault =
+      inr (record {
+        value = 1;
+        rest = 0 ∷ 1 ∷ 0 ∷ 0 ∷ [];
+        parts = refl;
+        good = omega arith;
+        fault =
+            inl (inr (record { value = 65536; rest = []; parts = refl; item = omega arith; wrong = longest_not; told = refl }));
+      });
+})
+
+-- ---- access flags
+
+-- each flag's value, as JVMS tables 4.1-B, 4.5-A and 4.6-A have it
+flags-are : access_table ≡
+    (codes "PUBLIC", 1) ∷ (codes "PRIVATE", 2) ∷ (codes "PROTECTED", 4) ∷ (codes "STATIC", 8) ∷ (codes "FINAL", 16) ∷ (codes "SUPER", 32)
+    ∷ (codes "SYNCHRONIZED", 32) ∷ (codes "VOLATILE", 64) ∷ (codes "BRIDGE", 64) ∷ (codes "TRANSIENT", 128) ∷ (codes "VARARGS", 128) ∷ (codes "NATIVE", 256)
+    ∷ (codes "INTERFACE", 512) ∷ (codes "ABSTRACT", 1024) ∷ (codes "STRICT", 2048) ∷ (codes "SYNTHETIC", 4096) ∷ (codes "ANNOTATION", 8192) ∷ (codes "ENUM", 16384) ∷ []
+flags-are = refl

@@ -1,7 +1,0 @@
-use Rattle.std.proofs.Common.{arith}
-use Rattle.dj_class.proofs.TestsAre.{tests_decide}
-use Rattle.dj_class.proofs.PoolFromLaws.{reads_pool}
-use Rattle.dj_class.proofs.pool.read_pool.Goals as goal
-
-pub returns-clause-means : goal.returns-clause-means
-returns-clause-means c = reads_pool tests_decide c.args.file.now c.args.at c.read_from.result (λ i. omega (arith, c.type_inv.file i)) c.read_from.ensures

@@ -1,0 +1,13 @@
+//! Tests of the crates that read and write constant pools and class files.
+#![tactic(auto)]
+
+#[cfg(test)]
+mod append;
+#[cfg(test)]
+mod class;
+#[cfg(test)]
+mod code;
+#[cfg(test)]
+mod pool;
+#[cfg(test)]
+mod write;

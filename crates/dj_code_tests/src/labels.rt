@@ -1,0 +1,439 @@
+use dj_labels::{CodeError, Labelled, Protected, label};
+use dj_ops::{CatchRow, Instr, NoMemory, Rows};
+use std::alloc::Global;
+
+// A row or a range: its start, its end, its handler, and the class that is caught.
+type Row = (u16, u16, u16, u16);
+
+type Range = (u32, u32, u32, u16);
+
+// A letter for the family, the opcode, and up to two numbers.
+type Told = (u8, u8, i64, i64);
+
+fn told(instr: &Instr) -> Told {
+    match instr {
+        Instr::Simple { op } => (b's', *op, 0, 0),
+        Instr::Push { op, value } => (b'p', *op, i64::from(*value), 0),
+        Instr::Local { op, slot, wide } => (b'l', *op, i64::from(*slot), i64::from(*wide)),
+        Instr::Branch { op, target } => (b'b', *op, *target, 0),
+        Instr::Table { default, low, .. } => (b't', 170, *default, i64::from(*low)),
+        Instr::Lookup { default, .. } => (b'u', 171, *default, 0),
+        _ => (b'?', 0, 0, 0),
+    }
+}
+
+fn has_instrs(instrs: &[Instr], wanted: &[Told]) -> bool {
+    if instrs.len() != wanted.len() {
+        return false;
+    }
+    for i in 0..instrs.len() {
+        if told(&instrs[i]) != wanted[i] {
+            return false;
+        }
+    }
+    true
+}
+
+fn has_ranges(ranges: &[Protected], wanted: &[Range]) -> bool {
+    if ranges.len() != wanted.len() {
+        return false;
+    }
+    for i in 0..ranges.len() {
+        let range = &ranges[i];
+        if (range.start, range.end, range.handler, range.catch_type) != wanted[i] {
+            return false;
+        }
+    }
+    true
+}
+
+fn rows_of(alloc: Global, rows: &[Row]) -> Result<Rows, NoMemory> {
+    let mut table = Rows::new(alloc);
+    for &(start, end, handler, catch_type) in rows {
+        table.push(CatchRow {
+            start,
+            end,
+            handler,
+            catch_type,
+        })?;
+    }
+    Ok(table)
+}
+
+fn labels_of(alloc: Global, code: &[u8], rows: &[Row]) -> Result<Labelled, CodeError> {
+    let table = rows_of(alloc, rows)?;
+    if code.len() < 99 {
+        label(alloc, code, table.as_slice())
+    } else {
+        Err(CodeError::Memory)
+    }
+}
+
+fn is_labelled(
+    alloc: Global,
+    code: &[u8],
+    rows: &[Row],
+    instrs: &[Told],
+    ranges: &[Range],
+) -> bool {
+    match labels_of(alloc, code, rows) {
+        Ok(labels) => {
+            has_instrs(labels.code.as_slice(), instrs)
+                && has_ranges(labels.ranges.as_slice(), ranges)
+        }
+        Err(_) => false,
+    }
+}
+
+fn is_refused(alloc: Global, code: &[u8], rows: &[Row], wanted: CodeError) -> bool {
+    match labels_of(alloc, code, rows) {
+        Ok(_) => false,
+        Err(error) => error == wanted,
+    }
+}
+
+// Code, and its instructions.
+const LABELLED: [(&[u8], &[Told]); 19] = [
+    (b"\x2a\xb0", &[(b's', 42, 0, 0), (b's', 176, 0, 0)]),
+    (b"\xb1", &[(b's', 177, 0, 0)]),
+    (b"\xa7\0\0", &[(b'b', 167, 0, 0)]),
+    (b"\xa7\0\x03\xb1", &[(b'b', 167, 1, 0), (b's', 177, 0, 0)]),
+    (b"\0\xa7\xff\xff", &[(b's', 0, 0, 0), (b'b', 167, 0, 0)]),
+    (
+        b"\xc8\0\0\0\x05\xb1",
+        &[(b'b', 200, 1, 0), (b's', 177, 0, 0)],
+    ),
+    (
+        b"\x99\0\x03\x9a\xff\xfd\xb1",
+        &[(b'b', 153, 1, 0), (b'b', 154, 0, 0), (b's', 177, 0, 0)],
+    ),
+    (b"\xa8\0\x03\xa9\0", &[(b'b', 168, 1, 0), (b'l', 169, 0, 0)]),
+    (b"\xc9\0\0\0\0", &[(b'b', 201, 0, 0)]),
+    (
+        b"\xc6\0\x03\xc7\xff\xfd",
+        &[(b'b', 198, 1, 0), (b'b', 199, 0, 0)],
+    ),
+    (b"\xca", &[(b's', 202, 0, 0)]),
+    (
+        b"\xaa\0\0\0\0\0\0\0\0\0\0\0\0\0\0\0\0\0\0\0\xb1",
+        &[(b't', 170, 0, 0), (b's', 177, 0, 0)],
+    ),
+    (
+        b"\0\xaa\0\0\xff\xff\xff\xff\0\0\0\0\0\0\0\0\0\0\0\0\xb1",
+        &[(b's', 0, 0, 0), (b't', 170, 0, 0), (b's', 177, 0, 0)],
+    ),
+    (
+        b"\0\0\xaa\0\xff\xff\xff\xfe\0\0\0\0\0\0\0\0\0\0\0\0\xb1",
+        &[
+            (b's', 0, 0, 0),
+            (b's', 0, 0, 0),
+            (b't', 170, 0, 0),
+            (b's', 177, 0, 0),
+        ],
+    ),
+    (
+        b"\0\0\0\xaa\xff\xff\xff\xfd\0\0\0\0\0\0\0\0\0\0\0\0\xb1",
+        &[
+            (b's', 0, 0, 0),
+            (b's', 0, 0, 0),
+            (b's', 0, 0, 0),
+            (b't', 170, 0, 0),
+            (b's', 177, 0, 0),
+        ],
+    ),
+    (
+        b"\0\xaa\0\0\0\0\0\x1b\xff\xff\xff\xff\0\0\0\x01\0\0\0\x1b\0\0\0\0\xff\xff\xff\xff\xb1",
+        &[(b's', 0, 0, 0), (b't', 170, 2, -1), (b's', 177, 0, 0)],
+    ),
+    (
+        b"\0\0\xab\0\0\0\0\x0a\0\0\0\0\xb1",
+        &[
+            (b's', 0, 0, 0),
+            (b's', 0, 0, 0),
+            (b'u', 171, 3, 0),
+            (b's', 177, 0, 0),
+        ],
+    ),
+    (
+        b"\xab\0\0\0\0\0\0\x1c\0\0\0\x02\xff\xff\xff\xff\0\0\0\x1c\0\0\0\x04\0\0\0\0\xb1",
+        &[(b'u', 171, 1, 0), (b's', 177, 0, 0)],
+    ),
+    (
+        b"\0\0\0\xab\0\0\0\0\0\0\0\x03\0\0\0\0\xff\xff\xff\xfd\0\0\0\x01\xff\xff\xff\xfe\0\0\0\x02\xff\xff\xff\xff",
+        &[
+            (b's', 0, 0, 0),
+            (b's', 0, 0, 0),
+            (b's', 0, 0, 0),
+            (b'u', 171, 3, 0),
+        ],
+    ),
+];
+
+#[test]
+fn labelled(rt: HostRuntime) {
+    for (code, instrs) in &LABELLED {
+        assert!(rt; is_labelled(rt.alloc(), code, &[], instrs, &[]));
+    }
+}
+
+// Code and rows, and the instructions and ranges.
+const RANGES: [(&[u8], &[Row], &[Told], &[Range]); 8] = [
+    (
+        b"\x10\x07\x57\0\xb1",
+        &[(0, 5, 0, 0)],
+        &[
+            (b'p', 16, 7, 0),
+            (b's', 87, 0, 0),
+            (b's', 0, 0, 0),
+            (b's', 177, 0, 0),
+        ],
+        &[(0, 4, 0, 0)],
+    ),
+    (
+        b"\x10\x07\x57\0\xb1",
+        &[(0, 2, 2, 0)],
+        &[
+            (b'p', 16, 7, 0),
+            (b's', 87, 0, 0),
+            (b's', 0, 0, 0),
+            (b's', 177, 0, 0),
+        ],
+        &[(0, 1, 1, 0)],
+    ),
+    (
+        b"\x10\x07\x57\0\xb1",
+        &[(2, 5, 4, 7)],
+        &[
+            (b'p', 16, 7, 0),
+            (b's', 87, 0, 0),
+            (b's', 0, 0, 0),
+            (b's', 177, 0, 0),
+        ],
+        &[(1, 4, 3, 7)],
+    ),
+    (
+        b"\x10\x07\x57\0\xb1",
+        &[(0, 4, 3, 65535)],
+        &[
+            (b'p', 16, 7, 0),
+            (b's', 87, 0, 0),
+            (b's', 0, 0, 0),
+            (b's', 177, 0, 0),
+        ],
+        &[(0, 3, 2, 65535)],
+    ),
+    (
+        b"\x10\x07\x57\0\xb1",
+        &[(4, 5, 0, 0)],
+        &[
+            (b'p', 16, 7, 0),
+            (b's', 87, 0, 0),
+            (b's', 0, 0, 0),
+            (b's', 177, 0, 0),
+        ],
+        &[(3, 4, 0, 0)],
+    ),
+    (
+        b"\x10\x07\x57\0\xb1",
+        &[(0, 3, 2, 1), (2, 4, 3, 2)],
+        &[
+            (b'p', 16, 7, 0),
+            (b's', 87, 0, 0),
+            (b's', 0, 0, 0),
+            (b's', 177, 0, 0),
+        ],
+        &[(0, 2, 1, 1), (1, 3, 2, 2)],
+    ),
+    (
+        b"\x10\x07\x57\0\xb1",
+        &[(0, 5, 0, 0), (0, 5, 0, 0)],
+        &[
+            (b'p', 16, 7, 0),
+            (b's', 87, 0, 0),
+            (b's', 0, 0, 0),
+            (b's', 177, 0, 0),
+        ],
+        &[(0, 4, 0, 0), (0, 4, 0, 0)],
+    ),
+    (b"\0", &[(0, 1, 0, 0)], &[(b's', 0, 0, 0)], &[(0, 1, 0, 0)]),
+];
+
+#[test]
+fn ranges(rt: HostRuntime) {
+    for (code, rows, instrs, ranges) in &RANGES {
+        assert!(rt; is_labelled(rt.alloc(), code, rows, instrs, ranges));
+    }
+}
+
+// Code, the number of its tableswitch, and the numbers of the targets.
+const TABLES: [(&[u8], usize, &[i64]); 5] = [
+    (b"\xaa\0\0\0\0\0\0\0\0\0\0\0\0\0\0\0\0\0\0\0\xb1", 0, &[0]),
+    (
+        b"\0\xaa\0\0\xff\xff\xff\xff\0\0\0\0\0\0\0\0\0\0\0\0\xb1",
+        1,
+        &[1],
+    ),
+    (
+        b"\0\0\xaa\0\xff\xff\xff\xfe\0\0\0\0\0\0\0\0\0\0\0\0\xb1",
+        2,
+        &[2],
+    ),
+    (
+        b"\0\0\0\xaa\xff\xff\xff\xfd\0\0\0\0\0\0\0\0\0\0\0\0\xb1",
+        3,
+        &[3],
+    ),
+    (
+        b"\0\xaa\0\0\0\0\0\x1b\xff\xff\xff\xff\0\0\0\x01\0\0\0\x1b\0\0\0\0\xff\xff\xff\xff\xb1",
+        1,
+        &[2, 1, 0],
+    ),
+];
+
+fn has_table(alloc: Global, code: &[u8], number: usize, wanted: &[i64]) -> bool {
+    match labels_of(alloc, code, &[]) {
+        Ok(labels) => match labels.code.as_slice().get(number) {
+            Some(Instr::Table { targets, .. }) => targets.as_slice() == wanted,
+            _ => false,
+        },
+        Err(_) => false,
+    }
+}
+
+#[test]
+fn tables(rt: HostRuntime) {
+    for (code, number, wanted) in &TABLES {
+        assert!(rt; has_table(rt.alloc(), code, *number, wanted));
+    }
+}
+
+// Code, the number of its lookupswitch, and the pairs, with the numbers of the targets.
+const LOOKUPS: [(&[u8], usize, &[(i32, i64)]); 3] = [
+    (b"\0\0\xab\0\0\0\0\x0a\0\0\0\0\xb1", 2, &[]),
+    (
+        b"\xab\0\0\0\0\0\0\x1c\0\0\0\x02\xff\xff\xff\xff\0\0\0\x1c\0\0\0\x04\0\0\0\0\xb1",
+        0,
+        &[(-1, 1), (4, 0)],
+    ),
+    (
+        b"\0\0\0\xab\0\0\0\0\0\0\0\x03\0\0\0\0\xff\xff\xff\xfd\0\0\0\x01\xff\xff\xff\xfe\0\0\0\x02\xff\xff\xff\xff",
+        3,
+        &[(0, 0), (1, 1), (2, 2)],
+    ),
+];
+
+fn has_lookup(alloc: Global, code: &[u8], number: usize, wanted: &[(i32, i64)]) -> bool {
+    match labels_of(alloc, code, &[]) {
+        Ok(labels) => match labels.code.as_slice().get(number) {
+            Some(Instr::Lookup { pairs, .. }) => pairs.as_slice() == wanted,
+            _ => false,
+        },
+        Err(_) => false,
+    }
+}
+
+#[test]
+fn lookups(rt: HostRuntime) {
+    for (code, number, wanted) in &LOOKUPS {
+        assert!(rt; has_lookup(rt.alloc(), code, *number, wanted));
+    }
+}
+
+// Code and rows that have no labels, and why.
+const REFUSED: [(&[u8], &[Row], CodeError); 42] = [
+    (b"", &[(0, 0, 0, 0)], CodeError::Range(0)),
+    (b"\xa7\0\x01", &[], CodeError::Target(0)),
+    (b"\xa7\0\x04\x10\x07\xb1", &[], CodeError::Target(0)),
+    (b"\xa7\0\x03", &[], CodeError::Target(0)),
+    (b"\0\xa7\xff\xfe", &[], CodeError::Target(1)),
+    (b"\xa7\x7f\xff", &[], CodeError::Target(0)),
+    (b"\xc8\0\0\0\x04\xb1", &[], CodeError::Target(0)),
+    (b"\xc8\x80\0\0\0", &[], CodeError::Target(0)),
+    (b"\x99\0\x01\x9a\xff\xfd\xb1", &[], CodeError::Target(0)),
+    (b"\x99\0\x03\x9a\xff\xfe\xb1", &[], CodeError::Target(3)),
+    (b"\xcb", &[], CodeError::Op(0)),
+    (b"\0\0\xff", &[], CodeError::Op(2)),
+    (b"\0\x10", &[], CodeError::Op(1)),
+    (b"\xa7\0\x01\xcb", &[], CodeError::Op(3)),
+    (b"\xcb\xa7\0\x01", &[], CodeError::Op(0)),
+    (b"\xbc\x03", &[], CodeError::Op(0)),
+    (b"\0\xc4\0\0\0", &[], CodeError::Op(1)),
+    (b"\xa7\0\x7f\xcb", &[], CodeError::Op(3)),
+    (
+        b"\0\xaa\0\0\0\0\0\x17\xff\xff\xff\xff\0\0\0\x01\0\0\0\x17\0\0\0\0\xff\xff\xff\xff\xb1",
+        &[],
+        CodeError::Target(1),
+    ),
+    (
+        b"\xaa\0\0\0\0\0\0\x14\0\0\0\0\0\0\0\0\0\0\0\x01\xb1",
+        &[],
+        CodeError::Target(0),
+    ),
+    (
+        b"\xaa\0\0\0\0\0\0\x01\0\0\0\0\0\0\0\0\0\0\0\x14\xb1",
+        &[],
+        CodeError::Target(0),
+    ),
+    (
+        b"\0\0\xab\0\0\0\0\x08\0\0\0\0\xb1",
+        &[],
+        CodeError::Target(2),
+    ),
+    (
+        b"\xab\0\0\0\0\0\0\x1c\0\0\0\x02\xff\xff\xff\xff\0\0\0\x1b\0\0\0\x04\0\0\0\0\xb1",
+        &[],
+        CodeError::Target(0),
+    ),
+    (
+        b"\xab\0\0\0\0\0\0\x1c\0\0\0\x02\xff\xff\xff\xff\0\0\0\x1c\0\0\0\x04\0\0\0\x1d\xb1",
+        &[],
+        CodeError::Target(0),
+    ),
+    (b"\x10\x07\x57\0\xb1", &[(1, 5, 0, 0)], CodeError::Range(0)),
+    (b"\x10\x07\x57\0\xb1", &[(0, 1, 0, 0)], CodeError::Range(0)),
+    (b"\x10\x07\x57\0\xb1", &[(0, 6, 0, 0)], CodeError::Range(0)),
+    (
+        b"\x10\x07\x57\0\xb1",
+        &[(0, 65535, 0, 0)],
+        CodeError::Range(0),
+    ),
+    (b"\x10\x07\x57\0\xb1", &[(0, 5, 1, 0)], CodeError::Range(0)),
+    (b"\x10\x07\x57\0\xb1", &[(0, 5, 5, 0)], CodeError::Range(0)),
+    (b"\x10\x07\x57\0\xb1", &[(5, 5, 0, 0)], CodeError::Range(0)),
+    (b"\x10\x07\x57\0\xb1", &[(0, 0, 0, 0)], CodeError::Range(0)),
+    (b"\x10\x07\x57\0\xb1", &[(2, 2, 0, 0)], CodeError::Range(0)),
+    (b"\x10\x07\x57\0\xb1", &[(3, 2, 0, 0)], CodeError::Range(0)),
+    (b"\x10\x07\x57\0\xb1", &[(4, 0, 0, 0)], CodeError::Range(0)),
+    (
+        b"\x10\x07\x57\0\xb1",
+        &[(0, 5, 0, 0), (2, 2, 0, 0)],
+        CodeError::Range(1),
+    ),
+    (
+        b"\x10\x07\x57\0\xb1",
+        &[(3, 2, 0, 0), (0, 1, 0, 0)],
+        CodeError::Range(0),
+    ),
+    (
+        b"\x10\x07\x57\0\xb1",
+        &[(0, 5, 0, 0), (0, 2, 2, 0), (0, 2, 1, 0)],
+        CodeError::Range(2),
+    ),
+    (b"\0", &[(0, 0, 0, 0)], CodeError::Range(0)),
+    (b"\xcb", &[(0, 0, 0, 0)], CodeError::Op(0)),
+    (b"\xa7\0\x01", &[(0, 0, 0, 0)], CodeError::Target(0)),
+    (b"\xcb\xa7\0\x01", &[(9, 9, 9, 9)], CodeError::Op(0)),
+];
+
+#[test]
+fn refused(rt: HostRuntime) {
+    for (code, rows, wanted) in &REFUSED {
+        assert!(rt; is_refused(rt.alloc(), code, rows, *wanted));
+    }
+}
+
+// The empty code has no instructions.
+#[test]
+fn empty(rt: HostRuntime) {
+    assert!(rt; is_labelled(rt.alloc(), &[], &[], &[], &[]));
+}

@@ -1,0 +1,12 @@
+mod Numbers
+mod TypeLaws
+mod FormLaws
+mod FrameLaws
+mod WholeLaws
+mod TypeFaults
+mod FrameFaults
+mod WholeFaults
+mod Loop
+mod Written
+mod Facts
+mod Tested

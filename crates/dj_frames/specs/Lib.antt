@@ -1,0 +1,7 @@
+pub mod StackMaps
+pub mod Written
+pub mod Moves
+pub mod Refusals
+pub mod Reading
+pub mod Views
+pub mod Laws

@@ -1,0 +1,31 @@
+ghost use Rattle.dj_frames.specs.Laws.{OneStackMap, NoStackMapWhereFault, StackMapWhereNoFault, OneFault, WrittenIsStackMap, WrittenIsRead};
+
+/// A body has one stack map at most.
+pub fn one_stack_map()
+    ensures { OneStackMap }
+{}
+
+/// A body with a fault has no stack map.
+pub fn no_stack_map_where_fault()
+    ensures { NoStackMapWhereFault }
+{}
+
+/// A body without a fault has a stack map.
+pub fn stack_map_where_no_fault()
+    ensures { StackMapWhereNoFault }
+{}
+
+/// A body has one first fault at most.
+pub fn one_fault()
+    ensures { OneFault }
+{}
+
+/// Well-formed frames are those of the body that is written for them.
+pub fn written_is_stack_map()
+    ensures { WrittenIsStackMap }
+{}
+
+/// Well-formed frames are read again from the body that is written for them.
+pub fn written_is_read()
+    ensures { WrittenIsRead }
+{}

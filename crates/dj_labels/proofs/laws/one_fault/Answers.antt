@@ -1,0 +1,5 @@
+use Rattle.dj_labels.proofs.Once.{one_fault_is}
+use Rattle.dj_labels.proofs.laws.one_fault.Goals as goal
+
+pub returns : goal.returns
+returns c = one_fault_is

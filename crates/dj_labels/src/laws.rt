@@ -1,0 +1,26 @@
+ghost use Rattle.dj_labels.specs.Laws.{OneLabelling, LabelledIsWellFormed, NoLabelsWhereRefused, OneFault, LabelsOrFault};
+
+/// Code and a table have one labelling at most.
+pub fn one_labelling()
+    ensures { OneLabelling }
+{}
+
+/// What is labelled is well formed.
+pub fn labelled_is_well_formed()
+    ensures { LabelledIsWellFormed }
+{}
+
+/// Where there is a fault nothing is labelled.
+pub fn no_labels_where_refused()
+    ensures { NoLabelsWhereRefused }
+{}
+
+/// There is one first fault at most.
+pub fn one_fault()
+    ensures { OneFault }
+{}
+
+/// Bytes and a table have labels or a first fault.
+pub fn labels_or_fault()
+    ensures { LabelsOrFault }
+{}

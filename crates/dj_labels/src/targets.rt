@@ -1,0 +1,94 @@
+ghost use Rattle.std.specs.Prelude.{◌≡◌, ◌^◌, ◌<◌, [], ◌∷◌, map, IfOk, IfErr};
+ghost use Rattle.dj_labels.specs.Labels.{IsNumber, address_of};
+ghost use Rattle.dj_labels.specs.Targets.{targets_of};
+ghost use Rattle.dj_labels.specs.Passes.{AreNumbers, ArePairs, IsInstrOf, LacksStart};
+
+use crate::errors::CodeError;
+use crate::starts::StartTable;
+use dj_ops::{Instr, Pairs, Targets};
+use std::alloc::Global;
+
+/// The number of a target of the jump at an address.
+fn number_of(table: &StartTable, at: u32, target: i64) -> Result<i64, CodeError>
+    ensures found { IfOk result (λ number. AreNumbers table.now.starts.items (target ∷ []) (number ∷ [])) }
+    ensures refused { IfErr result (LacksStart table.now.starts.items at (target ∷ [])) }
+{
+    match usize::try_from(target) {
+        Ok(address) => match table.number_at(address) {
+            Some(number) => Ok(i64::from(number)),
+            None => Err(CodeError::Target(at)),
+        },
+        Err(_) => Err(CodeError::Target(at)),
+    }
+}
+
+/// The numbers of the targets of the tableswitch at an address.
+fn number_targets(
+    alloc: Global,
+    table: &StartTable,
+    at: u32,
+    targets: &[i64],
+) -> Result<Targets, CodeError>
+    ensures found { IfOk result (λ numbers. AreNumbers table.now.starts.items targets.now numbers) }
+    ensures refused { IfErr result (LacksStart table.now.starts.items at targets.now) }
+{
+    let mut numbers = Targets::new(alloc);
+    for &target in targets {
+        numbers.push(number_of(table, at, target)?)?;
+    }
+    Ok(numbers)
+}
+
+/// The pairs of the lookupswitch at an address, with the numbers of the targets.
+fn number_pairs(
+    alloc: Global,
+    table: &StartTable,
+    at: u32,
+    pairs: &[(i32, i64)],
+) -> Result<Pairs, CodeError>
+    ensures found { IfOk result (λ numbered. ArePairs table.now.starts.items pairs.now numbered) }
+    ensures refused { IfErr result (LacksStart table.now.starts.items at (map (λ pair. pair.1) pairs.now)) }
+{
+    let mut numbered = Pairs::new(alloc);
+    for &(key, target) in pairs {
+        numbered.push((key, number_of(table, at, target)?))?;
+    }
+    Ok(numbered)
+}
+
+/// The instruction at an address, with the numbers of its targets.
+pub fn number_instr(
+    alloc: Global,
+    table: &StartTable,
+    at: u32,
+    instr: Instr,
+) -> Result<Instr, CodeError>
+    ensures found { IfOk result (λ numbered. IsInstrOf table.now.starts.items instr numbered) }
+    ensures refused { IfErr result (LacksStart table.now.starts.items at (targets_of instr)) }
+{
+    match instr {
+        Instr::Branch { op, target } => {
+            let target = number_of(table, at, target)?;
+            Ok(Instr::Branch { op, target })
+        }
+        Instr::Table {
+            default,
+            low,
+            targets,
+        } => {
+            let default = number_of(table, at, default)?;
+            let targets = number_targets(alloc, table, at, targets.as_slice())?;
+            Ok(Instr::Table {
+                default,
+                low,
+                targets,
+            })
+        }
+        Instr::Lookup { default, pairs } => {
+            let default = number_of(table, at, default)?;
+            let pairs = number_pairs(alloc, table, at, pairs.as_slice())?;
+            Ok(Instr::Lookup { default, pairs })
+        }
+        other => Ok(other),
+    }
+}

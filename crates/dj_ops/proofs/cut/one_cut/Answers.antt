@@ -1,5 +1,0 @@
-use Rattle.dj_ops.proofs.Cuts.{one_cut_from}
-use Rattle.dj_ops.proofs.cut.one_cut.Goals as goal
-
-pub returns : goal.returns
-returns c code a b = one_cut_from code 0 a b

@@ -1,0 +1,25 @@
+-- What holds of instructions and their bytes, whoever reads or writes them.
+use Rattle.std.specs.Prelude.{◌≡◌, ℕ, ◌+◌, List, ◌++◌, length}
+use Rattle.dj_ops.specs.declared.instruction.Instr.{Instr}
+use Rattle.dj_ops.specs.Instructions.{IsProper, AreOffsets, Spells, Stands, written, length_at}
+
+-- an address has one instruction at most, and one address after it
+abbrev pub OneInstruction : Type 0
+OneInstruction = (code : List ℕ) (at m n : ℕ) (a b : Instr) → Stands code at a m → Stands code at b n → (a ≡ b) × (m ≡ n)
+
+-- what is written spells the instruction
+abbrev pub WrittenSpells : Type 0
+WrittenSpells = (at : ℕ) (instr : Instr) → AreOffsets at instr → Spells at instr (written at instr)
+
+-- between whatever bytes it is written, there it stands
+abbrev pub WrittenStands : Type 0
+WrittenStands = (before after : List ℕ) (instr : Instr) → IsProper instr → AreOffsets (length before) instr
+    → Stands (before ++ (written (length before) instr ++ after)) (length before) instr (length before + length_at (length before) instr)
+
+-- however it is padded, it has as many bytes
+abbrev pub SpelledLength : Type 0
+SpelledLength = (at : ℕ) (instr : Instr) (bytes : List ℕ) → Spells at instr bytes → length bytes ≡ length_at at instr
+
+-- where an instruction stands, the next address is as far as that
+abbrev pub NextAddress : Type 0
+NextAddress = (code : List ℕ) (at next : ℕ) (instr : Instr) → Stands code at instr next → next ≡ at + length_at at instr

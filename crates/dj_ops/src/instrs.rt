@@ -1,0 +1,47 @@
+ghost use Rattle.std.specs.Prelude.{◌≡◌, [], ◌∷◌, ◌++◌, OnOk, OnErr};
+
+use crate::instruction::Instr;
+use crate::lists::NoMemory;
+use std::alloc::Global;
+use std::marker::Model;
+
+/// Instructions, in their order.
+#[derive(Debug, Drop)]
+pub struct Instrs {
+    items: Vec<Instr>,
+}
+
+impl Model for Instrs {
+    ghost use Rattle.std.specs.Prelude.{List};
+    ghost use Rattle.dj_ops.specs.declared.instruction.Instr.{Instr};
+
+    ghost Value = { List Instr };
+
+    ghost view = { λ instrs. instrs.items.items };
+}
+
+impl Instrs {
+    /// No instructions.
+    pub fn new(alloc: Global) -> Instrs
+        ensures { result ≡ [] }
+    {
+        Instrs {
+            items: Vec::new(alloc),
+        }
+    }
+
+    /// Appends an instruction.
+    pub fn push(&mut self, instr: Instr) -> Result<(), NoMemory>
+        ensures ok { OnOk result (self.new ≡ self.old ++ instr ∷ []) }
+        ensures err { OnErr result (self.new ≡ self.old) }
+    {
+        Ok(self.items.push(instr)?)
+    }
+
+    /// The instructions, lent.
+    pub fn as_slice(&self) -> &[Instr]
+        ensures { result.now ≡ self.now }
+    {
+        self.items.as_slice()
+    }
+}

@@ -1,0 +1,9 @@
+pub mod Pool
+pub mod Faults
+pub mod Views
+pub mod Memory
+pub mod Answers
+pub mod Laws
+pub mod Tests
+pub mod Reading
+pub mod Scan

@@ -1,0 +1,151 @@
+ghost use Rattle.std.specs.Prelude.{◌≡◌, ◌≤◌, [], ◌∷◌, ◌++◌, length, map, IfOk, IfErr, OnOk};
+ghost use Rattle.dj_pool.specs.Pool.{Hole, indexed, takes_two, IsConstant};
+ghost use Rattle.dj_pool.specs.Views.{constant_of};
+ghost use Rattle.dj_pool.specs.Answers.{Appends, MayHaveText, Redirects, with_text};
+
+use crate::entries::is_wide;
+use crate::pool::{Entry, Pool};
+use std::alloc::{AllocError, AllocFailed, Global};
+use thiserror::Error;
+
+// The greatest index that an entry may have, since the count is one more and fits two bytes.
+const LAST_INDEX: usize = 65534;
+
+/// Why an entry was not appended, or a pool not copied or changed.
+#[derive(Clone, Copy, Debug, PartialEq, Eq, Error)]
+pub enum AppendError {
+    /// The entry's last index would pass 65,534.
+    #[error("the pool is full")]
+    Full,
+    /// There was no memory.
+    #[error("there was no memory")]
+    Memory,
+}
+
+impl From<AllocError> for AppendError {
+    ghost use Rattle.dj_pool.specs.declared.append.AppendError.TheVariants.{Memory};
+
+    ghost from_gives = { λ _ e. e ≡ Memory };
+
+    fn from(_error: AllocError) -> AppendError {
+        AppendError::Memory
+    }
+}
+
+impl<T: Drop> From<AllocFailed<T>> for AppendError {
+    ghost use Rattle.dj_pool.specs.declared.append.AppendError.TheVariants.{Memory};
+
+    ghost from_gives = { λ _ e. e ≡ Memory };
+
+    fn from(_error: AllocFailed<T>) -> AppendError {
+        AppendError::Memory
+    }
+}
+
+impl<'a> Pool<'a> {
+    /// No entries.
+    pub fn new(alloc: Global) -> Pool<'a>
+        ensures { result ≡ [] }
+    {
+        Pool {
+            entries: Vec::new(alloc),
+        }
+    }
+
+    /// The same entries once more.
+    pub fn copy(&self, alloc: Global) -> Result<Pool<'a>, AppendError>
+        ensures ok { IfOk result (λ pool. pool ≡ self.now) }
+        ensures err { IfErr result (λ e. e ≡ AppendError.Memory) }
+    {
+        let entries = self.entries.as_slice().to_vec(alloc)?;
+        Ok(Pool { entries })
+    }
+
+    fn push_one(&mut self, entry: Entry<'a>) -> Result<(), AppendError>
+        ensures ok { OnOk result (self.new ≡ self.old ++ constant_of entry.entry ∷ []) }
+        ensures err { IfErr result (λ e. (self.new ≡ self.old) × (e ≡ AppendError.Memory)) }
+    {
+        match self.entries.push(entry) {
+            Ok(()) => Ok(()),
+            Err(_) => Err(AppendError::Memory),
+        }
+    }
+
+    /// Appends an entry and the hole after it.
+    fn push_wide(&mut self, entry: Entry<'a>) -> Result<(), AppendError>
+        ensures ok { OnOk result (self.new ≡ self.old ++ constant_of entry.entry ∷ (Hole ∷ [])) }
+        ensures err { IfErr result (λ e. (self.new ≡ self.old) × (e ≡ AppendError.Memory)) }
+    {
+        match self.entries.reserve(2) {
+            Ok(()) => {}
+            Err(_) => return Err(AppendError::Memory),
+        }
+        match self.entries.push(entry) {
+            Ok(()) => {}
+            Err(_) => return Err(AppendError::Memory),
+        }
+        match self.entries.push(Entry::Hole) {
+            Ok(()) => Ok(()),
+            Err(_) => unreachable!(),
+        }
+    }
+
+    /// Appends what an entry puts at its indexes.
+    fn push(&mut self, entry: Entry<'a>) -> Result<(), AppendError>
+        ensures ok { OnOk result (self.new ≡ self.old ++ indexed (constant_of entry.entry ∷ [])) }
+        ensures err { IfErr result (λ e. (self.new ≡ self.old) × (e ≡ AppendError.Memory)) }
+    {
+        if is_wide(&entry) {
+            self.push_wide(entry)
+        } else {
+            self.push_one(entry)
+        }
+    }
+
+    /// Appends an entry that is valid there, and answers its index. The pool stays as it is where there is no room or no memory.
+    pub fn append(&mut self, entry: Entry<'a>) -> Result<u16, AppendError>
+        requires { IsConstant self.old (constant_of entry) }
+        ensures { Appends self.old (constant_of entry.entry) self.new result }
+    {
+        let len = self.entries.len();
+        if LAST_INDEX - taken(&entry) < len {
+            return Err(AppendError::Full);
+        }
+        match self.push(entry) {
+            Ok(()) => Ok((len + 1) as u16),
+            Err(e) => Err(e),
+        }
+    }
+
+    /// Gives the class, the name and type or the method type of an index another text; of a name and type it is the descriptor.
+    pub fn redirect(&mut self, index: u16, text: u16) -> Result<(), AppendError>
+        requires { MayHaveText self.old index text }
+        ensures ok { OnOk result (Redirects self.old index text self.new) }
+        ensures err { IfErr result (λ e. (self.new ≡ self.old) × (e ≡ AppendError.Memory)) }
+    {
+        let at = (index - 1) as usize;
+        let changed = with_text(&self.entries[at], text);
+        self.entries[at] = changed;
+        Ok(())
+    }
+}
+
+/// The indexes that the entry takes.
+fn taken(entry: &Entry<'_>) -> usize
+    ensures is { result ≡ length (indexed (constant_of entry.now ∷ [])) }
+    ensures few { result ≤ 2 }
+{
+    if is_wide(entry) { 2 } else { 1 }
+}
+
+/// The entry with another text, where it has one.
+fn with_text<'a>(entry: &Entry<'a>, text: u16) -> Entry<'a>
+    ensures { constant_of result ≡ with_text text (constant_of entry.now) }
+{
+    match entry {
+        Entry::Class(_) => Entry::Class(text),
+        Entry::NameAndType(name, _) => Entry::NameAndType(*name, text),
+        Entry::MethodType(_) => Entry::MethodType(text),
+        other => *other,
+    }
+}

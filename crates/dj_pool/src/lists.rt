@@ -1,0 +1,82 @@
+ghost use Rattle.std.specs.Prelude.{◌≡◌, [], ◌∷◌, ◌++◌, OnOk, OnErr};
+
+use std::alloc::{AllocError, AllocFailed, Global};
+use std::marker::Model;
+use thiserror::Error;
+
+/// There was no memory.
+#[derive(Clone, Copy, Debug, PartialEq, Eq, Error)]
+pub enum NoMemory {
+    #[error("there was no memory")]
+    Memory,
+}
+
+impl From<AllocError> for NoMemory {
+    ghost use Rattle.dj_pool.specs.declared.lists.NoMemory.TheVariants.{Memory};
+
+    ghost from_gives = { λ _ e. e ≡ Memory };
+
+    fn from(_error: AllocError) -> NoMemory {
+        NoMemory::Memory
+    }
+}
+
+impl<T: Drop> From<AllocFailed<T>> for NoMemory {
+    ghost use Rattle.dj_pool.specs.declared.lists.NoMemory.TheVariants.{Memory};
+
+    ghost from_gives = { λ _ e. e ≡ Memory };
+
+    fn from(_error: AllocFailed<T>) -> NoMemory {
+        NoMemory::Memory
+    }
+}
+
+/// Indexes of the pool.
+#[derive(Debug, Drop)]
+pub struct Indexes {
+    items: Vec<u16>,
+}
+
+impl Model for Indexes {
+    ghost use Rattle.std.specs.Prelude.{List, ℕ};
+
+    ghost Value = { List ℕ };
+
+    ghost view = { λ indexes. indexes.items.items };
+}
+
+impl Indexes {
+    /// No indexes.
+    pub fn new(alloc: Global) -> Indexes
+        ensures { result ≡ [] }
+    {
+        Indexes {
+            items: Vec::new(alloc),
+        }
+    }
+
+    /// Appends an index.
+    pub fn push(&mut self, item: u16) -> Result<(), NoMemory>
+        ensures ok { OnOk result (self.new ≡ self.old ++ item ∷ []) }
+        ensures err { OnErr result (self.new ≡ self.old) }
+    {
+        match self.items.push(item) {
+            Ok(()) => Ok(()),
+            Err(_) => Err(NoMemory::Memory),
+        }
+    }
+
+    /// The indexes that a vector has.
+    pub fn from_vec(items: Vec<u16>) -> Indexes
+        ensures { result ≡ items.items }
+    {
+        Indexes { items }
+    }
+
+    /// The indexes, lent.
+    pub fn as_slice(&self) -> &[u16]
+        ensures { result.now ≡ self.now }
+    {
+        self.items.as_slice()
+    }
+}

@@ -1,0 +1,95 @@
+-- The limits, the order in which files are judged and run, the lines of a run, and the entry, at plain values.
+use Rattle.std.proofs.Common.{◌≡◌, ◌≢◌, ℕ, ◌⊎◌, false, List, [], ◌∷◌, ◌++◌, length, Option, Some, None, inl, inr, refl, sym, ap, ◌∙◌}
+use Rattle.std.specs.Prelude.{codes}
+use Rattle.dj_edge.specs.Held.{File}
+use Rattle.dj_report.specs.Stages.{IsDecided}
+use Rattle.dj_report.specs.declared.report.Report.{Report}
+use Rattle.dj_report.specs.declared.report.Report.TheVariants as reports
+use Rattle.dj_report.specs.declared.report.Violation.{Violation}
+use Rattle.dj_rules.specs.Violations.{AreViolations}
+use Rattle.dj_straight.specs.Program.{Program, Method}
+use Rattle.dj_straight.specs.Straight.{IsNotStraight}
+use Rattle.dj_sandbox.specs.Entry.{entry_method, has_entry, IsEntryLine, IsShapeLine}
+use Rattle.dj_sandbox.specs.Judging.{IsFirstPath, JudgesFiles, JudgesRun, Runs, Accepts, check_stages, run_stages}
+use Rattle.dj_sandbox.specs.Limits.{most_files, most_file_bytes, most_total_bytes, most_input_bytes, default_thresholds}
+use Rattle.dj_sandbox.specs.Statuses.{IsAmong, check_statuses, run_statuses}
+
+-- ---- the limits and the thresholds
+
+limit-files : most_files ≡ 4096
+limit-files = refl
+
+limit-file : most_file_bytes ≡ 4194304
+limit-file = refl
+
+limit-total : most_total_bytes ≡ 67108864
+limit-total = refl
+
+limit-input : most_input_bytes ≡ 1048576
+limit-input = refl
+
+thresholds : default_thresholds ≡ record { alloc = 67108864; invoke = 1000000; jump = 1000000; throw = 1000000 }
+thresholds = refl
+
+-- ---- the order
+
+rejected-first : (files : List File) (violations : List Violation) → AreViolations files violations → violations ≢ [] → IsDecided (check_stages files) (reports.Rejected violations)
+rejected-first files violations are some = inl (violations, refl, are, some)
+
+accepted-last : (files : List File) → AreViolations files [] → IsDecided (check_stages files) (reports.Accepted (length files))
+accepted-last files are = inr (are, inl refl)
+
+run-rejected_first : (files : List File) (class input : List ℕ) (violations : List Violation) → AreViolations files violations → violations ≢ []
+    → IsDecided (run_stages files class input) (reports.Rejected violations)
+run-rejected_first files class input violations are some = inl (violations, refl, are, some)
+
+run-not_straight_second : (files : List File) (class input path : List ℕ) → AreViolations files [] → IsNotStraight files → IsFirstPath files path
+    → IsDecided (run_stages files class input) (reports.Later path)
+run-not_straight_second files class input path are not_straight first = inr (are, inl (path, refl, not_straight, first))
+
+-- nothing is rejected without a violation
+rejected-none : (files : List File) → JudgesFiles files (Some (reports.Rejected [])) → ⊥
+rejected-none files h =
+    let none : [] ≡ h.0 = cc (h.1) in
+    h.3 (sym none)
+
+run-rejected_none : (files : List File) (class : List ℕ) → JudgesRun files class (Some (reports.Rejected [])) → ⊥
+run-rejected_none files class h =
+    let none : [] ≡ h.1 = cc (h.3) in
+    h.5 (sym none)
+
+-- a run always ends, and files are always accepted at last
+runs-on : (files : List File) (class input : List ℕ) → Runs files class input None → ⊥
+runs-on files class input h = h
+
+accepts-on : (files : List File) → Accepts files None → ⊥
+accepts-on files h = h
+
+accepted-fewer : (file : File) → Accepts (file ∷ []) (Some (reports.Accepted 0)) → ⊥
+accepted-fewer file h = absurd cc
+
+-- ---- the entry, the lines and the statuses
+
+entry-verify : entry_method (codes "A") ≡ record { class = codes "A"; name = codes "verify"; desc = codes "([B)[B" }
+entry-verify = refl
+
+entry-none : has_entry [] (codes "A") ≡ false
+entry-none = refl
+
+entry-line : (program : Program) (v : Violation) → IsEntryLine program (codes "A") v → v ≡ record { path = codes "A.class"; member = []; number = None; rule = 20 }
+entry-line program v is = is.1
+
+shape-line : (path : List ℕ) (methods : List Method) (v : Violation) → IsShapeLine path methods v → v.rule ≡ 19
+shape-line path methods v is = ap (λ (w : Violation). w.rule) is.line
+
+shape-path : (path : List ℕ) (methods : List Method) (v : Violation) → IsShapeLine path methods v → v.path ≡ path
+shape-path path methods v is = ap (λ (w : Violation). w.path) is.line
+
+statuses-check : check_statuses ≡ 0 ∷ 2 ∷ []
+statuses-check = refl
+
+statuses-run : run_statuses ≡ 0 ∷ 1 ∷ 2 ∷ 3 ∷ 75 ∷ []
+statuses-run = refl
+
+status-other : IsAmong 7 run_statuses → ⊥
+status-other h = absurd cc

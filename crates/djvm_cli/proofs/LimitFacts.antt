@@ -1,0 +1,157 @@
+-- On which side of each limit a report lies, the first of the stages that decides, and how a call ends, at plain values.
+use Rattle.std.proofs.Common.{◌≡◌, ◌≢◌, ℕ, ◌+◌, ◌<◌, ◌≤◌, List, [], ◌∷◌, ◌++◌, length, Option, Some, None, inl, inr, refl, sym, subst, arith}
+use Rattle.std.specs.Prelude.{codes}
+use Rattle.std.specs.Io.KnownBytes.{Appends}
+use Rattle.dj_edge.specs.Held.{File, Held, class_files, bytes_at}
+use Rattle.dj_edge.specs.Counts.{Rose}
+use Rattle.dj_report.specs.declared.report.Report.{Report}
+use Rattle.dj_report.specs.declared.report.Report.TheVariants as reports
+use Rattle.dj_report.specs.declared.report.Limit.TheVariants as limits
+use Rattle.dj_report.specs.Text.{report_text}
+use Rattle.dj_report.specs.declared.report.Violation.{Violation}
+use Rattle.dj_rules.specs.Violations.{AreViolations}
+use Rattle.dj_sandbox.specs.Limits.{AreWithin, IsFirstPast, IsTooLong, IsTooMuch, total_bytes}
+use Rattle.djvm_cli.specs.Job.{Check, Verify}
+use Rattle.djvm_cli.specs.Report.{CountsFiles, ReadsInput, FindsInput, ReadsFiles, IsReport, files_within}
+use Rattle.djvm_cli.specs.Ends.{ReadEnds, OutOfMemory, WritesFront, IsReportStatus, TellsUsage}
+use Rattle.djvm_cli.proofs.Same.{same_front}
+
+-- ---- the number of files
+
+files-within : (files : List File) → length files ≡ 4096 → CountsFiles files None
+files-within files is = omega arith
+
+files-not_past : (files : List File) (report : Report) → length files ≡ 4096 → CountsFiles files (Some report) → ⊥
+files-not_past files report is h = omega (arith, h.1)
+
+files-past : (files : List File) → length files ≡ 4097 → CountsFiles files (Some (reports.Limited limits.FileCount))
+files-past files is = (refl, omega arith)
+
+files-not_within : (files : List File) → length files ≡ 4097 → CountsFiles files None → ⊥
+files-not_within files is h = omega (arith, h)
+
+-- ---- the input
+
+input-within : (path input : List ℕ) → length input ≡ 1048576 → ReadsInput path (Some input) None
+input-within path input is = omega arith
+
+input-not_past : (path input : List ℕ) (report : Report) → length input ≡ 1048576 → ReadsInput path (Some input) (Some report) → ⊥
+input-not_past path input report is h = omega (arith, h.1)
+
+input-past : (path input : List ℕ) → length input ≡ 1048577 → ReadsInput path (Some input) (Some (reports.Limited limits.Input))
+input-past path input is = (refl, omega arith)
+
+input-not_within : (path input : List ℕ) → length input ≡ 1048577 → ReadsInput path (Some input) None → ⊥
+input-not_within path input is h = omega (arith, h)
+
+-- an input that isn't there is told under its path, and a check has none
+input-absent : (path : List ℕ) → ReadsInput path None (Some (reports.Absent path))
+input-absent path = refl
+
+input-not_absent : (path : List ℕ) → ReadsInput path None None → ⊥
+input-not_absent path h = h
+
+input-of_check : (held : Held) (report : Report) → FindsInput (Check (codes "c")) held (Some report) → ⊥
+input-of_check held report h = h
+
+-- ---- one file, and two together
+
+abbrev one : List ℕ → List File
+one bytes = (codes "A.class", bytes) ∷ []
+
+file-within : (bytes : List ℕ) → length bytes ≡ 4194304 → ReadsFiles (one bytes) None
+file-within bytes is = record { each = (omega arith, tt); together = omega arith }
+
+file-not_within : (bytes : List ℕ) → length bytes ≡ 4194305 → ReadsFiles (one bytes) None → ⊥
+file-not_within bytes is h = omega (arith, h.each.0)
+
+file-past : (bytes : List ℕ) → length bytes ≡ 4194305 → ReadsFiles (one bytes) (Some (reports.Limited limits.File))
+file-past bytes is = inl (
+  refl,
+  record {
+    front = [];
+    file = (codes "A.class", bytes);
+    rest = [];
+    parts = refl;
+    before = record { each = tt; together = omega arith };
+    past = omega arith;
+  },
+)
+
+-- a file that is too long is told so, and not that it makes the files too long together
+file-first : (front : List File) (path bytes : List ℕ) → length bytes ≡ 4194305 → IsTooMuch front (path, bytes) → ⊥
+file-first front path bytes is h = omega (arith, h.0)
+
+total-within : (front : List File) (path bytes : List ℕ) → total_bytes front ≡ 67108863 → length bytes ≡ 1 → IsTooMuch front (path, bytes) → ⊥
+total-within front path bytes sum is h = omega (arith, h.1)
+
+total-past : (front : List File) (path bytes : List ℕ) → total_bytes front ≡ 67108863 → length bytes ≡ 2 → IsTooMuch front (path, bytes)
+total-past front path bytes sum is = (omega arith, omega arith)
+
+total-not_within : (files : List File) → total_bytes files ≡ 67108865 → AreWithin files → ⊥
+total-not_within files sum h = omega (arith, h.together)
+
+-- ---- the order
+
+check_words : List (List ℕ)
+check_words = codes "check" ∷ codes "c" ∷ []
+
+verify_words : List (List ℕ)
+verify_words = codes "verify" ∷ codes "c/" ∷ codes "A" ∷ codes "in" ∷ []
+
+order-files : (held : Held) → 4096 < length (class_files (codes "c") held) → IsReport verify_words held (reports.Limited limits.FileCount)
+unfolding verify_words
+order-files held past = inl (refl, past)
+
+order-input : (held : Held) → length (class_files (codes "c") held) ≤ 4096 → bytes_at held (codes "in") ≡ None → IsReport verify_words held (reports.Absent (codes "in"))
+unfolding verify_words
+order-input held few absent =
+    let P : Option (List ℕ) → Type 0 = λ found. ReadsInput (codes "in") found (Some (reports.Absent (codes "in"))) in
+    inr (few, inl (subst P (sym absent) refl))
+
+order-file : (held : Held) → length (class_files (codes "c") held) ≤ 4096 → IsFirstPast IsTooLong (class_files (codes "c") held) → IsReport check_words held (reports.Limited limits.File)
+unfolding check_words
+order-file held few past = inr (few, inr (tt, inl (inl (refl, past))))
+
+order-total : (held : Held) → length (class_files (codes "c") held) ≤ 4096 → IsFirstPast IsTooMuch (class_files (codes "c") held) → IsReport check_words held (reports.Limited limits.Total)
+unfolding check_words
+order-total held few past = inr (few, inr (tt, inl (inr (refl, past))))
+
+order-judged : (held : Held) (violations : List Violation) → length (class_files (codes "c") held) ≤ 4096 → AreWithin (class_files (codes "c") held)
+    → AreViolations (files_within (codes "c") held) violations → violations ≢ [] → IsReport check_words held (reports.Rejected violations)
+unfolding check_words
+order-judged held violations few within are some = inr (few, inr (tt, inr (within, inl (violations, refl, are, some))))
+
+order-words : (held : Held) → IsReport (codes "check" ∷ []) held reports.Usage
+order-words held = inl refl
+
+-- ---- how a call ends
+
+-- where the store tells nothing, 65 is answered only where it failed
+read-untold : (words : List (List ℕ)) (before now : ℕ) (old new : Option (List ℕ)) → ReadEnds words None before now old new → Rose before now
+read-untold words before now old new (inl fault) = fault.rose
+read-untold words before now old new (inr told) = let held = told.0 in absurd cc
+
+-- and then nothing is written
+read-nothing : (words : List (List ℕ)) (before now : ℕ) (new : List ℕ) → ReadEnds words None before now (Some []) (Some new) → new ≡ []
+read-nothing words before now new (inl fault) = fault.written
+read-nothing words before now new (inr told) = let held = told.0 in absurd cc
+
+front-none : (old new : Option (List ℕ)) (text : List ℕ) → Appends old new [] → WritesFront old new text
+front-none old new text nothing = ([], (text, refl), nothing)
+
+-- where memory ran out, a front of the right report was written
+memory-front : (words : List (List ℕ)) (held : Held) (report : Report) (old new : Option (List ℕ)) → IsReport words held report → OutOfMemory words (Some held) old new → WritesFront old new (report_text report)
+memory-front words held report old new right (inl broken) = same_front words held report old new right broken
+memory-front words held report old new right (inr nothing) = front-none old new (report_text report) nothing
+
+-- only a store that tells what it holds has a report with the status 65
+absent-untold : IsReportStatus (Some (Verify [] [] [])) None 65 → ⊥
+absent-untold h = let held = h.1 refl in absurd cc
+
+-- words of no job have the status 64 and no other
+usage-is : TellsUsage [] 64
+usage-is = (λ _. refl, λ _. refl)
+
+usage-only : TellsUsage [] 0 → ⊥
+usage-only h = absurd (cc (h.1 refl))
