@@ -48,3 +48,4 @@ pub mod QuietLibraries
 pub mod SoundPrograms
 mod SoundProgramFacts
 mod SoundFiles
+mod AskFacts

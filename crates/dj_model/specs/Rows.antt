@@ -225,14 +225,13 @@ illegal_type = class_type (lang_name (codes "IllegalArgumentException"))
 abbrev pub pay_class : Class
 pay_class = class_with (codes "a/Pay") (field_with 8 (codes "total") int None ∷ []) (verify_with
     (class 187 positive_type ∷ op 89 ∷ construct positive_type [] ∷ op 76
-    ∷ op 42 ∷ op 3 ∷ op 51 ∷ op 61 ∷ op 43 ∷ op 28 ∷ invokeinterface 2 check_type (codes "ok") (int ∷ []) (Some boolean) ∷ jump 154 26
+    ∷ op 42 ∷ op 3 ∷ op 51 ∷ op 61 ∷ op 43 ∷ op 28 ∷ invokeinterface 2 check_type (codes "ok") (int ∷ []) (Some boolean) ∷ jump 154 24
     ∷ class 187 illegal_type ∷ op 89 ∷ class 187 builder ∷ op 89 ∷ construct builder [] ∷ ldc (AText (codes "bad amount "))
     ∷ method 182 builder (codes "append") (string ∷ []) (Some builder) ∷ op 28 ∷ method 182 builder (codes "append") (int ∷ []) (Some builder)
     ∷ method 182 builder (codes "toString") [] (Some string) ∷ construct illegal_type (string ∷ []) ∷ op 191
-    ∷ op 0 ∷ op 0
     ∷ op 42 ∷ op 78 ∷ field 178 pay_type (codes "total") int ∷ op 4 ∷ op 96 ∷ field 179 pay_type (codes "total") int ∷ op 45 ∷ op 176
     ∷ slot 58 4 ∷ field 178 pay_type (codes "total") int ∷ op 4 ∷ op 96 ∷ field 179 pay_type (codes "total") int ∷ slot 25 4 ∷ op 191 ∷ [])
-    (catch_all 4 28 34 ∷ catch_all 34 35 34 ∷ []) ∷ [])
+    (catch_all 4 26 32 ∷ catch_all 32 33 32 ∷ []) ∷ [])
 
 pub record WorkedMetered : Type 0 where
   pub sum : Meters (sum_class ∷ []) (1 ∷ 2 ∷ 3 ∷ []) usual (outcomes.OkBytes (6 ∷ [])) (costs 24 0 7 0)
