@@ -198,3 +198,14 @@ def straight(body, max_stack=4, max_locals=4, name="verify", flags=PUBLIC | STAT
 
 def native(name, descriptor="()V"):
     return (name, descriptor, NATIVE | 1)
+
+
+def natives_of_equal_texts(this_class, name, names, descriptor, descriptors):
+    """A class file whose pool has this name so many times, and this descriptor, and which has a native method for each index of
+    the name with each of the descriptor. So its methods have one line of a report together."""
+    pool = Pool()
+    heads = pool.class_name(this_class), pool.class_name(OBJECT)
+    names = [pool.add(text_entry(name)) for _ in range(names)]
+    descriptors = [pool.add(text_entry(descriptor)) for _ in range(descriptors)]
+    methods = [row(NATIVE, one, other, 0) for one in names for other in descriptors]
+    return u4(0xCAFEBABE) + row(0, 52) + pool.bytes() + row(0x21, *heads, 0, 0, len(methods)) + b"".join(methods) + row(0)

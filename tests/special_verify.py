@@ -61,6 +61,26 @@ def input_is_folder():
     os.mkdir("in")
 
 
+@special(*VERIFY, wanted=fault, as_nobody=True)
+def input_unreadable():
+    write_one()
+    write("in")
+    os.chmod("in", 0)
+
+
+@special(*VERIFY, wanted=fault, as_nobody=True)
+def unreadable_file_of_a_run():
+    write_one()
+    os.chmod("c/A.class", 0)
+    write("in")
+
+
+@special(*VERIFY, wanted=fault, as_nobody=True)
+def unreadable_folder_of_a_run():
+    write("in")
+    os.mkdir("c", 0)
+
+
 @special("verify", "c", "A", "", wanted=fault)
 def input_word_empty():
     write_one()

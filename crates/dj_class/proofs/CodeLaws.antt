@@ -25,7 +25,7 @@ use Rattle.dj_class.specs.CodeFaults.{IsCodeLength, LengthFault, RowFault, CodeA
 use Rattle.dj_class.specs.CodeViews.{code_of, ReadsCode}
 use Rattle.dj_class.specs.Laws.{CodeOrFault, IsOneCode, IsFaultyCode}
 use Rattle.dj_class.specs.CodeReading.{code_length_at, code_front_at, row_at, code_attribute_at, code_read}
-use Rattle.dj_class.specs.Memory.{is_memory}
+use Rattle.dj_class.specs.Memory.{code_is_memory}
 
 -- ---- rows
 
@@ -263,9 +263,9 @@ decided body (Err e) fits h = IsFaultyCode e (fault_told body e fits h)
 pub code_or_fault : (body : List ℕ) → IsBytes body → CodeOrFault body
 code_or_fault body fits = decided body (code_read body) fits refl
 
-pub reads_code : (body : List ℕ) (r : Result CodeView ClassError) → IsBytes body → Gives is_memory code_of r (code_read body) → ReadsCode body r
+pub reads_code : (body : List ℕ) (r : Result CodeView ClassError) → IsBytes body → Gives code_is_memory code_of r (code_read body) → ReadsCode body r
 reads_code body (Ok view) fits given = code_takes body (code_of view) fits given
-reads_code body (Err (class_errors.Pool pool_errors.Memory)) fits given = tt
+reads_code body (Err (class_errors.Pool pool_errors.Memory)) fits given = fault_told body _ fits given
 reads_code body (Err (class_errors.Pool (pool_errors.Cut p))) fits given = fault_told body _ fits given
 reads_code body (Err (class_errors.Pool (pool_errors.Tag p))) fits given = fault_told body _ fits given
 reads_code body (Err (class_errors.Pool (pool_errors.Link p))) fits given = fault_told body _ fits given

@@ -1,5 +1,5 @@
--- The definitions at plain values: a class file and its bytes, what is faulty in files that differ from it in one byte, rows, code lengths and access flags.
-use Rattle.std.proofs.Common.{◌≡◌, ◌≢◌, ℕ, ◌+◌, true, false, List, [], ◌∷◌, ◌++◌, map, take, drop, Result, Ok, Err, refl, arith, inl, inr}
+-- The definitions at plain values: class files and their bytes, what is faulty in files that differ from them in one byte, rows, code lengths and access flags.
+use Rattle.std.proofs.Common.{◌≡◌, ◌≢◌, ℕ, ◌+◌, true, false, List, [], ◌∷◌, ◌++◌, length, map, take, drop, Result, Ok, Err, refl, arith, inl, inr}
 use Rattle.std.specs.Prelude.{codes}
 use Rattle.dj_bytes.specs.Reading.{many_at, table_at}
 use Rattle.dj_names.specs.NameReading.{reads_class_name}
@@ -13,7 +13,7 @@ use Rattle.dj_pool.proofs.Decides.{tests_decide}
 use Rattle.dj_class.specs.declared.class.ClassError.{ClassError}
 use Rattle.dj_class.specs.declared.class.ClassError.TheVariants as errors
 use Rattle.dj_class.specs.ClassFile.{ClassFile, class_bytes}
-use Rattle.dj_class.specs.Code.{row_bytes}
+use Rattle.dj_class.specs.Code.{CodeInfo, row_bytes, code_info_bytes, IsCode}
 use Rattle.dj_class.specs.Faults.{IsFault}
 use Rattle.dj_class.specs.CodeFaults.{IsCodeLength, IsCodeFault}
 use Rattle.dj_class.specs.Access.{access_table}
@@ -23,7 +23,7 @@ use Rattle.dj_class.proofs.ClassLaws.{fault_again}
 
 -- ---- a class file of one method
 
-class_a : ClassFile
+unfoldable pub class_a : ClassFile
 class_a = record {
   minor = 0;
   major = 52;
@@ -37,16 +37,16 @@ class_a = record {
   attributes = [];
 }
 
-bytes_a : List ℕ
+unfoldable pub bytes_a : List ℕ
 bytes_a = 202 ∷ 254 ∷ 186 ∷ 190 ∷ 0 ∷ 0 ∷ 0 ∷ 52 ∷ 0 ∷ 8 ∷ 1 ∷ 0 ∷ 1 ∷ 65 ∷ 7 ∷ 0 ∷ 1 ∷ 1 ∷ 0 ∷ 16 ∷ 106 ∷ 97 ∷ 118 ∷ 97 ∷ 47 ∷ 108 ∷ 97 ∷ 110 ∷ 103 ∷ 47 ∷ 79 ∷ 98 ∷ 106 ∷ 101 ∷ 99 ∷ 116 ∷ 7 ∷ 0 ∷ 3 ∷ 1 ∷ 0 ∷ 6 ∷ 118 ∷ 101 ∷ 114 ∷ 105 ∷ 102 ∷ 121 ∷ 1 ∷ 0 ∷ 6 ∷ 40 ∷ 91 ∷ 66 ∷ 41 ∷ 91 ∷ 66 ∷ 1 ∷ 0 ∷ 4 ∷ 67 ∷ 111 ∷ 100 ∷ 101 ∷ 0 ∷ 33 ∷ 0 ∷ 2 ∷ 0 ∷ 4 ∷ 0 ∷ 0 ∷ 0 ∷ 0 ∷ 0 ∷ 1 ∷ 0 ∷ 9 ∷ 0 ∷ 5 ∷ 0 ∷ 6 ∷ 0 ∷ 1 ∷ 0 ∷ 7 ∷ 0 ∷ 0 ∷ 0 ∷ 14 ∷ 0 ∷ 1 ∷ 0 ∷ 1 ∷ 0 ∷ 0 ∷ 0 ∷ 2 ∷ 42 ∷ 176 ∷ 0 ∷ 0 ∷ 0 ∷ 0 ∷ 0 ∷ 0 ∷ []
 
 -- the file is spelled so
-class_a-bytes : class_bytes class_a ≡ bytes_a
+pub class_a-bytes : class_bytes class_a ≡ bytes_a
 unfolding class_a bytes_a
 class_a-bytes = refl
 
 -- with one byte put another way
-changed : ℕ → ℕ → List ℕ
+unfoldable pub changed : ℕ → ℕ → List ℕ
 changed place byte = take place bytes_a ++ byte ∷ drop (place + 1) bytes_a
 
 -- ---- what is read of files
@@ -100,7 +100,7 @@ unfolding files answers class_a bytes_a changed utf8_at number4_at number8_at na
 files-read = refl
 
 -- a class that is an array's: the pool allows it, the file's class may be none
-array_file : List ℕ
+unfoldable pub array_file : List ℕ
 array_file = 202 ∷ 254 ∷ 186 ∷ 190 ∷ 0 ∷ 0 ∷ 0 ∷ 52 ∷ 0 ∷ 3 ∷ 1 ∷ 0 ∷ 2 ∷ 91 ∷ 73 ∷ 7 ∷ 0 ∷ 1 ∷ 0 ∷ 33 ∷ 0 ∷ 2 ∷ 0 ∷ 0 ∷ 0 ∷ 0 ∷ 0 ∷ 0 ∷ 0 ∷ 0 ∷ 0 ∷ 0 ∷ []
 
 array_file-read : class_file_of array_file ≡ Err (errors.Index 20)
@@ -133,6 +133,77 @@ init-names : map method_name_test (codes "<init>" ∷ (codes "<clinit>" ∷ (cod
 unfolding method_name_test unqualified_name_test
 init-names = refl
 
+field-names : map unqualified_name_test (codes "<init>" ∷ (codes "<x>" ∷ (codes "x" ∷ (codes "a.x" ∷ [])))) ≡ true ∷ (true ∷ (true ∷ (false ∷ [])))
+unfolding unqualified_name_test
+field-names = refl
+
+-- ---- a class file with an interface, a field, a method and an attribute
+
+-- the field's name is one that no method has; 7 is an array's class
+unfoldable pub class_b : ClassFile
+class_b = record {
+  minor = 0;
+  major = 52;
+  pool = Utf8 (codes "A") ∷ Class 1 ∷ Utf8 (codes "<x>") ∷ Utf8 (codes "I") ∷ Utf8 (codes "()V") ∷ Utf8 (codes "[I") ∷ Class 6 ∷ [];
+  flags = 33;
+  this_class = 2;
+  super_class = 0;
+  interfaces = 2 ∷ [];
+  fields = record { flags = 9; name = 3; desc = 4; attributes = [] } ∷ [];
+  methods = record { flags = 9; name = 1; desc = 5; attributes = [] } ∷ [];
+  attributes = record { name = 1; body = (7 ∷ []) } ∷ [];
+}
+
+unfoldable pub bytes_b : List ℕ
+bytes_b = 202 ∷ 254 ∷ 186 ∷ 190 ∷ 0 ∷ 0 ∷ 0 ∷ 52 ∷ 0 ∷ 8 ∷ 1 ∷ 0 ∷ 1 ∷ 65 ∷ 7 ∷ 0 ∷ 1 ∷ 1 ∷ 0 ∷ 3 ∷ 60 ∷ 120 ∷ 62 ∷ 1 ∷ 0 ∷ 1 ∷ 73 ∷ 1 ∷ 0 ∷ 3 ∷ 40 ∷ 41 ∷ 86 ∷ 1 ∷ 0 ∷ 2 ∷ 91 ∷ 73 ∷ 7 ∷ 0 ∷ 6 ∷ 0 ∷ 33 ∷ 0 ∷ 2 ∷ 0 ∷ 0 ∷ 0 ∷ 1 ∷ 0 ∷ 2 ∷ 0 ∷ 1 ∷ 0 ∷ 9 ∷ 0 ∷ 3 ∷ 0 ∷ 4 ∷ 0 ∷ 0 ∷ 0 ∷ 1 ∷ 0 ∷ 9 ∷ 0 ∷ 1 ∷ 0 ∷ 5 ∷ 0 ∷ 0 ∷ 0 ∷ 1 ∷ 0 ∷ 1 ∷ 0 ∷ 0 ∷ 0 ∷ 1 ∷ 7 ∷ []
+
+pub class_b-bytes : class_bytes class_b ≡ bytes_b
+unfolding class_b bytes_b
+class_b-bytes = refl
+
+changed_b : ℕ → ℕ → List ℕ
+changed_b place byte = take place bytes_b ++ byte ∷ drop (place + 1) bytes_b
+
+-- a method named so, descriptors of the other kind, a class and an array's descriptor as names, arrays, texts and nothing where a class is
+-- asked for, an attribute with a class and with nothing as its name, and one that is longer and shorter
+files_b : List (List ℕ)
+files_b =
+    bytes_b
+    ∷ ((changed_b 66 3)
+    ∷ ((changed_b 68 4)
+    ∷ ((changed_b 56 2)
+    ∷ ((changed_b 56 6)
+    ∷ ((changed_b 58 5)
+    ∷ ((changed_b 46 7)
+    ∷ ((changed_b 50 7)
+    ∷ ((changed_b 50 1)
+    ∷ ((changed_b 50 0)
+    ∷ ((changed_b 74 2)
+    ∷ ((changed_b 74 0)
+    ∷ ((changed_b 78 2)
+    ∷ ((changed_b 78 0) ∷ [])))))))))))))
+
+answers_b : List (Result ClassFile ClassError)
+answers_b =
+    Ok class_b
+    ∷ ((Err (errors.Index 65))
+    ∷ ((Err (errors.Index 67))
+    ∷ ((Err (errors.Index 55))
+    ∷ ((Err (errors.Index 55))
+    ∷ ((Err (errors.Index 57))
+    ∷ ((Err (errors.Index 45))
+    ∷ ((Err (errors.Index 49))
+    ∷ ((Err (errors.Index 49))
+    ∷ ((Err (errors.Index 49))
+    ∷ ((Err (errors.Index 73))
+    ∷ ((Err (errors.Index 73))
+    ∷ ((Err (errors.Cut 79))
+    ∷ ((Err (errors.Trailing 79)) ∷ [])))))))))))))
+
+files_b-read : map class_file_of files_b ≡ answers_b
+unfolding files_b answers_b class_b bytes_b changed_b utf8_at number4_at number8_at named_at paired_at handle_at untagged_at constant_at_cursor slot_at slots_at first_unlinked linked_slots_at pool_at unit_read long_read two_read three_read units_read modified_utf8_test unqualified_name_test method_name_test class_name_test field_descriptor_test method_descriptor_test array_descriptor_test reads_class_name dims_read name_read class_read of_read type_read params_read field_read return_read method_read many_at table_at index_at attribute_at member_at magic_at header_at heading_at class_file_of
+files_b-read = refl
+
 -- ---- bodies of Code attributes
 
 -- the four fields of a row, in their order
@@ -154,6 +225,24 @@ longest_not h = omega (arith, h.1)
 
 none_not : IsCodeLength 0 → ⊥
 none_not h = omega (arith, h.0)
+
+-- a body with so much code, and nothing else
+of_code : List ℕ → CodeInfo
+of_code code = record { max_stack = 1; max_locals = 1; code = code; table = []; attributes = [] }
+
+-- 65,535 bytes of code are a body's, whatever they are, and 65,536 are none's
+longest-code : (code : List ℕ) → length code ≡ 65535 → IsCode (code_info_bytes (of_code code)) (of_code code)
+unfolding of_code
+longest-code code len = record {
+  spelled = refl;
+  valid = record { max_stack = omega arith; max_locals = omega arith; some_code = omega (arith, len); few_code = omega (arith, len); row_count = omega arith; rows = tt; attribute_count = omega arith; attributes = tt };
+}
+
+longer-code_not : (body : List ℕ) (c : CodeInfo) → length c.code ≡ 65536 → IsCode body c → ⊥
+longer-code_not body c len is = omega (arith, len, is.valid.few_code)
+
+no-code_not : (body : List ℕ) (c : CodeInfo) → length c.code ≡ 0 → IsCode body c → ⊥
+no-code_not body c len is = omega (arith, len, is.valid.some_code)
 
 -- the length 65,535 is asked for its bytes, and 65,536 refused where it stands
 lengths-read : map code_read ((0 ∷ 1 ∷ 0 ∷ 1 ∷ 0 ∷ 0 ∷ 255 ∷ 255 ∷ 177 ∷ []) ∷ ((0 ∷ 1 ∷ 0 ∷ 1 ∷ 0 ∷ 1 ∷ 0 ∷ 0 ∷ 177 ∷ []) ∷ ((0 ∷ 1 ∷ 0 ∷ 1 ∷ 0 ∷ 0 ∷ 0 ∷ 0 ∷ []) ∷ []))) ≡ Err (errors.Cut 8) ∷ (Err (errors.Index 4) ∷ (Err (errors.Index 4) ∷ []))

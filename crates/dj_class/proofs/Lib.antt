@@ -5,3 +5,7 @@ pub mod AnswerLaws
 pub mod TextLaws
 pub mod Facts
 pub mod CodeLaws
+mod CodeErrors
+mod CodeFacts
+mod LawFacts
+pub mod AnswerFacts

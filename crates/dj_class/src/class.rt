@@ -433,9 +433,7 @@ fn read_all<'a>(alloc: Global, file: &'a [u8]) -> Result<ClassView<'a>, ClassErr
 /// `<clinit>`; descriptors are of their kind; names of attributes are texts.
 pub fn read_class<'a>(alloc: Global, file: &'a [u8]) -> Result<ClassView<'a>, ClassError>
     requires { length file.now < 2 ^ 32 }
-    ensures means { ReadsClass file.now result }
-    // Which fault it is.
-    ensures exact { Gives is_memory class_of result (class_file_of file.now) }
+    ensures { ReadsClass file.now result }
 {
     read_all(alloc, file)
 }

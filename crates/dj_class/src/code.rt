@@ -5,7 +5,7 @@ ghost use Rattle.dj_bytes.specs.Views.{cursor_of};
 ghost use Rattle.dj_class.specs.Parts.{attribute_of};
 ghost use Rattle.dj_class.specs.CodeReading.{code_length_at, code_front_at, row_at, code_attribute_at, code_read};
 ghost use Rattle.dj_class.specs.CodeViews.{code_of, ReadsCode};
-ghost use Rattle.dj_class.specs.Memory.{is_memory};
+ghost use Rattle.dj_class.specs.Memory.{code_is_memory};
 ghost use Rattle.dj_class.specs.declared.class.ClassError.TheVariants as class_errors;
 
 use crate::class::{Attribute, ClassError, room};
@@ -26,7 +26,7 @@ pub struct CodeView<'a> {
 
 #[tactic(auto, unfolding(crate::specs::CodeReading::code_length_at))]
 fn read_code_length<'a>(cursor: Cursor<'a>) -> Result<(u32, Cursor<'a>), ClassError>
-    ensures { Gives is_memory (λ x. (x.0, cursor_of x.1)) result (code_length_at (cursor_of cursor.entry)) }
+    ensures { Gives code_is_memory (λ x. (x.0, cursor_of x.1)) result (code_length_at (cursor_of cursor.entry)) }
 {
     let (len, after) = cursor.u32_at()?;
     if 0 < len && len < 65_536 {
@@ -38,7 +38,7 @@ fn read_code_length<'a>(cursor: Cursor<'a>) -> Result<(u32, Cursor<'a>), ClassEr
 
 #[tactic(auto, unfolding(crate::specs::CodeReading::code_front_at))]
 fn read_code_front<'a>(cursor: Cursor<'a>) -> Result<((u16, u16, &'a [u8]), Cursor<'a>), ClassError>
-    ensures { Gives is_memory (λ x. ((x.0.0, x.0.1, x.0.2.now), cursor_of x.1)) result
+    ensures { Gives code_is_memory (λ x. ((x.0.0, x.0.1, x.0.2.now), cursor_of x.1)) result
         (code_front_at (cursor_of cursor.entry)) }
 {
     let (max_stack, after) = cursor.u16_at()?;
@@ -50,7 +50,7 @@ fn read_code_front<'a>(cursor: Cursor<'a>) -> Result<((u16, u16, &'a [u8]), Curs
 
 #[tactic(auto, unfolding(crate::specs::CodeReading::row_at))]
 fn read_row<'a>(cursor: Cursor<'a>) -> Result<(CatchRow, Cursor<'a>), ClassError>
-    ensures { Gives is_memory (λ x. (x.0, cursor_of x.1)) result (row_at (cursor_of cursor.entry)) }
+    ensures { Gives code_is_memory (λ x. (x.0, cursor_of x.1)) result (row_at (cursor_of cursor.entry)) }
 {
     let (start, after) = cursor.u16_at()?;
     let (end, after) = after.u16_at()?;
@@ -72,7 +72,7 @@ fn read_row_list<'a>(
     count: u16,
     cursor: Cursor<'a>,
 ) -> Result<(Vec<CatchRow>, Cursor<'a>), ClassError>
-    ensures { Gives is_memory (λ x. (x.0.items, cursor_of x.1)) result
+    ensures { Gives code_is_memory (λ x. (x.0.items, cursor_of x.1)) result
         (many_at row_at count (cursor_of cursor.entry)) }
 {
     let mut rows = Vec::with_capacity(alloc, room(count, cursor, 8))?;
@@ -87,7 +87,7 @@ fn read_row_list<'a>(
 
 #[tactic(auto, unfolding(dj_bytes::specs::Reading::table_at))]
 fn read_rows<'a>(alloc: Global, cursor: Cursor<'a>) -> Result<(Rows, Cursor<'a>), ClassError>
-    ensures { Gives is_memory (λ x. (x.0, cursor_of x.1)) result
+    ensures { Gives code_is_memory (λ x. (x.0, cursor_of x.1)) result
         (table_at class_errors.Cut row_at (cursor_of cursor.entry)) }
 {
     let (count, after) = cursor.u16_at()?;
@@ -97,7 +97,7 @@ fn read_rows<'a>(alloc: Global, cursor: Cursor<'a>) -> Result<(Rows, Cursor<'a>)
 
 #[tactic(auto, unfolding(crate::specs::CodeReading::code_attribute_at))]
 fn read_code_attribute<'a>(cursor: Cursor<'a>) -> Result<(Attribute<'a>, Cursor<'a>), ClassError>
-    ensures { Gives is_memory (λ x. (attribute_of x.0, cursor_of x.1)) result
+    ensures { Gives code_is_memory (λ x. (attribute_of x.0, cursor_of x.1)) result
         (code_attribute_at (cursor_of cursor.entry)) }
 {
     let (name, after) = cursor.u16_at()?;
@@ -111,7 +111,7 @@ fn read_code_attribute_list<'a>(
     count: u16,
     cursor: Cursor<'a>,
 ) -> Result<(Vec<Attribute<'a>>, Cursor<'a>), ClassError>
-    ensures { Gives is_memory (λ x. (map attribute_of x.0.items, cursor_of x.1)) result
+    ensures { Gives code_is_memory (λ x. (map attribute_of x.0.items, cursor_of x.1)) result
         (many_at code_attribute_at count (cursor_of cursor.entry)) }
 {
     let mut attributes = Vec::with_capacity(alloc, room(count, cursor, 6))?;
@@ -129,7 +129,7 @@ fn read_code_attributes<'a>(
     alloc: Global,
     cursor: Cursor<'a>,
 ) -> Result<(Attributes<'a>, Cursor<'a>), ClassError>
-    ensures { Gives is_memory (λ x. (x.0, cursor_of x.1)) result
+    ensures { Gives code_is_memory (λ x. (x.0, cursor_of x.1)) result
         (table_at class_errors.Cut code_attribute_at (cursor_of cursor.entry)) }
 {
     let (count, after) = cursor.u16_at()?;
@@ -140,7 +140,7 @@ fn read_code_attributes<'a>(
 #[tactic(auto, unfolding(crate::specs::CodeReading::code_read))]
 fn read_whole_code<'a>(alloc: Global, body: &'a [u8]) -> Result<CodeView<'a>, ClassError>
     requires { length body.now < 2 ^ 32 }
-    ensures { Gives is_memory code_of result (code_read body.now) }
+    ensures { Gives code_is_memory code_of result (code_read body.now) }
 {
     let start = Cursor::start(body);
     let ((max_stack, max_locals, code), after) = read_code_front(start)?;
@@ -164,9 +164,7 @@ fn read_whole_code<'a>(alloc: Global, body: &'a [u8]) -> Result<CodeView<'a>, Cl
 /// follows the last item: `Index` is the place of a code length that is 0 or above 65,535.
 pub fn read_code<'a>(alloc: Global, body: &'a [u8]) -> Result<CodeView<'a>, ClassError>
     requires { length body.now < 2 ^ 32 }
-    ensures means { ReadsCode body.now result }
-    // Which fault it is.
-    ensures exact { Gives is_memory code_of result (code_read body.now) }
+    ensures { ReadsCode body.now result }
 {
     read_whole_code(alloc, body)
 }

@@ -8,6 +8,12 @@ mod class;
 #[cfg(test)]
 mod code;
 #[cfg(test)]
+mod lists;
+#[cfg(test)]
+mod look_ups;
+#[cfg(test)]
 mod pool;
+#[cfg(test)]
+mod pool_ops;
 #[cfg(test)]
 mod write;

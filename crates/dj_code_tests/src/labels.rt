@@ -1,26 +1,11 @@
-use dj_labels::{CodeError, Labelled, Protected, label};
-use dj_ops::{CatchRow, Instr, NoMemory, Rows};
+use crate::rows::{Row, labels_of};
+use crate::told::{Told, told};
+use dj_labels::{CodeError, Protected};
+use dj_ops::Instr;
 use std::alloc::Global;
 
-// A row or a range: its start, its end, its handler, and the class that is caught.
-type Row = (u16, u16, u16, u16);
-
+// A range: its start, its end, its handler, and the class that is caught.
 type Range = (u32, u32, u32, u16);
-
-// A letter for the family, the opcode, and up to two numbers.
-type Told = (u8, u8, i64, i64);
-
-fn told(instr: &Instr) -> Told {
-    match instr {
-        Instr::Simple { op } => (b's', *op, 0, 0),
-        Instr::Push { op, value } => (b'p', *op, i64::from(*value), 0),
-        Instr::Local { op, slot, wide } => (b'l', *op, i64::from(*slot), i64::from(*wide)),
-        Instr::Branch { op, target } => (b'b', *op, *target, 0),
-        Instr::Table { default, low, .. } => (b't', 170, *default, i64::from(*low)),
-        Instr::Lookup { default, .. } => (b'u', 171, *default, 0),
-        _ => (b'?', 0, 0, 0),
-    }
-}
 
 fn has_instrs(instrs: &[Instr], wanted: &[Told]) -> bool {
     if instrs.len() != wanted.len() {
@@ -45,28 +30,6 @@ fn has_ranges(ranges: &[Protected], wanted: &[Range]) -> bool {
         }
     }
     true
-}
-
-fn rows_of(alloc: Global, rows: &[Row]) -> Result<Rows, NoMemory> {
-    let mut table = Rows::new(alloc);
-    for &(start, end, handler, catch_type) in rows {
-        table.push(CatchRow {
-            start,
-            end,
-            handler,
-            catch_type,
-        })?;
-    }
-    Ok(table)
-}
-
-fn labels_of(alloc: Global, code: &[u8], rows: &[Row]) -> Result<Labelled, CodeError> {
-    let table = rows_of(alloc, rows)?;
-    if code.len() < 99 {
-        label(alloc, code, table.as_slice())
-    } else {
-        Err(CodeError::Memory)
-    }
 }
 
 fn is_labelled(
@@ -169,11 +132,18 @@ const LABELLED: [(&[u8], &[Told]); 19] = [
     ),
 ];
 
+fn all_labelled(alloc: Global, table: &[(&[u8], &[Told])]) -> bool {
+    for (code, instrs) in table {
+        if !is_labelled(alloc, code, &[], instrs, &[]) {
+            return false;
+        }
+    }
+    true
+}
+
 #[test]
 fn labelled(rt: HostRuntime) {
-    for (code, instrs) in &LABELLED {
-        assert!(rt; is_labelled(rt.alloc(), code, &[], instrs, &[]));
-    }
+    assert!(rt; all_labelled(rt.alloc(), &LABELLED));
 }
 
 // Code and rows, and the instructions and ranges.
@@ -258,11 +228,18 @@ const RANGES: [(&[u8], &[Row], &[Told], &[Range]); 8] = [
     (b"\0", &[(0, 1, 0, 0)], &[(b's', 0, 0, 0)], &[(0, 1, 0, 0)]),
 ];
 
+fn all_with_ranges(alloc: Global, table: &[(&[u8], &[Row], &[Told], &[Range])]) -> bool {
+    for (code, rows, instrs, ranges) in table {
+        if !is_labelled(alloc, code, rows, instrs, ranges) {
+            return false;
+        }
+    }
+    true
+}
+
 #[test]
 fn ranges(rt: HostRuntime) {
-    for (code, rows, instrs, ranges) in &RANGES {
-        assert!(rt; is_labelled(rt.alloc(), code, rows, instrs, ranges));
-    }
+    assert!(rt; all_with_ranges(rt.alloc(), &RANGES));
 }
 
 // Code, the number of its tableswitch, and the numbers of the targets.
@@ -300,11 +277,18 @@ fn has_table(alloc: Global, code: &[u8], number: usize, wanted: &[i64]) -> bool 
     }
 }
 
+fn all_tables(alloc: Global, table: &[(&[u8], usize, &[i64])]) -> bool {
+    for (code, number, wanted) in table {
+        if !has_table(alloc, code, *number, wanted) {
+            return false;
+        }
+    }
+    true
+}
+
 #[test]
 fn tables(rt: HostRuntime) {
-    for (code, number, wanted) in &TABLES {
-        assert!(rt; has_table(rt.alloc(), code, *number, wanted));
-    }
+    assert!(rt; all_tables(rt.alloc(), &TABLES));
 }
 
 // Code, the number of its lookupswitch, and the pairs, with the numbers of the targets.
@@ -332,11 +316,18 @@ fn has_lookup(alloc: Global, code: &[u8], number: usize, wanted: &[(i32, i64)]) 
     }
 }
 
+fn all_lookups(alloc: Global, table: &[(&[u8], usize, &[(i32, i64)])]) -> bool {
+    for (code, number, wanted) in table {
+        if !has_lookup(alloc, code, *number, wanted) {
+            return false;
+        }
+    }
+    true
+}
+
 #[test]
 fn lookups(rt: HostRuntime) {
-    for (code, number, wanted) in &LOOKUPS {
-        assert!(rt; has_lookup(rt.alloc(), code, *number, wanted));
-    }
+    assert!(rt; all_lookups(rt.alloc(), &LOOKUPS));
 }
 
 // Code and rows that have no labels, and why.
@@ -425,11 +416,18 @@ const REFUSED: [(&[u8], &[Row], CodeError); 42] = [
     (b"\xcb\xa7\0\x01", &[(9, 9, 9, 9)], CodeError::Op(0)),
 ];
 
+fn all_refused(alloc: Global, table: &[(&[u8], &[Row], CodeError)]) -> bool {
+    for (code, rows, wanted) in table {
+        if !is_refused(alloc, code, rows, *wanted) {
+            return false;
+        }
+    }
+    true
+}
+
 #[test]
 fn refused(rt: HostRuntime) {
-    for (code, rows, wanted) in &REFUSED {
-        assert!(rt; is_refused(rt.alloc(), code, rows, *wanted));
-    }
+    assert!(rt; all_refused(rt.alloc(), &REFUSED));
 }
 
 // The empty code has no instructions.

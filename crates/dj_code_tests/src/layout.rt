@@ -1,65 +1,17 @@
-ghost use Rattle.std.specs.Prelude.{⊤, IfOk, IfSome, MatchBool};
+ghost use Rattle.std.specs.Prelude.{⊤, IfSome, MatchBool};
 ghost use Rattle.std.specs.List.{AllByRecursion};
 ghost use Rattle.dj_ops.specs.Forms.{form_of};
 ghost use Rattle.dj_ops.specs.Instructions.{IsProper, IsPushed, IsTable};
 ghost use Rattle.dj_labels.specs.Labels.{IsNumber, HasNumbers, IsWellFormed};
 
-use dj_labels::{CodeError, Labelled, Ranges, label, labelled_is_well_formed};
+use crate::rows::{Row, has_rows, laid_again};
+use dj_labels::{Labelled, Ranges};
 use dj_layout::{Laid, LayError, lay_out};
-use dj_ops::{CatchRow, Instr, Instrs, NoMemory, Rows, Targets};
+use dj_ops::{Instr, Instrs, NoMemory, Targets};
 use std::alloc::Global;
-
-// A row: its start, its end, its handler, and the class that is caught.
-type Row = (u16, u16, u16, u16);
 
 // So many of an instruction, by a letter for the family, the opcode, and up to two numbers.
 type Part = (usize, (u8, u8, i64, i64));
-
-fn rows_of(alloc: Global, rows: &[Row]) -> Result<Rows, NoMemory> {
-    let mut table = Rows::new(alloc);
-    for &(start, end, handler, catch_type) in rows {
-        table.push(CatchRow {
-            start,
-            end,
-            handler,
-            catch_type,
-        })?;
-    }
-    Ok(table)
-}
-
-fn has_rows(table: &[CatchRow], wanted: &[Row]) -> bool {
-    if table.len() != wanted.len() {
-        return false;
-    }
-    for i in 0..table.len() {
-        let row = &table[i];
-        if (row.start, row.end, row.handler, row.catch_type) != wanted[i] {
-            return false;
-        }
-    }
-    true
-}
-
-fn labels_of(alloc: Global, code: &[u8], rows: &[Row]) -> Result<Labelled, CodeError>
-    ensures { IfOk result IsWellFormed }
-{
-    let table = rows_of(alloc, rows)?;
-    labelled_is_well_formed();
-    if code.len() < 65_536 {
-        label(alloc, code, table.as_slice())
-    } else {
-        Err(CodeError::Memory)
-    }
-}
-
-// What the labels of code are laid out as.
-fn laid_again(alloc: Global, code: &[u8], rows: &[Row]) -> Result<Laid, LayError> {
-    match labels_of(alloc, code, rows) {
-        Ok(labels) => lay_out(alloc, &labels),
-        Err(_) => Err(LayError::Memory),
-    }
-}
 
 fn is_laid(alloc: Global, code: &[u8], starts: &[u32], rows: &[Row]) -> bool {
     match laid_again(alloc, code, rows) {
@@ -169,11 +121,18 @@ const LAID: [(&[u8], &[u32], &[Row]); 25] = [
     ),
 ];
 
+fn all_laid(alloc: Global, table: &[(&[u8], &[u32], &[Row])]) -> bool {
+    for (code, starts, rows) in table {
+        if !is_laid(alloc, code, starts, rows) {
+            return false;
+        }
+    }
+    true
+}
+
 #[test]
 fn layouts(rt: HostRuntime) {
-    for (code, starts, rows) in &LAID {
-        assert!(rt; is_laid(rt.alloc(), code, starts, rows));
-    }
+    assert!(rt; all_laid(rt.alloc(), &LAID));
 }
 
 // The longest code, with one range over all of it.
@@ -351,11 +310,18 @@ const LONG: [(&[Part], usize, u32); 8] = [
     ),
 ];
 
+fn all_long(alloc: Global, table: &[(&[Part], usize, u32)]) -> bool {
+    for (parts, size, last) in table {
+        if !is_long(alloc, parts, *size, *last) {
+            return false;
+        }
+    }
+    true
+}
+
 #[test]
 fn long_layouts(rt: HostRuntime) {
-    for (parts, size, last) in &LONG {
-        assert!(rt; is_long(rt.alloc(), parts, *size, *last));
-    }
+    assert!(rt; all_long(rt.alloc(), &LONG));
 }
 
 fn is_refused(alloc: Global, parts: &[Part], wanted: LayError) -> bool {
@@ -366,7 +332,7 @@ fn is_refused(alloc: Global, parts: &[Part], wanted: LayError) -> bool {
 }
 
 // Instructions that have no layout, and why.
-const REFUSED: [(&[Part], LayError); 27] = [
+const REFUSED: [(&[Part], LayError); 28] = [
     (
         &[
             (1, (b'b', 167, 32766, 0)),
@@ -490,11 +456,26 @@ const REFUSED: [(&[Part], LayError); 27] = [
         &[(65517, (b's', 0, 0, 0)), (1, (b't', 170, 0, 0))],
         LayError::TooLong(65517),
     ),
+    (
+        &[
+            (1, (b'b', 167, 65534, 0)),
+            (65533, (b's', 0, 0, 0)),
+            (1, (b's', 177, 0, 0)),
+        ],
+        LayError::TooLong(65533),
+    ),
 ];
+
+fn all_refused(alloc: Global, table: &[(&[Part], LayError)]) -> bool {
+    for (parts, wanted) in table {
+        if !is_refused(alloc, parts, *wanted) {
+            return false;
+        }
+    }
+    true
+}
 
 #[test]
 fn refusals(rt: HostRuntime) {
-    for (parts, wanted) in &REFUSED {
-        assert!(rt; is_refused(rt.alloc(), parts, *wanted));
-    }
+    assert!(rt; all_refused(rt.alloc(), &REFUSED));
 }

@@ -2,10 +2,26 @@
 #![tactic(auto)]
 
 #[cfg(test)]
-mod frames;
+mod frames_move;
+#[cfg(test)]
+mod frames_read;
+#[cfg(test)]
+mod frames_told;
+#[cfg(test)]
+mod frames_write;
+#[cfg(test)]
+mod javac;
 #[cfg(test)]
 mod labels;
 #[cfg(test)]
 mod layout;
 #[cfg(test)]
-mod ops;
+mod lists;
+#[cfg(test)]
+mod ops_read;
+#[cfg(test)]
+mod ops_write;
+#[cfg(test)]
+mod rows;
+#[cfg(test)]
+mod told;

@@ -5,6 +5,7 @@ pub mod Listings
 pub mod Lists
 mod Facts
 mod WalkFacts
+mod CallFacts
 mod Lookup
 mod Taken
 mod Walking

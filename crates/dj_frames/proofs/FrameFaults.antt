@@ -15,9 +15,9 @@ use Rattle.dj_ops.specs.declared.frames.Frame.{Frame}
 use Rattle.dj_frames.specs.declared.read.FrameError.{FrameError}
 use Rattle.dj_frames.specs.declared.read.FrameError.TheVariants as errors
 use Rattle.dj_frames.specs.StackMaps.{type_bytes, SpellsFrames}
-use Rattle.dj_frames.specs.Refusals.{least_after, IsCut, IsAstray, IsFaultyType, IsFaultyTable, HasFaultyOperands, IsFaultyForm, HasFaultyDelta, IsFaultyFrame}
+use Rattle.dj_frames.specs.Refusals.{least_after, IsCut, NoInstructionAt, IsFaultyType, IsFaultyTable, HasFaultyOperands, IsFaultyForm, HasFaultyDelta, IsFaultyFrame}
 use Rattle.dj_frames.specs.Reading.{stack1_at, append_at, full_at, form_at, long_frame_at, same_frame_at, stack1_frame_at, frame_at, frames_at}
-use Rattle.dj_frames.proofs.Numbers.{number_takes, number_fails, number_astray, number_there, there_from_number}
+use Rattle.dj_frames.proofs.Numbers.{number_takes, number_fails, number_missing, number_there, there_from_number}
 use Rattle.dj_frames.proofs.TypeLaws.{type_reads}
 use Rattle.dj_frames.proofs.FrameLaws.{frame_takes, frame_again}
 use Rattle.dj_frames.proofs.TypeFaults.{after, begins, u1_stops, u1_halts, u1_is, u2_stops, u2_halts, u2_is, type_stops, type_halts, types_stop, types_halt, table_stops, table_halts}
@@ -95,7 +95,7 @@ unfolding long_frame_at
 long_stops starts rise least tag low high c e fits h =
     bind_err h (λ r. inl (u2_stops c e r)) (λ delta r h.
     let b = begins c delta fits r in
-    bind_err h (λ r2. inr (record { delta = delta.0; more = delta.1.rest; begins = b.0; cause = inl (number_astray starts c.place (least + delta.0) e r2) })) (λ at r2 h.
+    bind_err h (λ r2. inr (record { delta = delta.0; more = delta.1.rest; begins = b.0; cause = inl (number_missing starts c.place (least + delta.0) e r2) })) (λ at r2 h.
     let is = number_takes starts c.place (least + delta.0) at r2 in
     bind_err h (λ r3. inr (record {
       delta = delta.0;
@@ -110,22 +110,22 @@ long_halts starts rise least tag c e h =
     elim h [
       | inl cut ↦ bind_fails _ (u2_halts c e cut)
       | inr d ↦ bind_again _ (u2_is c d.delta d.more d.begins) (elim (d.cause) [
-        | inl astray ↦ bind_fails _ (number_fails starts c.place (least + d.delta) astray.0 ∙ ap Err (sym astray.1))
+        | inl none ↦ bind_fails _ (number_fails starts c.place (least + d.delta) none.0 ∙ ap Err (sym none.1))
         | inr form ↦
             let at = number_there starts c.place (least + d.delta) rise form.0 in
             bind_again _ at.1 (bind_fails _ (form_halts starts rise tag (after c 2 d.more) e form.1))
       ])
     ]
 
-same_stops : (starts : List ℕ) (place address : ℕ) (c : Cursor) (e : FrameError) → same_frame_at starts place address c ≡ Err e → IsAstray starts address place e
+same_stops : (starts : List ℕ) (place address : ℕ) (c : Cursor) (e : FrameError) → same_frame_at starts place address c ≡ Err e → NoInstructionAt starts address place e
 unfolding same_frame_at
-same_stops starts place address c e h = bind_err h (λ r. number_astray starts place address e r) (λ x r d. never_err d)
+same_stops starts place address c e h = bind_err h (λ r. number_missing starts place address e r) (λ x r d. never_err d)
 
 stack1_frame_stops : (starts : List ℕ) (place address : ℕ) (c : Cursor) (e : FrameError) → IsBytes c.rest → stack1_frame_at starts place address c ≡ Err e
-    → IsAstray starts address place e ⊎ (Contains starts address × IsFaultyType starts c.place c.rest e)
+    → NoInstructionAt starts address place e ⊎ (Contains starts address × IsFaultyType starts c.place c.rest e)
 unfolding stack1_frame_at
 stack1_frame_stops starts place address c e fits h =
-    bind_err h (λ r. inl (number_astray starts place address e r)) (λ at r h.
+    bind_err h (λ r. inl (number_missing starts place address e r)) (λ at r h.
     let is = number_takes starts place address at r in
     bind_err h (λ r2. inr (there_from_number starts at address is.0 is.1, stack1_stops starts c e fits r2)) (λ x r2 d. never_err d))
 
@@ -143,7 +143,7 @@ frame_stops starts rise least c e fits h =
       ltb-false _ _ a,
       omega (arith, ltb-true _ _ b),
       elim (stack1_frame_stops starts c.place (least + (tag.0 - 64)) tag.1 e more d) [
-        | inl astray ↦ inl astray
+        | inl none ↦ inl none
         | inr type ↦ inr (type.0, subst (λ (p : ℕ). IsFaultyType starts p tag.1.rest e) here type.1)
       ],
     ))) (λ b h.
@@ -165,7 +165,7 @@ frame_halts_at starts rise least c (tag ∷ more) e is h =
       | inr other ↦ elim other [
         | inl one ↦ bind_again _ (u1_is c tag more is) (cond_false _ (le-ltb tag 64 one.0) (cond_true _ (lt-ltb tag 128 (omega (arith, one.1)))
             (elim (one.2) [
-              | inl astray ↦ bind_fails _ (number_fails starts c.place (least + (tag - 64)) astray.0 ∙ ap Err (sym astray.1))
+              | inl none ↦ bind_fails _ (number_fails starts c.place (least + (tag - 64)) none.0 ∙ ap Err (sym none.1))
               | inr type ↦
                   let at = number_there starts c.place (least + (tag - 64)) rise type.0 in
                   bind_again _ at.1 (bind_fails _ (stack1_halts starts (after c 1 more) e type.1))

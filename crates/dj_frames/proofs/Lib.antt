@@ -10,3 +10,5 @@ mod Loop
 mod Written
 mod Facts
 mod Tested
+mod Formed
+mod Moved

@@ -11,7 +11,7 @@ use Rattle.std.proofs.lemmas.Iterator.Adapters.{position_from-zero}
 use Rattle.dj_bytes.proofs.Steps.{cond_either}
 use Rattle.dj_frames.specs.declared.read.FrameError.{FrameError}
 use Rattle.dj_frames.specs.declared.read.FrameError.TheVariants as errors
-use Rattle.dj_frames.specs.Refusals.{IsAstray}
+use Rattle.dj_frames.specs.Refusals.{NoInstructionAt}
 use Rattle.dj_frames.specs.Reading.{found_at, number_at}
 
 -- ---- lists that rise
@@ -85,20 +85,20 @@ fails_found : (starts : List ℕ) (place address : ℕ) → (Contains starts add
 fails_found starts place address none None is = refl
 fails_found starts place address none (Some n) is = absurd (none (there_from_number starts n address is.0 is.1))
 
-astray_found : (starts : List ℕ) (place address : ℕ) (e : FrameError) → (found : Option ℕ) → IsLookup starts address found → found_at place found ≡ Err e → IsAstray starts address place e
-astray_found starts place address e None is h =
+missing_found : (starts : List ℕ) (place address : ℕ) (e : FrameError) → (found : Option ℕ) → IsLookup starts address found → found_at place found ≡ Err e → NoInstructionAt starts address place e
+missing_found starts place address e None is h =
     let same : errors.NotAnInstruction place ≡ e = cc in
     ((λ there. is there.0 there.1 (get_or_default starts there.0 0 address there.1 ∙ there.2)), sym same)
-astray_found starts place address e (Some n) is h = absurd cc
+missing_found starts place address e (Some n) is h = absurd cc
 
 -- none has it
 pub number_fails : (starts : List ℕ) (place address : ℕ) → (Contains starts address → ⊥) → number_at starts place address ≡ Err (errors.NotAnInstruction place)
 unfolding number_at
 number_fails starts place address none = fails_found starts place address none (position (nat_eq address) starts) (lookup_is starts address _ refl)
 
-pub number_astray : (starts : List ℕ) (place address : ℕ) (e : FrameError) → number_at starts place address ≡ Err e → IsAstray starts address place e
+pub number_missing : (starts : List ℕ) (place address : ℕ) (e : FrameError) → number_at starts place address ≡ Err e → NoInstructionAt starts address place e
 unfolding number_at
-number_astray starts place address e h = astray_found starts place address e (position (nat_eq address) starts) (lookup_is starts address _ refl) h
+number_missing starts place address e h = missing_found starts place address e (position (nat_eq address) starts) (lookup_is starts address _ refl) h
 
 -- an address that is there has a number
 pub number_there : (starts : List ℕ) (place address : ℕ) → IsStrictlyIncreasing starts → Contains starts address → (number : ℕ) × (number_at starts place address ≡ Ok number)

@@ -15,7 +15,7 @@ pub else_first : {A : Type 0} (P : A → Type 0) (xs ys : List A) (r : Bool) →
 else_first P xs ys r fails h = (λ t. absurd cc, λ all. h.1 (all_of_front P xs ys all))
 
 -- each frame's number is below the next one's
-abbrev IsStepwise : List Frame → Type 0
+abbrev pub IsStepwise : List Frame → Type 0
 IsStepwise frames = (k : ℕ) (d : Frame) → k + 1 < length frames → (get_or frames k d).at < (get_or frames (k + 1) d).at
 
 pub stepwise_rises : (frames : List Frame) → IsStepwise frames → AllPairs (λ a b. a.at < b.at) frames

@@ -19,7 +19,7 @@ use Rattle.dj_frames.specs.declared.read.FrameError.TheVariants as errors
 use Rattle.dj_frames.specs.StackMaps.{type_bytes}
 use Rattle.dj_frames.specs.Refusals.{BeginsWithNumber, IsCut, HasFaultyAddress, IsFaultyType, AreFaultyTypes, IsFaultyTable}
 use Rattle.dj_frames.specs.Reading.{offset_at, plain_type_at, bare_type_at, object_at, uninitialized_at, type_at}
-use Rattle.dj_frames.proofs.Numbers.{number_fails, number_astray}
+use Rattle.dj_frames.proofs.Numbers.{number_fails, number_missing}
 use Rattle.dj_frames.proofs.TypeLaws.{type_reads}
 
 -- ---- numbers
@@ -66,12 +66,12 @@ offset_stops : (starts : List ℕ) (c : Cursor) (e : FrameError) → IsBytes c.r
 unfolding offset_at
 offset_stops starts c e fits h =
     bind_err h (λ r. inl (u2_stops c e r)) (λ address r h.
-    bind_err h (λ r2. inr (record { address = address.0; more = address.1.rest; begins = (begins c address fits r).0; astray = number_astray starts c.place address.0 e r2 })) (λ n r2 d. absurd cc))
+    bind_err h (λ r2. inr (record { address = address.0; more = address.1.rest; begins = (begins c address fits r).0; none = number_missing starts c.place address.0 e r2 })) (λ n r2 d. absurd cc))
 
 offset_halts : (starts : List ℕ) (c : Cursor) (e : FrameError) → HasFaultyAddress starts c.place c.rest e → offset_at starts c ≡ Err e
 unfolding offset_at
 offset_halts starts c e h =
-    bind_again _ (u2_is c h.address h.more h.begins) (bind_fails _ (number_fails starts c.place h.address h.astray.0 ∙ ap Err (sym h.astray.1)))
+    bind_again _ (u2_is c h.address h.more h.begins) (bind_fails _ (number_fails starts c.place h.address h.none.0 ∙ ap Err (sym h.none.1)))
 
 -- ---- verification types
 
@@ -117,7 +117,7 @@ type_stops starts c e fits h =
     cond_either _ _ _ h (λ b d. bind_err d (λ r2.
     elim (offset_stops starts tag.1 e more r2) [
       | inl cut ↦ inr (inl (inr (eqb-true _ _ b), subst (λ (p : ℕ). IsCut p tag.1.rest e) here cut))
-      | inr astray ↦ inr (inr (eqb-true _ _ b, subst (λ (p : ℕ). HasFaultyAddress starts p tag.1.rest e) here astray))
+      | inr none ↦ inr (inr (eqb-true _ _ b, subst (λ (p : ℕ). HasFaultyAddress starts p tag.1.rest e) here none))
     ]) (λ x r2 d. absurd cc)) (λ b h.
     bind_err h (λ r2. let p = plain_stops c.place tag.0 e r2 in inl (grind (arith, nat_tests), p.1)) (λ x r2 d. absurd cc)))))
 
@@ -138,9 +138,9 @@ type_halts_at starts c (tag ∷ more) e is h =
               let failed : uninitialized_at starts (after c 1 more) ≡ Err e = bind_fails _ (bind_fails _ (u2_halts (after c 1 more) e cut.1)) in
               bind_again _ (u1_is c tag more is) (cond_false _ a (cond_true _ (eq-eqb _ _ eight) failed))
         ]
-        | inr astray ↦
+        | inr none ↦
             let a : eqb tag 7 ≡ false = grind (arith, nat_tests) in
-            bind_again _ (u1_is c tag more is) (cond_false _ a (cond_true _ (eq-eqb _ _ astray.0) (bind_fails _ (offset_halts starts (after c 1 more) e astray.1))))
+            bind_again _ (u1_is c tag more is) (cond_false _ a (cond_true _ (eq-eqb _ _ none.0) (bind_fails _ (offset_halts starts (after c 1 more) e none.1))))
       ]
     ]
 

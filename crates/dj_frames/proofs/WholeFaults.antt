@@ -14,7 +14,7 @@ use Rattle.dj_frames.specs.declared.read.FrameError.TheVariants as errors
 use Rattle.dj_frames.specs.StackMaps.{IsStackMap}
 use Rattle.dj_frames.specs.Refusals.{IsFault, IsFaultyFrame, least_after}
 use Rattle.dj_frames.specs.Reading.{is_memory, frames_at, frames_read}
-use Rattle.dj_frames.specs.Views.{ReadsFrames}
+use Rattle.dj_frames.specs.Answers.{ReadsFrames}
 use Rattle.dj_bytes.specs.Steps.{Gives}
 use Rattle.dj_frames.proofs.FrameLaws.{frames_take, frames_again}
 use Rattle.dj_frames.proofs.WholeLaws.{map_takes, map_again}

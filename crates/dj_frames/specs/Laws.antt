@@ -1,12 +1,13 @@
 -- Laws of stack maps.
-use Rattle.std.specs.Prelude.{◌≡◌, ℕ, ◌^◌, ◌<◌, List, All, Ok}
+use Rattle.std.specs.Prelude.{◌≡◌, ℕ, ◌^◌, ◌<◌, List, All, Ok, length, map, slice_index}
 use Rattle.std.specs.List.Sorted.{IsStrictlyIncreasing}
 use Rattle.dj_ops.specs.declared.frames.Frame.{Frame}
 use Rattle.dj_frames.specs.declared.read.FrameError.{FrameError}
-use Rattle.dj_frames.specs.StackMaps.{IsStackMap, AreWellFormed}
+use Rattle.dj_frames.specs.StackMaps.{IsFrameBelow, IsStackMap, AreWellFormed}
 use Rattle.dj_frames.specs.Refusals.{IsFault}
 use Rattle.dj_frames.specs.Reading.{frames_read}
 use Rattle.dj_frames.specs.Written.{stack_map_bytes}
+use Rattle.dj_frames.specs.Moves.{moved_frame}
 
 -- a body has one stack map at most
 abbrev pub OneStackMap : Type 0
@@ -31,3 +32,19 @@ WrittenIsStackMap = (starts : List ℕ) (frames : List Frame) → AreWellFormed 
 -- and reading that body gives them again
 abbrev pub WrittenIsRead : Type 0
 WrittenIsRead = (starts : List ℕ) (frames : List Frame) → AreWellFormed starts frames → frames_read (stack_map_bytes starts frames) starts ≡ Ok frames
+
+-- the frames of a stack map are well formed, where no instruction starts past 65,535
+abbrev pub StackMapIsWellFormed : Type 0
+StackMapIsWellFormed = (body starts : List ℕ) (frames : List Frame) → IsStrictlyIncreasing starts → All (λ address. address < 2 ^ 16) starts → IsStackMap body starts frames → AreWellFormed starts frames
+
+-- and each number in them is one of an instruction
+abbrev pub StackMapIsBelow : Type 0
+StackMapIsBelow = (body starts : List ℕ) (frames : List Frame) → IsStackMap body starts frames → All (IsFrameBelow (length starts)) frames
+
+-- each number in the list stands at its own place
+abbrev pub IsUnchanged : List ℕ → Type 0
+IsUnchanged numbers = (number : ℕ) → number < length numbers → slice_index numbers number ≡ number
+
+-- where each instruction keeps its number the frames stay as they are: their forms, and each of their types
+abbrev pub MovedNowhere : Type 0
+MovedNowhere = (start own : List ℕ) (frames : List Frame) → IsUnchanged start → IsUnchanged own → All (IsFrameBelow (length start)) frames → All (IsFrameBelow (length own)) frames → map (moved_frame start own) frames ≡ frames

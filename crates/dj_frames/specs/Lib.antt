@@ -3,5 +3,5 @@ pub mod Written
 pub mod Moves
 pub mod Refusals
 pub mod Reading
-pub mod Views
+pub mod Answers
 pub mod Laws

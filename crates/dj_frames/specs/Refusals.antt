@@ -39,8 +39,8 @@ abbrev pub IsCut : (place : ℕ) → List ℕ → FrameError → Type 0
 IsCut place rest e = (length rest < 2) × (e ≡ errors.BadFrame place)
 
 -- the item at the place tells an address where no instruction starts
-abbrev pub IsAstray : (starts : List ℕ) (address place : ℕ) → FrameError → Type 0
-IsAstray starts address place e = (Contains starts address → ⊥) × (e ≡ errors.NotAnInstruction place)
+abbrev pub NoInstructionAt : (starts : List ℕ) (address place : ℕ) → FrameError → Type 0
+NoInstructionAt starts address place e = (Contains starts address → ⊥) × (e ≡ errors.NotAnInstruction place)
 
 -- ---- verification types
 
@@ -49,7 +49,7 @@ pub record HasFaultyAddress (starts : List ℕ) (place : ℕ) (rest : List ℕ) 
   pub address : ℕ
   pub more : List ℕ
   pub begins : BeginsWithNumber rest address more
-  pub astray : IsAstray starts address place e
+  pub none : NoInstructionAt starts address place e
 
 -- no tag, one above 8, or what follows 7 and 8 is cut or tells no instruction
 abbrev pub IsFaultyType : (starts : List ℕ) (place : ℕ) → List ℕ → FrameError → Type 0
@@ -101,7 +101,7 @@ pub record HasFaultyDelta (starts : List ℕ) (least tag place : ℕ) (rest : Li
   pub delta : ℕ
   pub more : List ℕ
   pub begins : BeginsWithNumber rest delta more
-  pub cause : IsAstray starts (least + delta) place e
+  pub cause : NoInstructionAt starts (least + delta) place e
       ⊎ (Contains starts (least + delta) × IsFaultyForm starts tag (place + 2) more e)
 
 -- a frame, where this is the least address that it can have
@@ -109,9 +109,9 @@ abbrev pub IsFaultyFrame : (starts : List ℕ) (least place : ℕ) → List ℕ 
 IsFaultyFrame starts least place [] e = e ≡ errors.BadFrame place
 IsFaultyFrame starts least place (tag ∷ rest) e =
     -- same_frame
-    ((tag ≤ 63) × IsAstray starts (least + tag) place e)
+    ((tag ≤ 63) × NoInstructionAt starts (least + tag) place e)
     -- same_locals_1_stack_item_frame
-    ⊎ ((64 ≤ tag) × (tag ≤ 127) × (IsAstray starts (least + (tag - 64)) place e
+    ⊎ ((64 ≤ tag) × (tag ≤ 127) × (NoInstructionAt starts (least + (tag - 64)) place e
     ⊎ (Contains starts (least + (tag - 64)) × IsFaultyType starts (place + 1) rest e)))
     -- no frame_type
     ⊎ ((128 ≤ tag) × (tag ≤ 246) × (e ≡ errors.BadFrame place))

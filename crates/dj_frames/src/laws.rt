@@ -1,4 +1,4 @@
-ghost use Rattle.dj_frames.specs.Laws.{OneStackMap, NoStackMapWhereFault, StackMapWhereNoFault, OneFault, WrittenIsStackMap, WrittenIsRead};
+ghost use Rattle.dj_frames.specs.Laws.{OneStackMap, NoStackMapWhereFault, StackMapWhereNoFault, OneFault, WrittenIsStackMap, WrittenIsRead, StackMapIsWellFormed, StackMapIsBelow, MovedNowhere};
 
 /// A body has one stack map at most.
 pub fn one_stack_map()
@@ -28,4 +28,19 @@ pub fn written_is_stack_map()
 /// Well-formed frames are read again from the body that is written for them.
 pub fn written_is_read()
     ensures { WrittenIsRead }
+{}
+
+/// The frames of a stack map are well formed, where no instruction starts past 65,535.
+pub fn stack_map_is_well_formed()
+    ensures { StackMapIsWellFormed }
+{}
+
+/// Each number in the frames of a stack map is one of an instruction.
+pub fn stack_map_is_below()
+    ensures { StackMapIsBelow }
+{}
+
+/// Where each instruction keeps its number the frames stay as they are.
+pub fn moved_nowhere()
+    ensures { MovedNowhere }
 {}

@@ -9,8 +9,8 @@ mod write;
 
 pub use conditions::{are_below, are_well_formed, is_rising};
 pub use laws::{
-    no_stack_map_where_fault, one_fault, one_stack_map, stack_map_where_no_fault, written_is_read,
-    written_is_stack_map,
+    moved_nowhere, no_stack_map_where_fault, one_fault, one_stack_map, stack_map_is_below,
+    stack_map_is_well_formed, stack_map_where_no_fault, written_is_read, written_is_stack_map,
 };
 pub use read::{FrameError, read_frames};
 pub use relocation::relocate;

@@ -4,7 +4,7 @@ ghost use Rattle.dj_bytes.specs.Steps.{Gives};
 ghost use Rattle.dj_bytes.specs.Reading.{many_at, table_at};
 ghost use Rattle.dj_bytes.specs.Views.{cursor_of};
 ghost use Rattle.dj_frames.specs.Reading.{is_memory, number_at, offset_at, plain_type_at, bare_type_at, object_at, uninitialized_at, type_at, stack1_at, append_at, full_at, form_at, long_frame_at, same_frame_at, stack1_frame_at, frame_at, frames_at, frames_read};
-ghost use Rattle.dj_frames.specs.Views.{ReadsFrames};
+ghost use Rattle.dj_frames.specs.Answers.{ReadsFrames};
 ghost use Rattle.dj_frames.specs.declared.read.FrameError.TheVariants as errors;
 
 use dj_bytes::{Cursor, Cut};

@@ -1,19 +1,22 @@
 -- Labelled code by hand, from JVMS 4.7.3 and 6.5: what the definitions say, and what they refuse.
-use Rattle.std.proofs.Common.{◌≡◌, ℕ, ◌<◌, pos, negsuc, zero, suc, get_or, List, [], ◌∷◌, refl, arith, inl}
+use Rattle.std.proofs.Common.{◌≡◌, ℕ, ◌<◌, pos, negsuc, zero, suc, get_or, List, [], ◌∷◌, refl, ap, arith, inl}
 use Rattle.std.proofs.Math.Facts.{sfits_lit}
 use Rattle.std.proofs.lemmas.Int.{ints}
 use Rattle.dj_ops.specs.declared.instruction.Instr.{Instr}
 use Rattle.dj_ops.specs.declared.instruction.Instr.TheVariants as instrs
 use Rattle.dj_ops.specs.declared.rows.CatchRow.{CatchRow}
 use Rattle.dj_ops.specs.Forms.{form_of}
+use Rattle.dj_ops.specs.Instructions.{Stands}
 use Rattle.dj_ops.specs.Reading.{instr_at}
 use Rattle.dj_ops.proofs.Whole.{reads_again}
 use Rattle.dj_labels.specs.declared.labelled.Protected.{Protected}
 use Rattle.dj_labels.specs.declared.labelled.Labelled.{Labelled}
+use Rattle.dj_labels.specs.declared.errors.CodeError.{CodeError}
 use Rattle.dj_labels.specs.declared.errors.CodeError.TheVariants as errors
 use Rattle.dj_labels.specs.Targets.{targets_of, with_targets}
 use Rattle.dj_labels.specs.Labels.{first_of, StandUpTo, IsRange, IsWellFormed, IsLabelled}
 use Rattle.dj_labels.specs.Faults.{IsRow, Refuses}
+use Rattle.dj_labels.proofs.Once.{one_fault_is}
 
 abbrev row : ℕ → ℕ → ℕ → CatchRow
 row start end handler = record { start = start; end = end; handler = handler; catch_type = 7 }
@@ -177,3 +180,166 @@ reserved = record {
   within = omega arith;
   none = λ instr next s. let read = reads_again (0 ∷ 255 ∷ []) 1 instr next s in absurd cc;
 }
+
+-- ---- where a fault is: Op and Target tell an address, and Range a number
+
+abbrev told : CodeError → ℕ
+told (errors.Op at) = at
+told (errors.Target at) = at
+told (errors.Range number) = number
+told errors.Memory = 0
+
+-- sipush 5, which has three bytes, at the start of code
+abbrev pushed : Instr
+pushed = instrs.Push 17 (pos 5)
+
+push_stands : (rest : List ℕ) → Stands (17 ∷ 0 ∷ 5 ∷ rest) 0 pushed 3
+unfolding form_of
+push_stands rest = record { later = omega arith; within = omega arith; spelled = record { padding = []; padded = refl; offsets = tt; are = refl }; proper = sfits_lit tt }
+
+-- the reserved opcode behind it is told by its address 3, and not by the number 1 that its instruction would have
+reserved_behind : Refuses (17 ∷ 0 ∷ 5 ∷ 255 ∷ []) [] (errors.Op 3)
+unfolding form_of instr_at
+reserved_behind = record {
+  starts = 0 ∷ [];
+  instrs = pushed ∷ [];
+  cut = record { first = refl; each = (push_stands _, tt) };
+  within = omega arith;
+  none = λ instr next s. let read = reads_again (17 ∷ 0 ∷ 5 ∷ 255 ∷ []) 3 instr next s in absurd cc;
+}
+
+not_by_number : Refuses (17 ∷ 0 ∷ 5 ∷ 255 ∷ []) [] (errors.Op 1) → ⊥
+not_by_number h = omega (arith, ap told (one_fault_is _ [] (errors.Op 3) (errors.Op 1) reserved_behind h))
+
+-- goto at 3 into its own bytes, likewise
+not_of_two : (k : ℕ) → k < 2 → get_or (pos 0 ∷ pos 3 ∷ []) k (pos 4) ≡ pos 4 → ⊥
+not_of_two zero lt at = omega (arith, ints, at)
+not_of_two (suc zero) lt at = omega (arith, ints, at)
+not_of_two (suc (suc k)) lt at = omega (arith, lt)
+
+goto_behind : Refuses (17 ∷ 0 ∷ 5 ∷ 167 ∷ 0 ∷ 1 ∷ []) [] (errors.Target 3)
+unfolding form_of
+goto_behind = record {
+  starts = 0 ∷ 3 ∷ [];
+  instrs = pushed ∷ instrs.Branch 167 (pos 4) ∷ [];
+  cut = record {
+    first = refl;
+    each = (
+      push_stands _,
+      (record { later = omega arith; within = omega arith; spelled = record { padding = []; padded = refl; offsets = sfits_lit tt; are = refl }; proper = inl refl }, tt),
+    );
+  };
+  number = 1;
+  stands_at = refl;
+  instr = instrs.Branch 167 (pos 4);
+  first = record { found = refl; lacks = λ has. not_of_two has.0.0 has.0.1 has.0.2; before = (tt, tt) };
+}
+
+goto_not_by_number : Refuses (17 ∷ 0 ∷ 5 ∷ 167 ∷ 0 ∷ 1 ∷ []) [] (errors.Target 1) → ⊥
+goto_not_by_number h = omega (arith, ap told (one_fault_is _ [] (errors.Target 3) (errors.Target 1) goto_behind h))
+
+-- a row of nothing behind a good one
+second_row : Refuses (0 ∷ []) (row 0 1 0 ∷ row 0 0 0 ∷ row 0 0 0 ∷ []) (errors.Range 1)
+unfolding form_of nop
+second_row = record {
+  starts = 0 ∷ [];
+  instrs = instrs.Simple 0 ∷ [];
+  cut = nop.cut;
+  targets = (tt, tt);
+  row = row 0 0 0;
+  first = record {
+    found = refl;
+    lacks = λ is. omega (arith, is.some);
+    before = (record { some = omega arith; start = (0, omega arith, refl); end = (1, omega arith, refl); handler = (0, omega arith, refl) }, tt);
+  };
+}
+
+-- not the good one, and not the one after it
+not_first_row : Refuses (0 ∷ []) (row 0 1 0 ∷ row 0 0 0 ∷ row 0 0 0 ∷ []) (errors.Range 0) → ⊥
+not_first_row h = omega (arith, ap told (one_fault_is _ _ (errors.Range 1) (errors.Range 0) second_row h))
+
+not_third_row : Refuses (0 ∷ []) (row 0 1 0 ∷ row 0 0 0 ∷ row 0 0 0 ∷ []) (errors.Range 2) → ⊥
+not_third_row h = omega (arith, ap told (one_fault_is _ _ (errors.Range 1) (errors.Range 2) second_row h))
+
+-- ---- of two faults
+
+-- of two jumps into their own bytes the first is told
+not_one_of_two : (k : ℕ) → k < 2 → get_or (pos 0 ∷ pos 3 ∷ []) k (pos 1) ≡ pos 1 → ⊥
+not_one_of_two zero lt at = omega (arith, ints, at)
+not_one_of_two (suc zero) lt at = omega (arith, ints, at)
+not_one_of_two (suc (suc k)) lt at = omega (arith, lt)
+
+two_jumps : Refuses (167 ∷ 0 ∷ 1 ∷ 167 ∷ 0 ∷ 1 ∷ []) [] (errors.Target 0)
+unfolding form_of
+two_jumps = record {
+  starts = 0 ∷ 3 ∷ [];
+  instrs = instrs.Branch 167 (pos 1) ∷ instrs.Branch 167 (pos 4) ∷ [];
+  cut = record {
+    first = refl;
+    each = (
+      record { later = omega arith; within = omega arith; spelled = record { padding = []; padded = refl; offsets = sfits_lit tt; are = refl }; proper = inl refl },
+      (record { later = omega arith; within = omega arith; spelled = record { padding = []; padded = refl; offsets = sfits_lit tt; are = refl }; proper = inl refl }, tt),
+    );
+  };
+  number = 0;
+  stands_at = refl;
+  instr = instrs.Branch 167 (pos 1);
+  first = record { found = refl; lacks = λ has. not_one_of_two has.0.0 has.0.1 has.0.2; before = tt };
+}
+
+not_the_second_jump : Refuses (167 ∷ 0 ∷ 1 ∷ 167 ∷ 0 ∷ 1 ∷ []) [] (errors.Target 3) → ⊥
+not_the_second_jump h = omega (arith, ap told (one_fault_is _ [] (errors.Target 0) (errors.Target 3) two_jumps h))
+
+-- a reserved opcode comes before a jump into its own bytes, wherever they stand
+op_first : Refuses (167 ∷ 0 ∷ 1 ∷ 255 ∷ []) (row 0 0 0 ∷ []) (errors.Op 3)
+unfolding form_of instr_at
+op_first = record {
+  starts = 0 ∷ [];
+  instrs = instrs.Branch 167 (pos 1) ∷ [];
+  cut = record {
+    first = refl;
+    each = (record { later = omega arith; within = omega arith; spelled = record { padding = []; padded = refl; offsets = sfits_lit tt; are = refl }; proper = inl refl }, tt);
+  };
+  within = omega arith;
+  none = λ instr next s. let read = reads_again (167 ∷ 0 ∷ 1 ∷ 255 ∷ []) 3 instr next s in absurd cc;
+}
+
+not_its_target : Refuses (167 ∷ 0 ∷ 1 ∷ 255 ∷ []) (row 0 0 0 ∷ []) (errors.Target 0) → ⊥
+not_its_target h = omega (arith, ap told (one_fault_is _ (row 0 0 0 ∷ []) (errors.Op 3) (errors.Target 0) op_first h))
+
+-- and a jump before a row
+target_first : Refuses (17 ∷ 0 ∷ 5 ∷ 167 ∷ 0 ∷ 1 ∷ []) (row 0 0 0 ∷ []) (errors.Target 3)
+unfolding goto_behind
+target_first = goto_behind
+
+not_its_row : Refuses (17 ∷ 0 ∷ 5 ∷ 167 ∷ 0 ∷ 1 ∷ []) (row 0 0 0 ∷ []) (errors.Range 0) → ⊥
+not_its_row h = omega (arith, ap told (one_fault_is _ _ (errors.Target 3) (errors.Range 0) target_first h))
+
+-- ---- rows, in code of four bytes whose instructions start at 0 and 3
+
+good_rows : IsRow (0 ∷ 3 ∷ []) 4 (row 0 3 3) × IsRow (0 ∷ 3 ∷ []) 4 (row 3 4 0)
+good_rows = (
+  record { some = omega arith; start = (0, omega arith, refl); end = (1, omega arith, refl); handler = (1, omega arith, refl) },
+  record { some = omega arith; start = (1, omega arith, refl); end = (2, omega arith, refl); handler = (0, omega arith, refl) },
+)
+
+-- not by numbers: at 1 no instruction starts
+not_one_start : (k : ℕ) → k < 2 → ◌≡◌ {A = ℕ} (get_or (0 ∷ 3 ∷ []) k 1) 1 → ⊥
+not_one_start zero lt at = omega (arith, at)
+not_one_start (suc zero) lt at = omega (arith, at)
+not_one_start (suc (suc k)) lt at = omega (arith, lt)
+
+not_one_end : (k : ℕ) → k < 3 → ◌≡◌ {A = ℕ} (get_or (0 ∷ 3 ∷ 4 ∷ []) k 1) 1 → ⊥
+not_one_end zero lt at = omega (arith, at)
+not_one_end (suc zero) lt at = omega (arith, at)
+not_one_end (suc (suc zero)) lt at = omega (arith, at)
+not_one_end (suc (suc (suc k))) lt at = omega (arith, lt)
+
+start_inside : IsRow (0 ∷ 3 ∷ []) 4 (row 1 4 0) → ⊥
+start_inside is = not_one_start is.start.0 is.start.1 is.start.2
+
+end_inside : IsRow (0 ∷ 3 ∷ []) 4 (row 0 1 0) → ⊥
+end_inside is = not_one_end is.end.0 is.end.1 is.end.2
+
+handler_inside : IsRow (0 ∷ 3 ∷ []) 4 (row 0 4 1) → ⊥
+handler_inside is = not_one_start is.handler.0 is.handler.1 is.handler.2

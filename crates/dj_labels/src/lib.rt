@@ -10,7 +10,7 @@ mod starts;
 mod targets;
 
 pub use errors::CodeError;
-pub use labelled::{Labelled, Protected, Ranges};
+pub use labelled::{Labelled, NoMemory, Protected, Ranges};
 pub use labelling::label;
 pub use laws::{
     labelled_is_well_formed, labels_or_fault, no_labels_where_refused, one_fault, one_labelling,

@@ -50,61 +50,35 @@ fn address_instr(alloc: Global, starts: &[u32], instr: &Instr) -> Result<Instr, 
     requires { HasNumbers (length starts.now) instr.now }
     ensures { IfOk result (λ addressed. addressed ≡ with_targets (address_of starts.now) instr.now) }
 {
-    match instr {
-        Instr::Simple { op } => Ok(Instr::Simple { op: *op }),
-        Instr::Push { op, value } => Ok(Instr::Push {
-            op: *op,
-            value: *value,
-        }),
-        Instr::Literal { op, index } => Ok(Instr::Literal {
-            op: *op,
-            index: *index,
-        }),
-        Instr::Local { op, slot, wide } => Ok(Instr::Local {
-            op: *op,
-            slot: *slot,
-            wide: *wide,
-        }),
-        Instr::Inc { slot, by, wide } => Ok(Instr::Inc {
-            slot: *slot,
-            by: *by,
-            wide: *wide,
-        }),
+    match *instr {
+        Instr::Simple { op } => Ok(Instr::Simple { op }),
+        Instr::Push { op, value } => Ok(Instr::Push { op, value }),
+        Instr::Literal { op, index } => Ok(Instr::Literal { op, index }),
+        Instr::Local { op, slot, wide } => Ok(Instr::Local { op, slot, wide }),
+        Instr::Inc { slot, by, wide } => Ok(Instr::Inc { slot, by, wide }),
         Instr::Branch { op, target } => Ok(Instr::Branch {
-            op: *op,
-            target: address_of(starts, *target),
+            op,
+            target: address_of(starts, target),
         }),
         Instr::Table {
             default,
             low,
-            targets,
+            ref targets,
         } => Ok(Instr::Table {
-            default: address_of(starts, *default),
-            low: *low,
+            default: address_of(starts, default),
+            low,
             targets: target_addresses(alloc, starts, targets.as_slice())?,
         }),
-        Instr::Lookup { default, pairs } => Ok(Instr::Lookup {
-            default: address_of(starts, *default),
+        Instr::Lookup { default, ref pairs } => Ok(Instr::Lookup {
+            default: address_of(starts, default),
             pairs: pair_addresses(alloc, starts, pairs.as_slice())?,
         }),
-        Instr::Member { op, index } => Ok(Instr::Member {
-            op: *op,
-            index: *index,
-        }),
-        Instr::Interface { index, count } => Ok(Instr::Interface {
-            index: *index,
-            count: *count,
-        }),
-        Instr::Dynamic { index } => Ok(Instr::Dynamic { index: *index }),
-        Instr::Class { op, index } => Ok(Instr::Class {
-            op: *op,
-            index: *index,
-        }),
-        Instr::Array { base } => Ok(Instr::Array { base: *base }),
-        Instr::Multi { index, dims } => Ok(Instr::Multi {
-            index: *index,
-            dims: *dims,
-        }),
+        Instr::Member { op, index } => Ok(Instr::Member { op, index }),
+        Instr::Interface { index, count } => Ok(Instr::Interface { index, count }),
+        Instr::Dynamic { index } => Ok(Instr::Dynamic { index }),
+        Instr::Class { op, index } => Ok(Instr::Class { op, index }),
+        Instr::Array { base } => Ok(Instr::Array { base }),
+        Instr::Multi { index, dims } => Ok(Instr::Multi { index, dims }),
     }
 }
 

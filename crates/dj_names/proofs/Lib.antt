@@ -4,3 +4,4 @@ pub mod TypeLaws
 pub mod DescLaws
 pub mod TestLaws
 mod Facts
+mod TextFacts

@@ -10,6 +10,7 @@ use Rattle.dj_ops.specs.declared.read.OpError.TheVariants as errors
 use Rattle.dj_ops.specs.Forms.{Bare, Slot, ShortOffset, form_of}
 use Rattle.dj_ops.specs.Instructions.{Spells, IsProper, IsPadding, AreOffsets, written, length_at, Appended}
 use Rattle.dj_ops.specs.Refusals.{Refuses}
+use Rattle.dj_ops.proofs.Sizes.{spelled_length}
 use Rattle.dj_ops.specs.Reading.{s4_at, wide_at, wide_local_at, target_at, pair_at, bounds_at, count_at, table_from, lookup_from, padded_at, instr_at}
 
 -- goto to the opcode before it, at address 7
@@ -87,6 +88,14 @@ paddings = (
   record { few = omega arith; aligned = refl },
 )
 
+-- a switch isn't spelled with 4 zeros more
+no_longer_switch : Spells 3 (instrs.Lookup (pos 3) []) (171 ∷ 0 ∷ 0 ∷ 0 ∷ 0 ∷ 0 ∷ 0 ∷ 0 ∷ 0 ∷ [])
+    × (Spells 3 (instrs.Lookup (pos 3) []) (171 ∷ 0 ∷ 0 ∷ 0 ∷ 0 ∷ 0 ∷ 0 ∷ 0 ∷ 0 ∷ 0 ∷ 0 ∷ 0 ∷ 0 ∷ []) → ⊥)
+no_longer_switch = (
+  record { padding = []; padded = record { few = omega arith; aligned = refl }; offsets = (sfits_lit tt, tt); are = refl },
+  λ h. omega (arith, spelled_length 3 (instrs.Lookup (pos 3) []) (171 ∷ 0 ∷ 0 ∷ 0 ∷ 0 ∷ 0 ∷ 0 ∷ 0 ∷ 0 ∷ 0 ∷ 0 ∷ 0 ∷ 0 ∷ []) h),
+)
+
 -- not 4 bytes more, whatever the place
 no_more_padding : (at : ℕ) (padding : List ℕ) → 4 ≤ length padding → IsPadding at padding → ⊥
 no_more_padding at padding many is = omega (arith, many, is.few)
@@ -116,6 +125,10 @@ no_count is = omega (arith, is.1)
 no_dimensions : IsProper (instrs.Multi 1 0) → ⊥
 no_dimensions is = omega (arith, is.1)
 
+-- newarray has the types 4 to 11
+array_types : IsProper (instrs.Array 4) × IsProper (instrs.Array 11) × (IsProper (instrs.Array 3) → ⊥) × (IsProper (instrs.Array 12) → ⊥)
+array_types = ((omega arith, omega arith), (omega arith, omega arith), λ h. omega (arith, h.0), λ h. omega (arith, h.1))
+
 -- ---- what is refused
 
 -- an opcode that is no instruction's, and the last that is one's
@@ -128,6 +141,41 @@ interfaces : Refuses (185 ∷ 0 ∷ 1 ∷ 0 ∷ 0 ∷ []) 0 errors.BadOperand
     × Refuses (185 ∷ 0 ∷ 1 ∷ 0 ∷ []) 0 errors.Cut
 unfolding form_of
 interfaces = ((omega arith, inl refl), (omega arith, inr (λ e. omega (arith, e))), omega arith)
+
+-- invokedynamic with a third byte, with a fourth, and with zeros
+dynamics : Refuses (186 ∷ 0 ∷ 1 ∷ 1 ∷ 0 ∷ []) 0 errors.BadOperand
+    × Refuses (186 ∷ 0 ∷ 1 ∷ 0 ∷ 1 ∷ []) 0 errors.BadOperand
+    × (Refuses (186 ∷ 0 ∷ 1 ∷ 0 ∷ 0 ∷ []) 0 errors.BadOperand → ⊥)
+unfolding form_of
+dynamics = ((omega arith, inl (λ e. omega (arith, e))), (omega arith, inr (λ e. omega (arith, e))), λ h. elim h.1 [ inl e ↦ e refl | inr e ↦ e refl ])
+
+-- newarray of each type at an end, and of those next to them
+arrays : Refuses (188 ∷ 3 ∷ []) 0 errors.BadOperand
+    × Refuses (188 ∷ 12 ∷ []) 0 errors.BadOperand
+    × (Refuses (188 ∷ 4 ∷ []) 0 errors.BadOperand → ⊥)
+    × (Refuses (188 ∷ 11 ∷ []) 0 errors.BadOperand → ⊥)
+unfolding form_of
+arrays = (
+  (omega arith, λ h. omega (arith, h.0)),
+  (omega arith, λ h. omega (arith, h.1)),
+  λ h. h.1 (omega arith, omega arith),
+  λ h. h.1 (omega arith, omega arith),
+)
+
+-- multianewarray of no dimensions, and of one
+dimensions : Refuses (197 ∷ 0 ∷ 1 ∷ 0 ∷ []) 0 errors.BadOperand × (Refuses (197 ∷ 0 ∷ 1 ∷ 1 ∷ []) 0 errors.BadOperand → ⊥)
+unfolding form_of
+dimensions = ((omega arith, refl), λ h. omega (arith, h.1))
+
+-- the operands of an instruction that is cut are not judged: invokeinterface, invokedynamic and multianewarray without their last byte
+cut_first : Refuses (185 ∷ 0 ∷ 1 ∷ 0 ∷ []) 0 errors.Cut
+    × (Refuses (185 ∷ 0 ∷ 1 ∷ 0 ∷ []) 0 errors.BadOperand → ⊥)
+    × Refuses (186 ∷ 0 ∷ 1 ∷ 1 ∷ []) 0 errors.Cut
+    × (Refuses (186 ∷ 0 ∷ 1 ∷ 1 ∷ []) 0 errors.BadOperand → ⊥)
+    × Refuses (197 ∷ 0 ∷ 1 ∷ []) 0 errors.Cut
+    × (Refuses (197 ∷ 0 ∷ 1 ∷ []) 0 errors.BadOperand → ⊥)
+unfolding form_of
+cut_first = (omega arith, λ h. omega (arith, h.0), omega arith, λ h. omega (arith, h.0), omega arith, λ h. omega (arith, h.0))
 
 -- wide before nop, alone, and before iload with one byte
 wides : Refuses (196 ∷ 0 ∷ []) 0 errors.BadOperand × Refuses (196 ∷ []) 0 errors.Cut × Refuses (196 ∷ 21 ∷ 1 ∷ []) 0 errors.Cut

@@ -10,5 +10,9 @@ pub mod SwitchCauses
 pub mod Refused
 pub mod Whole
 pub mod Sizes
+pub mod Decided
 mod Opcodes
 mod Examples
+mod FamilyFacts
+mod ProperFacts
+mod RefusalFacts

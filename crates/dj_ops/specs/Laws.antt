@@ -1,7 +1,9 @@
 -- What holds of instructions and their bytes, whoever reads or writes them.
-use Rattle.std.specs.Prelude.{◌≡◌, ℕ, ◌+◌, List, ◌++◌, length}
+use Rattle.std.specs.Prelude.{◌≡◌, ℕ, ◌+◌, ◌<◌, ◌⊎◌, List, ◌++◌, length, slice_index}
 use Rattle.dj_ops.specs.declared.instruction.Instr.{Instr}
+use Rattle.dj_ops.specs.declared.read.OpError.{OpError}
 use Rattle.dj_ops.specs.Instructions.{IsProper, AreOffsets, Spells, Stands, written, length_at}
+use Rattle.dj_ops.specs.Refusals.{Refuses}
 
 -- an address has one instruction at most, and one address after it
 abbrev pub OneInstruction : Type 0
@@ -23,3 +25,24 @@ SpelledLength = (at : ℕ) (instr : Instr) (bytes : List ℕ) → Spells at inst
 -- where an instruction stands, the next address is as far as that
 abbrev pub NextAddress : Type 0
 NextAddress = (code : List ℕ) (at next : ℕ) (instr : Instr) → Stands code at instr next → next ≡ at + length_at at instr
+
+-- an address of bytes has one refusal at most
+abbrev pub OneRefusal : Type 0
+OneRefusal = (code : List ℕ) (at : ℕ) (a b : OpError) → ((i : ℕ) → slice_index code i < 256) → at < length code → Refuses code at a → Refuses code at b → a ≡ b
+
+-- where a refusal is no instruction stands
+abbrev pub NoInstructionWhereRefused : Type 0
+NoInstructionWhereRefused = (code : List ℕ) (at next : ℕ) (instr : Instr) (e : OpError) → ((i : ℕ) → slice_index code i < 256) → Stands code at instr next → Refuses code at e → ⊥
+
+pub record HasInstruction (code : List ℕ) (at : ℕ) : Type 0 where
+  pub instr : Instr
+  pub next : ℕ
+  pub stands : Stands code at instr next
+
+pub record HasRefusal (code : List ℕ) (at : ℕ) : Type 0 where
+  pub error : OpError
+  pub cause : Refuses code at error
+
+-- an address of bytes has an instruction or a refusal
+abbrev pub InstructionOrRefusal : Type 0
+InstructionOrRefusal = (code : List ℕ) (at : ℕ) → ((i : ℕ) → slice_index code i < 256) → at < length code → HasInstruction code at ⊎ HasRefusal code at

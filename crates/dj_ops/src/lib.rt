@@ -18,7 +18,10 @@ mod write_switches;
 pub use frames::{Form, Frame, Frames, VType, VTypes};
 pub use instrs::Instrs;
 pub use instruction::Instr;
-pub use laws::{next_address, one_instruction, spelled_length, written_spells, written_stands};
+pub use laws::{
+    instruction_or_refusal, next_address, no_instruction_where_refused, one_instruction,
+    one_refusal, spelled_length, written_spells, written_stands,
+};
 pub use lengths::length;
 pub use lists::{NoMemory, Pairs, Targets};
 pub use read::{OpError, read_instr};

@@ -52,38 +52,49 @@ keeps_text pool more i = keeps_of text_of pool more i
 keeps_desc : (pool more : List Constant) (i : ℕ) → Keeps (desc_at pool i) (desc_at (pool ++ more) i)
 keeps_desc pool more i = keeps_then _ _ _ _ (keeps_of names_of pool more i) (λ (n : ℕ × ℕ). keeps_text pool more n.1)
 
-text_kept : (P : List ℕ → Type 0) (pool more : List Constant) (i : ℕ) → NamesText P pool i → NamesText P (pool ++ more) i
-text_kept P pool more i h = keeps_some P (text_at pool i) (text_at (pool ++ more) i) (keeps_text pool more i) h
+-- ---- what is linked stays linked
 
-desc_kept : (P : List ℕ → Type 0) (pool more : List Constant) (i : ℕ) → NamesDesc P pool i → NamesDesc P (pool ++ more) i
-desc_kept P pool more i h = keeps_some P (desc_at pool i) (desc_at (pool ++ more) i) (keeps_desc pool more i) h
+-- whatever an index names in the one pool, it names such in the other
+pub record KeepsNames (pool now : List Constant) : Type 0 where
+  pub text : (i : ℕ) → Keeps (text_at pool i) (text_at now i)
+  pub any_class : (i : ℕ) → NamesAnyClass pool i → NamesAnyClass now i
+  pub member : (i : ℕ) → NamesMember pool i → NamesMember now i
+  pub field_desc : (i : ℕ) → NamesDesc IsFieldDescriptor pool i → NamesDesc IsFieldDescriptor now i
+  pub method_desc : (i : ℕ) → NamesDesc IsMethodDescriptor pool i → NamesDesc IsMethodDescriptor now i
 
-class_kept : (pool more : List Constant) (i : ℕ) → NamesAnyClass pool i → NamesAnyClass (pool ++ more) i
-class_kept pool more i h = keeps_some (λ _. ⊤) _ _ (keeps_of class_text_of pool more i) h
+pub text_kept : (P : List ℕ → Type 0) (pool now : List Constant) → KeepsNames pool now → (i : ℕ) → NamesText P pool i → NamesText P now i
+text_kept P pool now keeps i h = keeps_some P (text_at pool i) (text_at now i) (keeps.text i) h
 
-member_kept : (pool more : List Constant) (i : ℕ) → NamesMember pool i → NamesMember (pool ++ more) i
-member_kept pool more i h = keeps_some (λ _. ⊤) _ _ (keeps_of member_of pool more i) h
+names_kept : (pool now : List Constant) → KeepsNames pool now → (m n : ℕ) → AreNames pool m n → AreNames now m n
+names_kept pool now keeps m n (inl h) = inl (text_kept IsUnqualifiedName pool now keeps m h.0, text_kept IsFieldDescriptor pool now keeps n h.1)
+names_kept pool now keeps m n (inr h) = inr (text_kept IsMethodName pool now keeps m h.0, text_kept IsMethodDescriptor pool now keeps n h.1)
 
-names_kept : (pool more : List Constant) (m n : ℕ) → AreNames pool m n → AreNames (pool ++ more) m n
-names_kept pool more m n (inl h) = inl (text_kept IsUnqualifiedName pool more m h.0, text_kept IsFieldDescriptor pool more n h.1)
-names_kept pool more m n (inr h) = inr (text_kept IsMethodName pool more m h.0, text_kept IsMethodDescriptor pool more n h.1)
+pub link_kept : (pool now : List Constant) → KeepsNames pool now → (k : Constant) → IsLinked pool k → IsLinked now k
+link_kept pool now keeps (Utf8 text) h = tt
+link_kept pool now keeps (Integer n) h = tt
+link_kept pool now keeps (Float n) h = tt
+link_kept pool now keeps (Long n) h = tt
+link_kept pool now keeps (Double n) h = tt
+link_kept pool now keeps (Class n) h = text_kept IsClassText pool now keeps n h
+link_kept pool now keeps (Text n) h = text_kept (λ _. ⊤) pool now keeps n h
+link_kept pool now keeps (Field m n) h = (keeps.any_class m h.0, keeps.field_desc n h.1)
+link_kept pool now keeps (Method m n) h = (keeps.any_class m h.0, keeps.method_desc n h.1)
+link_kept pool now keeps (InterfaceMethod m n) h = (keeps.any_class m h.0, keeps.method_desc n h.1)
+link_kept pool now keeps (NameAndType m n) h = names_kept pool now keeps m n h
+link_kept pool now keeps (Handle kind m) h = keeps.member m h
+link_kept pool now keeps (MethodType n) h = text_kept IsMethodDescriptor pool now keeps n h
+link_kept pool now keeps (Dynamic row n) h = keeps.method_desc n h
+link_kept pool now keeps Hole h = tt
 
-pub link_kept : (pool more : List Constant) (k : Constant) → IsLinked pool k → IsLinked (pool ++ more) k
-link_kept pool more (Utf8 text) h = tt
-link_kept pool more (Integer n) h = tt
-link_kept pool more (Float n) h = tt
-link_kept pool more (Long n) h = tt
-link_kept pool more (Double n) h = tt
-link_kept pool more (Class n) h = text_kept IsClassText pool more n h
-link_kept pool more (Text n) h = text_kept (λ _. ⊤) pool more n h
-link_kept pool more (Field m n) h = (class_kept pool more m h.0, desc_kept IsFieldDescriptor pool more n h.1)
-link_kept pool more (Method m n) h = (class_kept pool more m h.0, desc_kept IsMethodDescriptor pool more n h.1)
-link_kept pool more (InterfaceMethod m n) h = (class_kept pool more m h.0, desc_kept IsMethodDescriptor pool more n h.1)
-link_kept pool more (NameAndType m n) h = names_kept pool more m n h
-link_kept pool more (Handle kind m) h = member_kept pool more m h
-link_kept pool more (MethodType n) h = text_kept IsMethodDescriptor pool more n h
-link_kept pool more (Dynamic row n) h = desc_kept IsMethodDescriptor pool more n h
-link_kept pool more Hole h = tt
+-- a pool with more at its end
+pub keeps_names : (pool more : List Constant) → KeepsNames pool (pool ++ more)
+keeps_names pool more = record {
+  text = keeps_text pool more;
+  any_class = λ i h. keeps_some (λ _. ⊤) _ _ (keeps_of class_text_of pool more i) h;
+  member = λ i h. keeps_some (λ _. ⊤) _ _ (keeps_of member_of pool more i) h;
+  field_desc = λ i h. keeps_some IsFieldDescriptor _ _ (keeps_desc pool more i) h;
+  method_desc = λ i h. keeps_some IsMethodDescriptor _ _ (keeps_desc pool more i) h;
+}
 
 -- ---- one more
 
@@ -95,8 +106,8 @@ indexed_append (k ∷ xs) ys =
     (λ narrow. indexed_narrow k (xs ++ ys) narrow ∙ ap (λ (t : List Constant). k ∷ t) (indexed_append xs ys) ∙ ap (λ (t : List Constant). t ++ indexed ys) (sym (indexed_narrow k xs narrow)))
 
 each_kept : (pool more : List Constant) (k : Constant) (ks : List Constant) → AllByRecursion (IsConstant pool) ks → IsConstant pool k → AllByRecursion (IsConstant (pool ++ more)) (ks ++ k ∷ [])
-each_kept pool more k [] each good = ((good.0, link_kept pool more k good.1), tt)
-each_kept pool more k (x ∷ ks) each good = ((each.0.0, link_kept pool more x each.0.1), each_kept pool more k ks each.1 good)
+each_kept pool more k [] each good = ((good.0, link_kept pool (pool ++ more) (keeps_names pool more) k good.1), tt)
+each_kept pool more k (x ∷ ks) each good = ((each.0.0, link_kept pool (pool ++ more) (keeps_names pool more) x each.0.1), each_kept pool more k ks each.1 good)
 
 pub appended_is_pool : AppendedIsPool
 appended_is_pool pool k good ok few = record {

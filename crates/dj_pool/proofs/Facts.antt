@@ -1,6 +1,7 @@
 -- The definitions at plain values: the bytes of each constant, what is linked and what is not, pools and faults.
-use Rattle.std.proofs.Common.{◌≡◌, ◌≢◌, ℕ, zero, suc, ◌<◌, true, false, List, [], ◌∷◌, map, Some, None, Result, Ok, Err, pos, negsuc, FitsSigned, refl, arith, inl, inr}
-use Rattle.std.specs.Prelude.{codes}
+use Rattle.std.proofs.Common.{◌≡◌, ◌≢◌, ℕ, zero, suc, ◌<◌, Bool, true, false, not, ◌&&◌, List, [], ◌∷◌, map, take, replicate, Some, None, Result, Ok, Err, pos, negsuc, FitsSigned, refl, arith, inl, inr}
+use Rattle.std.specs.Prelude.{nat_eq, codes}
+use Rattle.std.specs.List.{flat_map, list_any}
 use Rattle.std.specs.Int.{w64}
 use Rattle.std.proofs.lemmas.Int.{ints}
 use Rattle.dj_bytes.specs.Reading.{cursor_at}
@@ -12,7 +13,7 @@ use Rattle.dj_names.proofs.TestLaws.{class_name_test-decides}
 use Rattle.dj_pool.specs.declared.pool.PoolError.{PoolError}
 use Rattle.dj_pool.specs.declared.pool.PoolError.TheVariants as pool_errors
 use Rattle.dj_pool.specs.Pool.{Constant, Utf8, Integer, Float, Long, Double, Class, Text, Field, Method, InterfaceMethod, NameAndType, Handle, MethodType, Dynamic, Hole, indexed, constant_bytes, constant_at, text_at, class_name_at, name_and_type_at, member_at}
-use Rattle.dj_pool.specs.Faults.{IsMislinked, PoolFault}
+use Rattle.dj_pool.specs.Faults.{tags, IsMislinked, PoolFault}
 use Rattle.dj_pool.specs.Answers.{IsPoolAt}
 use Rattle.dj_pool.specs.Tests.{is_linked, is_fit}
 use Rattle.dj_pool.specs.Reading.{utf8_at, number4_at, number8_at, named_at, paired_at, handle_at, untagged_at, constant_at_cursor, slot_at, slots_at, first_unlinked, linked_slots_at, pool_at, pool_from}
@@ -29,6 +30,30 @@ every-bytes : map constant_bytes every
     ∷ ((15 ∷ 3 ∷ 1 ∷ 2 ∷ []) ∷ ((16 ∷ 1 ∷ 2 ∷ []) ∷ ((18 ∷ 0 ∷ 1 ∷ 1 ∷ 2 ∷ []) ∷ ([] ∷ []))))))))))))))
 unfolding every
 every-bytes = refl
+
+-- each kind has a tag of its own: no first byte stands among the later ones
+tags-are : flat_map (λ (k : Constant). take 1 (constant_bytes k)) every ≡ tags
+unfolding every
+tags-are = refl
+
+all_differ : List ℕ → Bool
+all_differ [] = true
+all_differ (tag ∷ others) = not (list_any (nat_eq tag) others) && all_differ others
+
+tags-differ : all_differ (flat_map (λ (k : Constant). take 1 (constant_bytes k)) every) ≡ true
+unfolding every all_differ
+tags-differ = refl
+
+tags-differ_not : all_differ (9 ∷ 10 ∷ 9 ∷ []) ≡ false
+unfolding all_differ
+tags-differ_not = refl
+
+-- the length of a text is that of its bytes, in two bytes
+text-bytes : (constant_bytes (Utf8 (195 ∷ 169 ∷ [])) ≡ 1 ∷ 0 ∷ 2 ∷ 195 ∷ 169 ∷ []) × (take 4 (constant_bytes (Utf8 (replicate 258 65))) ≡ 1 ∷ 1 ∷ 2 ∷ 65 ∷ [])
+text-bytes = (refl, refl)
+
+text-bytes_not : constant_bytes (Utf8 (195 ∷ 169 ∷ [])) ≢ 1 ∷ 0 ∷ 1 ∷ 195 ∷ 169 ∷ []
+text-bytes_not h = absurd cc
 
 -- a field is spelled as no method
 field-bytes_not : constant_bytes (Field 1 2) ≢ constant_bytes (Method 1 2)
@@ -157,10 +182,10 @@ unfolding pools answers utf8_at number4_at number8_at named_at paired_at handle_
 pools-read = refl
 
 -- a class and its text
-class_pool : List Constant
+unfoldable pub class_pool : List Constant
 class_pool = Class 2 ∷ (Utf8 (codes "A") ∷ [])
 
-class_pool-stands : IsPoolAt (9 ∷ 0 ∷ 3 ∷ 7 ∷ 0 ∷ 2 ∷ 1 ∷ 0 ∷ 1 ∷ 65 ∷ 9 ∷ []) 1 class_pool 10
+pub class_pool-stands : IsPoolAt (9 ∷ 0 ∷ 3 ∷ 7 ∷ 0 ∷ 2 ∷ 1 ∷ 0 ∷ 1 ∷ 65 ∷ 9 ∷ []) 1 class_pool 10
 unfolding class_pool indexed class_name_test reads_class_name
 class_pool-stands = record {
   rest = 9 ∷ [];
@@ -170,7 +195,7 @@ class_pool-stands = record {
 }
 
 -- a long alone, at the last index below the count
-long_at_end : List ℕ
+pub long_at_end : List ℕ
 long_at_end = 0 ∷ 2 ∷ 5 ∷ 0 ∷ 0 ∷ 0 ∷ 0 ∷ 0 ∷ 0 ∷ 0 ∷ 1 ∷ []
 
 none_lower : (i : ℕ) (k : Constant) → i < 1 → constant_at (Long (pos 1) ∷ []) i ≡ Some k → IsMislinked 2 (Long (pos 1) ∷ []) i k → ⊥
@@ -180,7 +205,7 @@ none_lower (suc i) k lt at wrong = absurd (omega (arith, lt))
 long_fits : FitsSigned w64 (pos 1)
 long_fits = omega (arith, ints)
 
-long_at_end-fault : PoolFault (cursor_at 0 long_at_end) (pool_errors.Link 1)
+pub long_at_end-fault : PoolFault (cursor_at 0 long_at_end) (pool_errors.Link 1)
 unfolding long_at_end indexed
 long_at_end-fault = inr (record {
   value = 2;

@@ -8,6 +8,11 @@ pub mod Links
 pub mod PoolLaws
 pub mod PoolAnswers
 pub mod ChangeLaws
+pub mod RedirectLaws
 pub mod ShortTexts
 pub mod Scanned
 mod Facts
+pub mod AnswerFacts
+mod ViewFacts
+mod PlaceFacts
+mod ChangeFacts

@@ -1,10 +1,11 @@
 -- Laws of pools that hold whatever is read or changed.
 use Rattle.std.specs.Prelude.{◌≡◌, ℕ, ◌^◌, ◌<◌, ◌≤◌, ◌⊎◌, ◌↔◌, List, [], ◌∷◌, ◌++◌, None, slice_index, option_and_then}
 use Rattle.dj_bytes.specs.Reading.{cursor_at}
+use Rattle.dj_names.specs.Descriptors.{IsFieldDescriptor, IsMethodDescriptor}
 use Rattle.dj_pool.specs.declared.pool.PoolError.{PoolError}
-use Rattle.dj_pool.specs.Pool.{Constant, indexed, constant_at, text_of, class_text_of, names_of, member_of, text_at, class_name_at, name_and_type_at, member_at, IsConstant, IsPool}
+use Rattle.dj_pool.specs.Pool.{Constant, indexed, constant_at, text_of, class_text_of, names_of, member_of, text_at, class_name_at, name_and_type_at, member_at, NamesText, NamesDesc, IsConstant, IsPool}
 use Rattle.dj_pool.specs.Faults.{PoolFault}
-use Rattle.dj_pool.specs.Answers.{IsPoolAt, length_with, last_index}
+use Rattle.dj_pool.specs.Answers.{IsPoolAt, length_with, last_index, MayHaveText, Redirects}
 
 -- ---- reading
 
@@ -34,6 +35,16 @@ PoolOrFault = (bytes : List ℕ) (at : ℕ) → ((i : ℕ) → slice_index bytes
 -- a valid pool stays so where a constant is appended that is valid there
 abbrev pub AppendedIsPool : Type 0
 AppendedIsPool = (pool : List Constant) (k : Constant) → IsPool pool → IsConstant pool k → length_with pool k ≤ last_index → IsPool (pool ++ indexed (k ∷ []))
+
+-- the text is a field's descriptor where the index names one, and a method's where it names one of those
+pub record KeepsKind (pool : List Constant) (index text : ℕ) : Type 0 where
+  pub field : NamesDesc IsFieldDescriptor pool index → NamesText IsFieldDescriptor pool text
+  pub method : NamesDesc IsMethodDescriptor pool index → NamesText IsMethodDescriptor pool text
+
+-- a valid pool stays so where a constant gets another text that it may have, of the kind of descriptor that it had
+abbrev pub RedirectedIsPool : Type 0
+RedirectedIsPool = (before now : List Constant) (index text : ℕ) → IsPool before → text < 2 ^ 16 → MayHaveText before index text → KeepsKind before index text
+    → Redirects before index text now → IsPool now
 
 -- ---- looking up
 

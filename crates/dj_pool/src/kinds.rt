@@ -1,4 +1,4 @@
-ghost use Rattle.std.specs.Prelude.{◌≡◌, map, IfOk};
+ghost use Rattle.std.specs.Prelude.{◌≡◌, [], map, IfOk};
 ghost use Rattle.dj_pool.specs.Pool.{Utf8, Hole};
 ghost use Rattle.dj_pool.specs.Views.{constant_of};
 ghost use Rattle.dj_pool.specs.Tests.{kinds_of};
@@ -27,9 +27,28 @@ pub struct TextKinds {
     pub method_descriptor: bool,
 }
 
+/// What the text of no bytes is: a text, and nothing else.
+fn no_bytes() -> TextKinds
+    ensures { result ≡ kinds_of (Utf8 []) }
+{
+    TextKinds {
+        text: true,
+        class_name: false,
+        array_descriptor: false,
+        unqualified_name: false,
+        method_name: false,
+        field_descriptor: false,
+        method_descriptor: false,
+    }
+}
+
+#[tactic(auto, using(std::proofs::lemmas::List::nil_from_length))]
 fn kinds_of_text(text: &[u8]) -> TextKinds
     ensures { result ≡ kinds_of (Utf8 text.now) }
 {
+    if text.len() == 0 {
+        return no_bytes();
+    }
     let names = names_of(text);
     TextKinds {
         text: true,

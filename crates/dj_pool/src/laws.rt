@@ -1,4 +1,4 @@
-ghost use Rattle.dj_pool.specs.Laws.{OnePool, OneFault, NoPoolWhereFault, PoolOrFault, AppendedIsPool, PoolLooksUp};
+ghost use Rattle.dj_pool.specs.Laws.{OnePool, OneFault, NoPoolWhereFault, PoolOrFault, AppendedIsPool, RedirectedIsPool, PoolLooksUp};
 
 /// At a place stands one pool at most.
 pub fn one_pool()
@@ -23,6 +23,11 @@ pub fn pool_or_fault()
 /// A valid pool stays so where a valid constant is appended.
 pub fn appended_is_pool()
     ensures { AppendedIsPool }
+{}
+
+/// A valid pool stays so where a constant gets another text of the kind that it had.
+pub fn redirected_is_pool()
+    ensures { RedirectedIsPool }
 {}
 
 /// In a valid pool nothing that a constant names is missing.

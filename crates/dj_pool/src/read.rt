@@ -230,9 +230,7 @@ fn read_from<'a>(alloc: Global, file: &'a [u8], at: u32) -> Result<(Pool<'a>, u3
 /// The pool whose count stands at the place, and the place after its last entry.
 pub fn read_pool<'a>(alloc: Global, file: &'a [u8], at: u32) -> Result<(Pool<'a>, u32), PoolError>
     requires { length file.now < 2 ^ 32 }
-    ensures means { ReadsPool file.now at result }
-    // The same, as the reader's own pass.
-    ensures exact { Gives pool_is_memory (λ x. (x.0, x.1)) result (pool_from file.now at) }
+    ensures { ReadsPool file.now at result }
 {
     read_from(alloc, file, at)
 }

@@ -3,3 +3,4 @@ pub mod Sorted
 pub mod Stages
 pub mod Adding
 pub mod Inserted
+mod Facts

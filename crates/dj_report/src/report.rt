@@ -110,7 +110,7 @@ pub enum Report {
     Rejected(Violations),
     /// The first limit that was passed.
     Limited(Limit),
-    /// The path within the folder of the first file that needs parts of the format that are not read yet.
+    /// The path within the folder of the first file of a set that is not straight.
     Later(Name),
     /// The path of a file that isn't there, as UTF-8.
     Absent(Name),

@@ -4,16 +4,16 @@ use Rattle.dj_pool.specs.declared.pool.PoolError.TheVariants as pool_errors
 use Rattle.dj_pool.proofs.ShortTexts.{class_name_short}
 use Rattle.dj_class.specs.declared.class.ClassError.{ClassError}
 use Rattle.dj_class.specs.declared.class.ClassError.TheVariants as class_errors
-use Rattle.dj_class.specs.ClassFile.{ClassFile, IsClassFile}
+use Rattle.dj_class.specs.ClassFile.{ClassFile, IsClassFile, IsMalformed}
 use Rattle.dj_class.specs.Views.{ReadsClass}
 use Rattle.dj_class.specs.Faults.{IsFault}
 use Rattle.dj_pool.proofs.Decides.{tests_decide}
 use Rattle.dj_class.proofs.AnswerLaws.{faulty_is_malformed}
 use Rattle.dj_report.specs.declared.report.PathFile.{PathFile}
 use Rattle.dj_rules.specs.Views.{path_file_view}
-use Rattle.dj_rules.specs.Faults.{is_memory}
+use Rattle.dj_class.specs.Memory.{is_memory}
 use Rattle.dj_rules.specs.Reads.{IsOnlyView}
-use Rattle.dj_rules.specs.Violations.{IsNoClassFile, this_name}
+use Rattle.dj_rules.specs.Violations.{this_name}
 
 -- the text of a class is short
 pub short_name : (bytes : List ℕ) (c : ClassFile) → IsClassFile bytes c → length (this_name c) < 2 ^ 32
@@ -23,11 +23,11 @@ short_name bytes c is =
 
 -- ---- what a view shows
 
-not_read : (bytes : List ℕ) (e : ClassError) → IsFault bytes e → IsNoClassFile bytes
+not_read : (bytes : List ℕ) (e : ClassError) → IsFault bytes e → IsMalformed bytes
 not_read bytes e fault = faulty_is_malformed tests_decide bytes e fault
 
 -- the file was read, and is no class file
-pub malformed_view : (bytes : List ℕ) (e : ClassError) → ReadsClass bytes (Err e) → is_memory e ≡ false → IsNoClassFile bytes
+pub malformed_view : (bytes : List ℕ) (e : ClassError) → ReadsClass bytes (Err e) → is_memory e ≡ false → IsMalformed bytes
 malformed_view bytes class_errors.Magic r m = not_read bytes _ r
 malformed_view bytes (class_errors.Cut place) r m = not_read bytes _ r
 malformed_view bytes (class_errors.Pool (pool_errors.Cut place)) r m = not_read bytes _ r

@@ -3,7 +3,7 @@ use Rattle.std.proofs.Common.{◌≡◌, ℕ, ◌≤◌, ◌⊎◌, ◌↔◌, L
 use Rattle.dj_report.specs.declared.report.Violation.{Violation}
 use Rattle.dj_class.specs.declared.class.MemberView.{MemberView}
 use Rattle.dj_pool.specs.Pool.{Constant}
-use Rattle.dj_class.specs.ClassFile.{MemberInfo, ClassFile, IsClassFile}
+use Rattle.dj_class.specs.ClassFile.{MemberInfo, ClassFile, IsClassFile, IsMalformed}
 use Rattle.dj_class.specs.Members.{member_of}
 use Rattle.dj_pool.proofs.Decides.{tests_decide}
 use Rattle.dj_class.proofs.ClassLaws.{one_class_file}
@@ -14,7 +14,7 @@ use Rattle.dj_report.proofs.Sorted.{contains_none}
 use Rattle.dj_report.proofs.Adding.{IsAmong, adds_same, adds_both, among_map, contains_map, from_contains_map, adds_none_yet, adds_one_more, exactly_found, exactly_same}
 use Rattle.dj_rules.specs.Lines.{IsPairLine, pair_of}
 use Rattle.std.proofs.lemmas.List.{take_all}
-use Rattle.dj_rules.specs.Violations.{member_text, this_name, IsNative, IsFinalizer, HasOtherVersion, IsNamedAs, IsMethodLine, IsClassLine, IsNoClassFile, IsLineOf, IsViolation, AreViolations}
+use Rattle.dj_rules.specs.Violations.{member_text, this_name, IsNative, IsFinalizer, HasOtherVersion, IsNamedAs, IsMethodLine, IsClassLine, IsLineOf, IsViolation, AreViolations}
 use Rattle.dj_rules.specs.Views.{path_file_view}
 
 -- the pair of a method of the condition
@@ -22,9 +22,9 @@ abbrev pub IsOwnPair : (List Constant → MemberInfo → Type 0) → List Consta
 IsOwnPair IsSuch pool m pair = IsSuch pool (member_of m) × (pair ≡ pair_of (member_of m))
 
 -- a line of a method is that of its pair
-method_lines : (IsSuch : List Constant → MemberInfo → Type 0) (path : List ℕ) (rule : ℕ) (c : ClassFile) (views : List MemberView) (pairs once : List (ℕ × ℕ)) → map member_of views ≡ c.methods → Gains (IsAmong (IsOwnPair IsSuch c.pool) views) [] pairs → ((pair : ℕ × ℕ) → Contains once pair ↔ Contains pairs pair) → (v : Violation) → IsLineAmong (IsPairLine path rule c.pool) once v ↔ IsMethodLine IsSuch path rule c v
-method_lines IsSuch path rule c views pairs once are gathered members v = (
-  λ (pair, m, line). elim ((gathered pair).0 ((members pair).0 m)) [
+method_lines : (IsSuch : List Constant → MemberInfo → Type 0) (path : List ℕ) (rule : ℕ) (c : ClassFile) (views : List MemberView) (pairs : List (ℕ × ℕ)) → map member_of views ≡ c.methods → Gains (IsAmong (IsOwnPair IsSuch c.pool) views) [] pairs → (v : Violation) → IsLineAmong (IsPairLine path rule c.pool) pairs v ↔ IsMethodLine IsSuch path rule c v
+method_lines IsSuch path rule c views pairs are gathered v = (
+  λ (pair, m, line). elim ((gathered pair).0 m) [
     | inl none ↦ absurd (contains_none pair none)
     | inr (method, own, (such, is)) ↦ record {
       method = member_of method;
@@ -37,13 +37,13 @@ method_lines IsSuch path rule c views pairs once are gathered members v = (
       let seen = from_contains_map member_of views is.method (subst (λ ms. Contains ms is.method) (sym are) is.own) in
       let such = subst (λ m. IsSuch c.pool m) (sym seen.2) is.such in
       let pair = pair_of (member_of seen.0) in
-      (pair, (members pair).1 ((gathered pair).1 (inr (seen.0, seen.1, (such, refl)))), subst (λ m. v ≡ member_line path (member_text c.pool m) rule) (sym seen.2) is.line),
+      (pair, (gathered pair).1 (inr (seen.0, seen.1, (such, refl))), subst (λ m. v ≡ member_line path (member_text c.pool m) rule) (sym seen.2) is.line),
 )
 
 -- lines of all methods
-pub adds_method_lines : (IsSuch : List Constant → MemberInfo → Type 0) (path : List ℕ) (rule : ℕ) (c : ClassFile) (views : List MemberView) (pairs once : List (ℕ × ℕ)) (a b : List Violation) → map member_of views ≡ c.methods → Gains (IsAmong (IsOwnPair IsSuch c.pool) views) [] pairs → ((pair : ℕ × ℕ) → Contains once pair ↔ Contains pairs pair) → Adds (IsLineAmong (IsPairLine path rule c.pool) once) a b → Adds (IsMethodLine IsSuch path rule c) a b
-adds_method_lines IsSuch path rule c views pairs once a b are gathered members =
-    adds_same (IsLineAmong (IsPairLine path rule c.pool) once) (IsMethodLine IsSuch path rule c) a b (method_lines IsSuch path rule c views pairs once are gathered members)
+pub adds_method_lines : (IsSuch : List Constant → MemberInfo → Type 0) (path : List ℕ) (rule : ℕ) (c : ClassFile) (views : List MemberView) (pairs : List (ℕ × ℕ)) (a b : List Violation) → map member_of views ≡ c.methods → Gains (IsAmong (IsOwnPair IsSuch c.pool) views) [] pairs → Adds (IsLineAmong (IsPairLine path rule c.pool) pairs) a b → Adds (IsMethodLine IsSuch path rule c) a b
+adds_method_lines IsSuch path rule c views pairs a b are gathered =
+    adds_same (IsLineAmong (IsPairLine path rule c.pool) pairs) (IsMethodLine IsSuch path rule c) a b (method_lines IsSuch path rule c views pairs are gathered)
 
 abbrev pub IsVersionLine : List ℕ → ClassFile → Violation → Type 0
 IsVersionLine path c v = HasOtherVersion c × (v ≡ file_line path 2)
@@ -76,7 +76,7 @@ adds_class_file path bytes c a b is =
     ))
 
 -- the line of a file that is none
-pub adds_no_class_file : (path bytes : List ℕ) (a b : List Violation) → IsNoClassFile bytes → Adds (λ v. v ≡ file_line path 1) a b → Adds (IsLineOf (path, bytes)) a b
+pub adds_no_class_file : (path bytes : List ℕ) (a b : List Violation) → IsMalformed bytes → Adds (λ v. v ≡ file_line path 1) a b → Adds (IsLineOf (path, bytes)) a b
 adds_no_class_file path bytes a b none =
     adds_same (λ v. v ≡ file_line path 1) (IsLineOf (path, bytes)) a b (λ v. (
       λ e. inl (none, e),

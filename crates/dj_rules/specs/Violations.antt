@@ -8,7 +8,7 @@ use Rattle.dj_edge.specs.Held.{File}
 use Rattle.dj_names.specs.ModifiedUtf8.{Spells}
 use Rattle.dj_pool.specs.Pool.{Constant, text_at, class_name_at}
 use Rattle.dj_class.specs.Access as access
-use Rattle.dj_class.specs.ClassFile.{MemberInfo, ClassFile, IsClassFile}
+use Rattle.dj_class.specs.ClassFile.{MemberInfo, ClassFile, IsClassFile, IsMalformed}
 use Rattle.dj_report.specs.declared.report.Violation.{Violation}
 use Rattle.dj_report.specs.Lines.{file_line, member_line, AreExactly}
 
@@ -38,10 +38,6 @@ IsNative m = IsBitSet m.flags access.native
 abbrev pub IsFinalizer : List Constant → MemberInfo → Type 0
 IsFinalizer pool m = (text_at pool m.name ≡ Some (codes "finalize")) × (text_at pool m.desc ≡ Some (codes "()V"))
 
--- rule 1, MALFORMED: the bytes are no class file
-abbrev pub IsNoClassFile : List ℕ → Type 0
-IsNoClassFile bytes = (c : ClassFile) → IsClassFile bytes c → ⊥
-
 -- rule 2, VERSION: a major version other than 50, 51 and 52
 abbrev pub HasOtherVersion : ClassFile → Type 0
 HasOtherVersion c = (c.major < 50) ⊎ (52 < c.major)
@@ -61,10 +57,10 @@ IsClassLine path c v =
     ⊎ (IsMethodLine (λ _ m. IsNative m) path 7 c v
     ⊎ IsMethodLine IsFinalizer path 8 c v))
 
--- a line of the file
+-- a line of the file: rule 1, MALFORMED, or those of a class file
 abbrev pub IsLineOf : File → Violation → Type 0
 IsLineOf file v =
-    (IsNoClassFile file.1 × (v ≡ file_line file.0 1))
+    (IsMalformed file.1 × (v ≡ file_line file.0 1))
     ⊎ ((c : ClassFile) × IsClassFile file.1 c × IsClassLine file.0 c v)
 
 -- a rule of one of the files is violated

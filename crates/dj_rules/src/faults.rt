@@ -1,5 +1,5 @@
 ghost use Rattle.std.specs.Prelude.{◌≡◌};
-ghost use Rattle.dj_rules.specs.Faults.{is_memory};
+ghost use Rattle.dj_class.specs.Memory.{is_memory};
 
 use dj_class::ClassError;
 use dj_pool::PoolError;

@@ -8,6 +8,7 @@ mod judge;
 mod lines;
 mod members;
 mod named;
+mod texts;
 mod view;
 mod whole;
 

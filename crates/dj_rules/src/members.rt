@@ -8,6 +8,7 @@ ghost use Rattle.dj_rules.specs.Violations.{IsNative, IsFinalizer, IsMethodLine}
 
 use crate::error::RulesError;
 use crate::lines::{MemberLines, add_member_line};
+use crate::texts::each_text_once;
 use dj_class::{ClassView, MemberView};
 use dj_pool::Pool;
 use dj_report::Violation;
@@ -63,17 +64,8 @@ fn add_finalizer_pair(
     Ok(())
 }
 
-// The line depends on the pair alone, and is longer by far. So repeats are dropped before lines are copied.
-fn each_once(mut pairs: Vec<(u16, u16)>) -> Vec<(u16, u16)>
-    ensures { (pair : ℕ × ℕ) → Contains result.items pair ↔ Contains pairs.items pair }
-{
-    pairs.sort_unstable();
-    pairs.dedup();
-    pairs
-}
-
 // Appends the line of each pair.
-fn add_pair_lines(
+fn add_each_line(
     alloc: Global,
     found: &mut Vec<Violation>,
     lines: &MemberLines<'_, '_>,
@@ -85,6 +77,19 @@ fn add_pair_lines(
         add_member_line(alloc, found, lines, *pair)?;
     }
     Ok(())
+}
+
+// Appends the lines of the pairs. A line is as long as its texts, so repeats are dropped before lines are copied.
+fn add_pair_lines(
+    alloc: Global,
+    found: &mut Vec<Violation>,
+    lines: &MemberLines<'_, '_>,
+    pairs: Vec<(u16, u16)>,
+) -> Result<(), RulesError>
+    ensures { OnOk result (Adds (IsLineAmong (IsPairLine lines.now.path.now lines.now.rule lines.now.pool.now) pairs.items) found.old.items found.new.items) }
+{
+    let once = each_text_once(alloc, lines.pool, pairs)?;
+    add_each_line(alloc, found, lines, &once)
 }
 
 /// Appends the lines of the rule NATIVE.
@@ -105,7 +110,7 @@ pub fn add_native_lines(
         pool: &view.pool,
         rule: NATIVE,
     };
-    add_pair_lines(alloc, found, &lines, &each_once(pairs))
+    add_pair_lines(alloc, found, &lines, pairs)
 }
 
 /// Appends the lines of the rule FINALIZER.
@@ -126,5 +131,5 @@ pub fn add_finalizer_lines(
         pool: &view.pool,
         rule: FINALIZER,
     };
-    add_pair_lines(alloc, found, &lines, &each_once(pairs))
+    add_pair_lines(alloc, found, &lines, pairs)
 }

@@ -4,8 +4,8 @@ use dj_names::{Kind, Name, Outcome, Thresholds, Value};
 use dj_report::PathFile;
 use dj_rules::{RulesError, judge_files};
 use dj_straight::{
-    Action, Ending, IntOperation, StraightMethod, StraightSet, run_method, shape_fault,
-    straight_set,
+    Action, Ending, IntOperation, StraightMethod, StraightSet, read_instrs, run_method,
+    shape_fault, straight_set,
 };
 use std::alloc::Global;
 
@@ -49,6 +49,15 @@ fn one_straight_class(rt: HostRuntime) {
     }];
     let set = set_of_files(rt.alloc(), &files);
     assert!(rt; matches!(&set, Ok(Some(set)) if is_class_a(set)));
+}
+
+// aload_0 and areturn, and an instruction that isn't straight.
+#[test]
+fn straight_code_is_cut(rt: HostRuntime) {
+    let two = read_instrs(rt.alloc(), b"\x2a\xb0");
+    assert!(rt; matches!(&two, Ok(Some(instrs)) if instrs.as_slice().len() == 2));
+    let other = read_instrs(rt.alloc(), b"\x2a\xbf");
+    assert!(rt; matches!(&other, Ok(None)));
 }
 
 // The byte at the front of the input, less -3, in an array of its own.

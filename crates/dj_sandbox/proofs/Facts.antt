@@ -1,5 +1,5 @@
 -- The limits, the order in which files are judged and run, the lines of a run, and the entry, at plain values.
-use Rattle.std.proofs.Common.{◌≡◌, ◌≢◌, ℕ, ◌⊎◌, false, List, [], ◌∷◌, ◌++◌, length, Option, Some, None, inl, inr, refl, sym, ap, ◌∙◌}
+use Rattle.std.proofs.Common.{◌≡◌, ◌≢◌, ℕ, ◌⊎◌, false, List, [], ◌∷◌, ◌++◌, map, length, Option, Some, None, inl, inr, refl, sym, ap, ◌∙◌}
 use Rattle.std.specs.Prelude.{codes}
 use Rattle.dj_edge.specs.Held.{File}
 use Rattle.dj_report.specs.Stages.{IsDecided}
@@ -9,7 +9,7 @@ use Rattle.dj_report.specs.declared.report.Violation.{Violation}
 use Rattle.dj_rules.specs.Violations.{AreViolations}
 use Rattle.dj_straight.specs.Program.{Program, Method}
 use Rattle.dj_straight.specs.Straight.{IsNotStraight}
-use Rattle.dj_sandbox.specs.Entry.{entry_method, has_entry, IsEntryLine, IsShapeLine}
+use Rattle.dj_sandbox.specs.Entry.{with_slashes, entry_method, has_entry, IsEntryLine, IsShapeLine}
 use Rattle.dj_sandbox.specs.Judging.{IsFirstPath, JudgesFiles, JudgesRun, Runs, Accepts, check_stages, run_stages}
 use Rattle.dj_sandbox.specs.Limits.{most_files, most_file_bytes, most_total_bytes, most_input_bytes, default_thresholds}
 use Rattle.dj_sandbox.specs.Statuses.{IsAmong, check_statuses, run_statuses}
@@ -69,6 +69,10 @@ accepted-fewer : (file : File) → Accepts (file ∷ []) (Some (reports.Accepted
 accepted-fewer file h = absurd cc
 
 -- ---- the entry, the lines and the statuses
+
+-- dots become slashes, and the characters beside them don't
+entry-slashes : map with_slashes (codes "a.b.C" ∷ codes "a/b/C" ∷ codes "A-:$;" ∷ [] ∷ []) ≡ codes "a/b/C" ∷ codes "a/b/C" ∷ codes "A-:$;" ∷ [] ∷ []
+entry-slashes = refl
 
 entry-verify : entry_method (codes "A") ≡ record { class = codes "A"; name = codes "verify"; desc = codes "([B)[B" }
 entry-verify = refl

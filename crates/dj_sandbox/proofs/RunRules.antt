@@ -1,9 +1,11 @@
 -- The rules of a run: the entry, and the lines of the methods.
-use Rattle.std.proofs.Common.{◌≡◌, ℕ, zero, suc, get_or, ◌^◌, ◌<◌, ◌⊎◌, ◌↔◌, Bool, true, false, not, nat_eq, bit_and, List, [], ◌∷◌, ◌++◌, map, length, slice_get, Option, Some, None, Contains, refl, sym, ap, subst, ◌∙◌, inl, inr, codes, arith}
+use Rattle.std.proofs.Common.{◌≡◌, ◌≢◌, ℕ, zero, suc, get_or, ◌^◌, ◌<◌, ◌⊎◌, ◌↔◌, Bool, true, false, not, nat_eq, bit_and, List, [], ◌∷◌, ◌++◌, map, length, slice_get, Option, Some, None, Contains, refl, sym, ap, subst, ◌∙◌, inl, inr, codes, arith, IsTrue}
 use Rattle.std.proofs.lemmas.Bool.Decides.{nat_tests}
 use Rattle.std.proofs.lemmas.List.Elements.{All-weaker, Contains-get_or}
 use Rattle.std.proofs.lemmas.Nat.Bits.{and_pow, bit_at-lt}
+use Rattle.std.specs.Int.{IsBitSet}
 use Rattle.dj_edge.specs.Held.{File}
+use Rattle.dj_class.specs.Access as access
 use Rattle.dj_straight.specs.Program.{Program, Method, Code, Runs, is_static}
 use Rattle.dj_straight.specs.Shape.{IsShapeFault}
 use Rattle.dj_straight.proofs.Shapes.{one_shape_fault, no_fault_with_shape}
@@ -26,8 +28,18 @@ use Rattle.dj_report.proofs.Adding.{adds_same, adds_nothing, adds_both, contains
 
 -- ---- the entry
 
-pub static_test : (flags : ℕ) → not (nat_eq (bit_and flags 8) 0) ≡ is_static flags
+static_test : (flags : ℕ) → not (nat_eq (bit_and flags 8) 0) ≡ is_static flags
 static_test flags = let e = and_pow flags 3 in let lt = bit_at-lt flags 3 in grind (arith, nat_tests)
+
+-- the bit is set exactly where the mask leaves something
+masked : (b : Bool) (n : ℕ) → (IsTrue b ↔ (n ≢ 0)) → b ≡ not (nat_eq n 0)
+masked true zero set = absurd (set.0 refl refl)
+masked true (suc n) set = grind (arith, nat_tests)
+masked false zero set = refl
+masked false (suc n) set = let is = set.1 (λ e. absurd (omega arith)) in absurd cc
+
+pub static_is : (flags : ℕ) (b : Bool) → (IsTrue b ↔ IsBitSet flags access.static) → b ≡ is_static flags
+static_is flags b set = masked b (bit_and flags 8) set ∙ static_test flags
 
 is_true : (b : Bool) → (b ≡ false → ⊥) → b ≡ true
 is_true true none = refl

@@ -2,12 +2,12 @@
 use Rattle.std.proofs.Common.{◌≡◌, ℕ, ◌⊎◌, List, Contains, subst, inl, inr}
 use Rattle.dj_edge.specs.Held.{File}
 use Rattle.dj_pool.specs.Pool.{Constant}
-use Rattle.dj_class.specs.ClassFile.{MemberInfo, ClassFile, IsClassFile}
+use Rattle.dj_class.specs.ClassFile.{MemberInfo, ClassFile, IsClassFile, IsMalformed}
 use Rattle.dj_pool.proofs.Decides.{tests_decide}
 use Rattle.dj_class.proofs.ClassLaws.{one_class_file}
 use Rattle.dj_report.specs.declared.report.Violation.{Violation}
 use Rattle.dj_report.specs.Lines.{file_line, member_line}
-use Rattle.dj_rules.specs.Violations.{member_text, IsNamedAs, this_name, IsNative, IsFinalizer, IsNoClassFile, HasOtherVersion, IsMethodLine, IsClassLine, IsLineOf, IsViolation, AreViolations}
+use Rattle.dj_rules.specs.Violations.{member_text, IsNamedAs, this_name, IsNative, IsFinalizer, HasOtherVersion, IsMethodLine, IsClassLine, IsLineOf, IsViolation, AreViolations}
 use Rattle.dj_sandbox.proofs.Classical.{NotNot, bind, decide, IsFinite, finite_same, finite_none, finite_if, finite_either, finite_among}
 use Rattle.dj_sandbox.proofs.InsertedLines.{finite_in_order}
 
@@ -47,7 +47,7 @@ read_lines file = bind (decide ((c : ClassFile) × IsClassFile file.1 c)) (elim 
 
 file_lines : (file : File) → IsFinite (IsLineOf file)
 file_lines file =
-    finite_either (λ v. IsNoClassFile file.1 × (v ≡ file_line file.0 1)) (IsReadLine file) (finite_if (IsNoClassFile file.1) (file_line file.0 1)) (read_lines file)
+    finite_either (λ v. IsMalformed file.1 × (v ≡ file_line file.0 1)) (IsReadLine file) (finite_if (IsMalformed file.1) (file_line file.0 1)) (read_lines file)
 
 -- the violations of the files, in order
 pub some_violations : (files : List File) → NotNot ((violations : List Violation) × AreViolations files violations)

@@ -6,10 +6,11 @@ ghost use Rattle.dj_straight.specs.Methods.{code_view, method_view, program_view
 ghost use Rattle.dj_sandbox.specs.Shaped.{shape_line, AreTold, AreShaped, AreShort, IsTold, IsMethodOf};
 ghost use Rattle.dj_rules.specs.Views.{path_file_view};
 
+use dj_class::AccessFlags;
 use dj_names::Name;
 use dj_report::{PathFile, Violation, Violations, add_line, in_order};
 use dj_rules::RulesError;
-use dj_straight::{ACC_STATIC, DESCRIPTOR, StraightClass, StraightMethod, shape_fault};
+use dj_straight::{DESCRIPTOR, StraightClass, StraightMethod, shape_fault};
 use std::alloc::Global;
 
 // The numbers of the rules SHAPE and ENTRY.
@@ -24,7 +25,7 @@ const VERIFY: &[u8] = b"verify";
 fn is_static(flags: u16) -> bool
     ensures { result ≡ is_static flags }
 {
-    flags & ACC_STATIC != 0
+    AccessFlags(flags).is_static()
 }
 
 // The first method verify.

@@ -6,7 +6,7 @@ use Rattle.dj_class.specs.declared.class.ClassError.TheVariants as class_errors
 use Rattle.dj_class.specs.Code.{CodeInfo, IsCode}
 use Rattle.dj_class.specs.CodeViews.{ReadsCode}
 use Rattle.dj_class.proofs.CodeLaws.{faulty_is_no_code}
-use Rattle.dj_rules.specs.Faults.{is_memory}
+use Rattle.dj_class.specs.Memory.{is_memory}
 
 -- a body that was not read is no Code attribute's, unless memory ran out
 pub no_code : (body : List ℕ) (e : ClassError) → ReadsCode body (Err e) → is_memory e ≡ false → (info : CodeInfo) → IsCode body info → ⊥

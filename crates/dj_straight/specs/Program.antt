@@ -4,6 +4,7 @@ use Rattle.std.specs.Int.{bit_at}
 use Rattle.std.specs.Cmp.Lexicographic.{pointwise}
 use Rattle.std.specs.List.{list_any, flat_map, AllByRecursion}
 use Rattle.dj_names.specs.declared.descriptor.Kind.{Kind}
+use Rattle.dj_class.specs.Access as access
 use Rattle.dj_names.specs.declared.descriptor.Kind.TheVariants as kinds
 use Rattle.dj_straight.specs.Instructions.{Instruction}
 use Rattle.dj_straight.specs.StackMaps.{StackMapFrame}
@@ -81,9 +82,9 @@ pub record MethodName : Type 0 where
   pub name : Name
   pub desc : Name
 
--- JVMS table 4.6-A: ACC_STATIC is the bit 0x0008
+-- JVMS table 4.6-A
 abbrev pub is_static : ℕ → Bool
-is_static flags = nat_eq (bit_at flags 3) 1
+is_static flags = nat_eq (bit_at flags access.static) 1
 
 abbrev pub method_in : List Method → Name → Name → Option Method
 method_in [] name desc = None

@@ -7,6 +7,7 @@ use Rattle.dj_edge.specs.Held.{File}
 use Rattle.dj_ops.specs.declared.instruction.Instr.{Instr}
 use Rattle.dj_straight.specs.Cuts.{AreInstructions}
 use Rattle.dj_pool.specs.Pool.{Constant, text_at, class_name_at}
+use Rattle.dj_class.specs.Access as access
 use Rattle.dj_class.specs.ClassFile.{AttributeInfo, MemberInfo, ClassFile, IsClassFile}
 use Rattle.dj_class.specs.Code.{CodeInfo, IsCode}
 use Rattle.dj_straight.specs.Instructions.{instruction_of}
@@ -52,9 +53,9 @@ pub record HasStraightCode (pool : List Constant) (attributes : List AttributeIn
 -- JVMS 4.6: the method is static and neither native nor abstract, is from an array of bytes to one,
 -- and has this name, which is no special method's (JVMS 2.9)
 pub record IsPlainMethod (pool : List Constant) (m : MemberInfo) (name : List ℕ) : Type 0 where
-  pub is_static : IsBitSet m.flags 3
-  pub not_native : IsBitSet m.flags 8 → ⊥
-  pub not_abstract : IsBitSet m.flags 10 → ⊥
+  pub is_static : IsBitSet m.flags access.static
+  pub not_native : IsBitSet m.flags access.native → ⊥
+  pub not_abstract : IsBitSet m.flags access.abstract → ⊥
   pub name_is : text_at pool m.name ≡ Some name
   pub not_special : IsFalse (starts_with nat_eq name (codes "<"))
   pub desc : text_at pool m.desc ≡ Some straight_descriptor
@@ -89,7 +90,7 @@ is_reserved name = list_any (starts_with nat_eq name) reserved_packages
 
 -- JVMS 4.1: the class is no interface, its superclass is Object, and it has no interfaces and no fields
 pub record IsPlainClass (c : ClassFile) : Type 0 where
-  pub no_interface : IsBitSet c.flags 9 → ⊥
+  pub no_interface : IsBitSet c.flags access.interface → ⊥
   pub own_package : IsFalse (is_reserved (this_name c))
   pub superclass : class_name_at c.pool c.super_class ≡ Some object_name
   pub no_interfaces : c.interfaces ≡ []

@@ -15,6 +15,6 @@ pub use laws::{
     sound_effect, straight_code_ends, worked_runs,
 };
 pub use machine::{Ending, run_method};
-pub use program::{ACC_STATIC, Action, DESCRIPTOR, IntOperation, StraightClass, StraightMethod};
+pub use program::{Action, DESCRIPTOR, IntOperation, StraightClass, StraightMethod};
 pub use shape::shape_fault;
 pub use straight::{StraightSet, straight_set};

@@ -6,9 +6,6 @@ ghost use Rattle.dj_straight.specs.Methods.{action_view};
 use dj_names::{Kind, Name, Value};
 use dj_ops::Instr;
 
-/// JVMS table 4.6-A.
-pub const ACC_STATIC: u16 = 0x0008;
-
 /// The descriptor of a straight method.
 pub const DESCRIPTOR: &[u8] = b"([B)[B";
 

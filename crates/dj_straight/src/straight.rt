@@ -27,9 +27,6 @@ pub struct StraightSet {
     pub class: Option<StraightClass>,
 }
 
-// JVMS table 4.1-B.
-const ACC_INTERFACE: u16 = 0x0200;
-
 // Whether the name is of a package that is not the files' own.
 fn is_reserved(name: &[u8]) -> bool
     ensures { result ≡ is_reserved name.now }
@@ -62,7 +59,7 @@ fn is_alone(view: &ClassView<'_>) -> bool
 fn is_plain_class(view: &ClassView<'_>) -> bool
     ensures { IsTrue result ↔ IsPlainClass (class_of view.now) }
 {
-    view.flags & ACC_INTERFACE == 0
+    !view.access().is_interface()
         && !is_reserved(class_name(view))
         && extends_object(view)
         && is_alone(view)

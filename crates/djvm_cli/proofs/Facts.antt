@@ -1,10 +1,20 @@
--- What is asked and the statuses of reports in plain values.
+-- The jobs of words, what is asked and the statuses of reports in plain values.
 use Rattle.std.specs.Prelude.{◌≡◌, ℕ, List, [], ◌∷◌, ◌++◌, Some, None, map, codes}
 use Rattle.std.proofs.Common.{refl}
 use Rattle.dj_edge.specs.Held.{Held}
-use Rattle.djvm_cli.specs.Job.{Check, Verify}
+use Rattle.djvm_cli.specs.Job.{Check, Verify, job_of}
 use Rattle.djvm_cli.specs.Report.{class_paths, asks}
 use Rattle.djvm_cli.specs.Ends.{report_statuses, AsksInOrder}
+
+-- one slash at the end is dropped; a word may be empty, and may have a dash within
+jobs : map job_of ((codes "check" ∷ codes "c" ∷ []) ∷ (codes "check" ∷ codes "c/" ∷ []) ∷ (codes "check" ∷ codes "c//" ∷ []) ∷ (codes "check" ∷ codes "c-" ∷ []) ∷ (codes "check" ∷ [] ∷ []) ∷ (codes "verify" ∷ codes "c/" ∷ codes "A/" ∷ codes "in/" ∷ []) ∷ [])
+    ≡ Some (Check (codes "c")) ∷ Some (Check (codes "c")) ∷ Some (Check (codes "c/")) ∷ Some (Check (codes "c-")) ∷ Some (Check []) ∷ Some (Verify (codes "c") (codes "A/") (codes "in/")) ∷ []
+jobs = refl
+
+-- a word too few or too many, another command, and a word that begins with a dash
+no_jobs : map job_of ([] ∷ (codes "check" ∷ []) ∷ (codes "check" ∷ codes "c" ∷ codes "d" ∷ []) ∷ (codes "Check" ∷ codes "c" ∷ []) ∷ (codes "check" ∷ codes "-c" ∷ []) ∷ (codes "verify" ∷ codes "c" ∷ codes "A" ∷ []) ∷ (codes "verify" ∷ codes "-c" ∷ codes "A" ∷ codes "in" ∷ []) ∷ (codes "verify" ∷ codes "c" ∷ codes "-A" ∷ codes "in" ∷ []) ∷ (codes "verify" ∷ codes "c" ∷ codes "A" ∷ codes "-" ∷ []) ∷ (codes "check" ∷ codes "c" ∷ codes "A" ∷ codes "in" ∷ []) ∷ [])
+    ≡ None ∷ None ∷ None ∷ None ∷ None ∷ None ∷ None ∷ None ∷ None ∷ None ∷ []
+no_jobs = refl
 
 verify_words : List (List ℕ)
 verify_words = codes "verify" ∷ codes "c/" ∷ codes "A" ∷ codes "in" ∷ []

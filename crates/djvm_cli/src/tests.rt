@@ -29,33 +29,37 @@ const FILES: [(&str, &[u8]); 4] = [
     ("in", b"\x0a\x0b"),
 ];
 
-// The order of listings, the call of the store that fails, how many bytes the sink takes, the status and what is written.
-type Row = (Order, u64, u64, u8, &'static [u8]);
+// The words, the order of listings, the call of the store that fails, how many bytes the sink takes, the status and what is written.
+type Row = (&'static [&'static str], Order, u64, u64, u8, &'static [u8]);
 
 const NONE: u64 = 99;
+
+const CHECK: &[&str] = &["check", "c/"];
+
+const VERIFY: &[&str] = &["verify", "d", "A", "in"];
+
+const LACKING: &[&str] = &["verify", "d", "A", "none"];
 
 const REJECTED: &[u8] =
     b"REJECTED 3\nA.class - - 1 MALFORMED\nB.class finalize()V - 8 FINALIZER\nB.class n()V - 7 NATIVE\n";
 
-const CHECKED: [Row; 7] = [
-    (Order::Given, NONE, 999, 2, REJECTED),
-    (Order::Reversed, NONE, 999, 2, REJECTED),
-    (Order::Given, 0, 999, 65, b""),
-    (Order::Given, 1, 999, 65, b""),
-    (Order::Given, 2, 999, 65, b""),
-    (Order::Given, NONE, 0, 66, b""),
-    (Order::Given, NONE, 11, 66, b"REJECTED 3\n"),
-];
-
 const RETURNED: &[u8] = b"OK 2 0a0b\ncosts alloc 0 invoke 0 jump 0 throw 0\n";
 
-const RUN: [Row; 6] = [
-    (Order::Given, NONE, 999, 0, RETURNED),
-    (Order::Reversed, NONE, 999, 0, RETURNED),
-    (Order::Given, 0, 999, 65, b""),
-    (Order::Given, 1, 999, 65, b""),
-    (Order::Given, 2, 999, 65, b""),
-    (Order::Given, NONE, 9, 66, b"OK 2 0a0b"),
+const ENDS: [Row; 14] = [
+    (CHECK, Order::Given, NONE, 999, 2, REJECTED),
+    (CHECK, Order::Reversed, NONE, 999, 2, REJECTED),
+    (CHECK, Order::Given, 0, 999, 65, b""),
+    (CHECK, Order::Given, 1, 999, 65, b""),
+    (CHECK, Order::Given, 2, 999, 65, b""),
+    (CHECK, Order::Given, NONE, 0, 66, b""),
+    (CHECK, Order::Given, NONE, 11, 66, b"REJECTED 3\n"),
+    (VERIFY, Order::Given, NONE, 999, 0, RETURNED),
+    (VERIFY, Order::Reversed, NONE, 999, 0, RETURNED),
+    (VERIFY, Order::Given, 0, 999, 65, b""),
+    (VERIFY, Order::Given, 1, 999, 65, b""),
+    (VERIFY, Order::Given, 2, 999, 65, b""),
+    (VERIFY, Order::Given, NONE, 9, 66, b"OK 2 0a0b"),
+    (LACKING, Order::Given, NONE, 999, 65, b"ABSENT none\n"),
 ];
 
 fn words_of(alloc: Global, words: &[&str]) -> Result<Vec<String>, AllocError> {
@@ -75,33 +79,33 @@ fn held(alloc: Global) -> Result<Vec<(String, Vec<u8>)>, AllocError> {
     Ok(held)
 }
 
-// Whether the job of these words ends so.
-fn ends(alloc: Global, words: &[&str], row: &Row) -> Result<bool, AllocError> {
-    let words = words_of(alloc, words)?;
+// Whether the job of the row's words ends so.
+fn ends(alloc: Global, row: &Row) -> Result<bool, AllocError> {
+    let words = words_of(alloc, row.0)?;
     let held = held(alloc)?;
     if !paths_differ(&held) {
         return Ok(false);
     }
-    let mut files = MemFiles::new(alloc, held, row.0, vec![in alloc; row.1]?);
+    let mut files = MemFiles::new(alloc, held, row.1, vec![in alloc; row.2]?);
     let mut host = MemHost::new(alloc, 7, 5);
-    let mut sink = MemSink::new(alloc, 1, row.2);
+    let mut sink = MemSink::new(alloc, 1, row.3);
     let status = djvm(alloc, &words, &mut files, &mut host, &mut sink);
-    Ok(status == row.3 && sink.bytes() == row.4)
+    Ok(status == row.4 && sink.bytes() == row.5)
 }
 
-#[test]
-fn two_files(rt: HostRuntime) -> Result<(), Fail> {
-    for row in &CHECKED {
-        assert!(rt; ends(rt.alloc(), &["check", "c/"], row)?);
+fn all_end(alloc: Global, rows: &[Row]) -> Result<bool, AllocError> {
+    for row in rows {
+        if !ends(alloc, row)? {
+            return Ok(false);
+        }
     }
-    Ok(())
+    Ok(true)
 }
 
-// Where there is ample memory, a run ends with its outcome: one that is always out of memory is refused.
+// Where there is ample memory a job ends with its report: a body that is always out of memory is refused, and so is one that is
+// where a store fails or lacks a file.
 #[test]
 fn always_out_of_memory(rt: HostRuntime) -> Result<(), Fail> {
-    for row in &RUN {
-        assert!(rt; ends(rt.alloc(), &["verify", "d", "A", "in"], row)?);
-    }
+    assert!(rt; all_end(rt.alloc(), &ENDS)?);
     Ok(())
 }

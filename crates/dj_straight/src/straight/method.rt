@@ -3,31 +3,27 @@ ghost use Rattle.std.specs.Int.{IsBitSet};
 ghost use Rattle.std.specs.List.{AllByRecursion};
 ghost use Rattle.dj_edge.specs.Counts.{AllDiffer};
 ghost use Rattle.dj_pool.specs.Pool.{text_at};
+ghost use Rattle.dj_class.specs.Access as access;
 ghost use Rattle.dj_class.specs.ClassFile.{IsAttribute, IsMethod};
 ghost use Rattle.dj_class.specs.Members.{member_of};
 ghost use Rattle.dj_straight.specs.Methods.{straight_descriptor, method_view};
 ghost use Rattle.dj_straight.specs.Straight.{IsPlainMethod, ArePlainNames, IsStraightMethod, AreStraightMethods, AreDistinctMethods};
 ghost use Rattle.dj_straight.specs.Finds.{Finds, methods_view, names_view, now_of};
 
-use crate::program::{ACC_STATIC, DESCRIPTOR, StraightMethod};
+use crate::program::{DESCRIPTOR, StraightMethod};
 use crate::straight::code::code_of_attributes;
-use dj_class::MemberView;
+use dj_class::{AccessFlags, MemberView};
 use dj_names::Name;
 use dj_pool::Pool;
 use dj_rules::RulesError;
 use std::alloc::Global;
 use std::collections::BTreeSet;
 
-// JVMS table 4.6-A.
-const ACC_NATIVE: u16 = 0x0100;
-
-const ACC_ABSTRACT: u16 = 0x0400;
-
 // Whether a method of these flags is static, and may have code.
-fn is_static_with_code(flags: u16) -> bool
-    ensures { IsTrue result ↔ (IsBitSet flags 3 × (IsBitSet flags 8 → ⊥) × (IsBitSet flags 10 → ⊥)) }
+fn is_static_with_code(flags: AccessFlags) -> bool
+    ensures { IsTrue result ↔ (IsBitSet flags.0 access.static × (IsBitSet flags.0 access.native → ⊥) × (IsBitSet flags.0 access.abstract → ⊥)) }
 {
-    flags & ACC_STATIC != 0 && flags & ACC_NATIVE == 0 && flags & ACC_ABSTRACT == 0
+    flags.is_static() && !flags.is_native() && !flags.is_abstract()
 }
 
 // Whether the method is from an array of bytes to one.
@@ -44,7 +40,7 @@ fn is_straight_descriptor(pool: &Pool<'_>, desc: u16) -> bool
 fn plain_name<'a>(pool: &Pool<'a>, method: &MemberView<'_>) -> Option<&'a [u8]>
     ensures { Finds (λ name. name.now) (IsPlainMethod pool.now (member_of method.now)) result }
 {
-    if !is_static_with_code(method.flags) || !is_straight_descriptor(pool, method.desc) {
+    if !is_static_with_code(method.access()) || !is_straight_descriptor(pool, method.desc) {
         return None;
     }
     match pool.text(method.name) {

@@ -6,13 +6,13 @@ use Rattle.dj_bytes.specs.Views.{cursor_of}
 use Rattle.dj_bytes.proofs.Loop.{goes_on, ends, is_done}
 use Rattle.dj_class.specs.Parts.{attribute_of}
 use Rattle.dj_class.specs.CodeReading.{code_attribute_at}
-use Rattle.dj_class.specs.Memory.{is_memory}
+use Rattle.dj_class.specs.Memory.{code_is_memory}
 use Rattle.dj_class.proofs.code.read_code_attribute_list.Goals as goal
 
 pub returns-in_err-attribute : goal.returns-in_err-attribute
 returns-in_err-attribute c =
     let p = err_from_is_err_and c.from_residual-in_err-attribute.result c.from_residual-in_err-attribute.ensures.1 in
-    rw (p.1, p.2) (ends code_attribute_at (is_memory c.in_err-attribute.field-0.0) c.in_err-attribute.field-0.0 (map attribute_of c.loop.attributes.items) c.args.count c.loop.counter (cursor_of c.loop.after) (many_at code_attribute_at c.args.count (cursor_of c.args.cursor)) c.loop-test.true c.in_err-attribute.ensures c.loop.invariant)
+    rw (p.1, p.2) (ends code_attribute_at (code_is_memory c.in_err-attribute.field-0.0) c.in_err-attribute.field-0.0 (map attribute_of c.loop.attributes.items) c.args.count c.loop.counter (cursor_of c.loop.after) (many_at code_attribute_at c.args.count (cursor_of c.args.cursor)) c.loop-test.true c.in_err-attribute.ensures c.loop.invariant)
 
 pub loop-preserved : goal.loop-preserved
 loop-preserved c =

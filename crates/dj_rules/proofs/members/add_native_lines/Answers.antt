@@ -2,8 +2,7 @@ use Rattle.std.proofs.Common.{[], List, subst}
 use Rattle.std.proofs.lemmas.List.{take_all}
 use Rattle.dj_class.specs.declared.class.MemberView.{MemberView}
 use Rattle.dj_class.specs.Views.{class_of}
-use Rattle.dj_report.specs.Lines.{Gains, Adds, IsLineAmong}
-use Rattle.dj_rules.specs.Lines.{IsPairLine}
+use Rattle.dj_report.specs.Lines.{Gains}
 use Rattle.dj_rules.specs.Violations.{IsNative}
 use Rattle.dj_report.proofs.Adding.{IsAmong, adds_read, on_ok}
 use Rattle.dj_rules.proofs.FileLines.{IsOwnPair, adds_method_lines}
@@ -18,9 +17,8 @@ loop-method-preserved c =
 pub returns : goal.returns
 returns c =
     on_ok c.add_pair_lines.result
-    (λ adds. adds_method_lines (λ _ m. IsNative m) c.args.path.now 7 (class_of c.args.view.now) c.as_slice-method-items.result.now c.loop-method.pairs.items c.each_once.result.items c.args.found.now.items c.add_pair_lines.new.found.items c.as_slice-method-items.ensures
+    (λ adds. adds_method_lines (λ _ m. IsNative m) c.args.path.now 7 (class_of c.args.view.now) c.as_slice-method-items.result.now c.loop-method.pairs.items c.args.found.now.items c.add_pair_lines.new.found.items c.as_slice-method-items.ensures
     (subst (λ (views : List MemberView). Gains (IsAmong (IsOwnPair (λ _ m. IsNative m) c.args.view.now.pool) views) [] c.loop-method.pairs.items)
     (take_all c.loop-method.method-index c.as_slice-method-items.result.now c.loop-method-test.false) c.loop-method.invariant)
-    c.each_once.ensures
-    (subst (λ pairs. Adds (IsLineAmong (IsPairLine c.args.path.now 7 c.args.view.now.pool) pairs) c.args.found.now.items c.add_pair_lines.new.found.items) c.deref.ensures.value adds))
+    adds)
     c.add_pair_lines.ensures

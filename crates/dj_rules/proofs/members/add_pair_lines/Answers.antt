@@ -1,16 +1,14 @@
-use Rattle.std.proofs.Common.{subst}
-use Rattle.std.proofs.lemmas.List.{take_all}
+use Rattle.std.proofs.Common.{ℕ, List, subst}
 use Rattle.dj_report.specs.Lines.{Adds, IsLineAmong}
+use Rattle.dj_report.proofs.Adding.{on_ok}
 use Rattle.dj_rules.specs.Lines.{IsPairLine}
-use Rattle.dj_report.proofs.Adding.{adds_one_more}
+use Rattle.dj_rules.proofs.PairTexts.{adds_same_texts}
 use Rattle.dj_rules.proofs.members.add_pair_lines.Goals as goal
-
-pub loop-pair-preserved : goal.loop-pair-preserved
-loop-pair-preserved c =
-    adds_one_more (IsPairLine c.args.lines.now.path.now c.args.lines.now.rule c.args.lines.now.pool.now) c.args.pairs.now c.loop-pair.pair-index _ c.args.found.now.items c.loop-pair.found.items c.add_member_line.new.found.items
-    c.loop-pair-test.true c.loop-pair.invariant c.in_ok-add_member_line.ensures
 
 pub returns : goal.returns
 returns c =
-    subst (λ pairs. Adds (IsLineAmong (IsPairLine c.args.lines.now.path.now c.args.lines.now.rule c.args.lines.now.pool.now) pairs) c.args.found.now.items c.loop-pair.found.items)
-    (take_all c.loop-pair.pair-index c.args.pairs.now c.loop-pair-test.false) c.loop-pair.invariant
+    on_ok c.add_each_line.result
+    (λ adds. adds_same_texts c.args.lines.now.pool.now c.args.lines.now.path.now c.args.lines.now.rule c.in_ok-once.once.items c.args.pairs.items c.args.found.now.items c.add_each_line.new.found.items
+    c.in_ok-once.ensures
+    (subst (λ (pairs : List (ℕ × ℕ)). Adds (IsLineAmong (IsPairLine c.args.lines.now.path.now c.args.lines.now.rule c.args.lines.now.pool.now) pairs) c.args.found.now.items c.add_each_line.new.found.items) c.deref.ensures.value adds))
+    c.add_each_line.ensures

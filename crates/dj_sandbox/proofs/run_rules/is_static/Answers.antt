@@ -1,5 +1,5 @@
-use Rattle.dj_sandbox.proofs.RunRules.{static_test}
+use Rattle.dj_sandbox.proofs.RunRules.{static_is}
 use Rattle.dj_sandbox.proofs.run_rules.is_static.Goals as goal
 
 pub returns : goal.returns
-returns c = static_test c.args.flags
+returns c = static_is c.args.flags c.is_static.result c.is_static.ensures

@@ -1,8 +1,7 @@
 use Rattle.std.proofs.Common.{subst}
 use Rattle.dj_class.specs.Views.{class_of}
-use Rattle.dj_class.specs.ClassFile.{IsClassFile}
+use Rattle.dj_class.specs.ClassFile.{IsClassFile, IsMalformed}
 use Rattle.dj_rules.specs.Reads.{IsViewOf}
-use Rattle.dj_rules.specs.Violations.{IsNoClassFile}
 use Rattle.dj_straight.specs.Methods.{class_view}
 use Rattle.dj_straight.specs.Straight.{IsStraightClass, IsStraightFile}
 use Rattle.dj_straight.proofs.StraightCode.{ok_finds}
@@ -22,5 +21,5 @@ returns-in-Class c =
 
 pub returns-in-Malformed : goal.returns-in-Malformed
 returns-in-Malformed c = λ y file.
-    let none : IsNoClassFile c.args.file.now.bytes.now = subst (IsViewOf c.args.file.now.bytes.now) c.in-Malformed.is c.requires in
+    let none : IsMalformed c.args.file.now.bytes.now = subst (IsViewOf c.args.file.now.bytes.now) c.in-Malformed.is c.requires in
     none file.0 file.1
