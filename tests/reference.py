@@ -1,6 +1,6 @@
 #!/usr/bin/env python3
-"""A small reference implementation: what `djvm check FOLDER` and `djvm verify FOLDER ENTRY INPUT` must write, and the exit
-status.
+"""A small reference implementation: what `djvm check FOLDER` and `djvm verify FOLDER ENTRY INPUT` with its options must
+write, and the exit status.
 
 It was written from the description of the commands and from the JVM Specification SE 8, chapters 4 and 6, and shares
 nothing with the program. tests/make_cases.py takes the expected output of each case from it. It can stand in for the
@@ -24,8 +24,14 @@ EXCEPTION, REJECTED, THRESHOLD, LIMIT, USAGE, FAULT, SINK, LATER = 1, 2, 3, 7, 6
 
 RULES = {1: "MALFORMED", 2: "VERSION", 3: "NAME", 7: "NATIVE", 8: "FINALIZER", 19: "SHAPE", 20: "ENTRY"}
 
-# What a run may be charged for its arrays.
-MOST_ALLOC = 67108864
+# The options of `verify`: the most that each may be, and what stands for it where it isn't given. Straight code is charged for
+# its arrays alone.
+THRESHOLDS = {
+    "alloc": (1073741824, 67108864),
+    "invoke": (1073741824, 1000000),
+    "jump": (1073741824, 1000000),
+    "throw": (1048576, 1000000),
+}
 
 # Flags of classes and methods.
 STATIC, NATIVE, INTERFACE, ABSTRACT = 0x0008, 0x0100, 0x0200, 0x0400
@@ -496,7 +502,8 @@ class Stopped(Exception):
 
 
 class Machine:
-    def __init__(self, code, argument):
+    def __init__(self, code, argument, most_alloc):
+        self.most_alloc = most_alloc
         self.instructions = code.instructions
         self.slots = {0: argument}
         self.stack = []
@@ -535,7 +542,7 @@ class Machine:
         if length < 0:
             raise Threw("java/lang/NegativeArraySizeException")
         self.alloc += 16 + (length + 7) // 8 * 8
-        if self.alloc > MOST_ALLOC:
+        if self.alloc > self.most_alloc:
             raise Stopped
         self.stack.append(bytearray(length))
 
@@ -569,8 +576,8 @@ def signed(number, bits):
     return (number + (1 << bits - 1)) % (1 << bits) - (1 << bits - 1)
 
 
-def run_report(code, data):
-    machine = Machine(code, bytearray(data))
+def run_report(code, data, most_alloc):
+    machine = Machine(code, bytearray(data), most_alloc)
     try:
         outcome, status = ok_line(machine.run()), 0
     except Threw as threw:
@@ -615,14 +622,57 @@ class Decided(Exception):
 
 def report(words):
     """What is written, and the status."""
-    commands = {"check": (1, check), "verify": (3, verify)}
-    count, command = commands.get(words[0], (0, None)) if words else (0, None)
-    if command is None or len(words) != count + 1 or any(word.startswith("-") for word in words):
+    try:
+        plain, options = line_of(words)
+        commands = {"check": (1, (), check), "verify": (3, THRESHOLDS, verify)}
+        count, names, command = commands.get(plain[0], (0, (), None)) if plain else (0, (), None)
+        if command is None or len(plain) != count + 1 or any(name not in names for name in options):
+            raise Unread
+        numbers = {name: number_of(options, name) for name in names}
+    except Unread:
         return b"USAGE\n", USAGE
     try:
-        return command(*words[1:])
+        return command(*plain[1:], **numbers)
     except Decided as decided:
         return decided.args
+
+
+class Unread(Exception):
+    """The words are those of no command."""
+
+
+def line_of(words):
+    """The plain words, and the options by their names."""
+    plain, options, waiting = [], {}, list(words)
+    while waiting:
+        word = waiting.pop(0)
+        if word == "--":
+            return plain + waiting, options
+        if word.startswith("--"):
+            name, equals, value = word[2:].partition("=")
+            if not equals:
+                if not waiting or waiting[0].startswith("-"):
+                    raise Unread
+                value = waiting.pop(0)
+            if name in options:
+                raise Unread
+            options[name] = value
+        elif word.startswith("-") and word != "-":
+            raise Unread
+        else:
+            plain.append(word)
+    return plain, options
+
+
+def number_of(options, name):
+    """The number of an option, in one to ten ASCII digits."""
+    most, default = THRESHOLDS[name]
+    if name not in options:
+        return default
+    digits = options[name]
+    if not 1 <= len(digits) <= 10 or any(digit not in "0123456789" for digit in digits) or int(digits) > most:
+        raise Unread
+    return int(digits)
 
 
 def check(folder):
@@ -634,7 +684,7 @@ def check(folder):
     return b"ACCEPTED %d\n" % len(files), 0
 
 
-def verify(folder, entry, input_path):
+def verify(folder, entry, input_path, alloc, **others):
     folder, entry = without_slash(folder), modified_utf8(entry.replace(".", "/"))
     paths = listed(folder)
     data = read(input_path.encode(), MOST_INPUT)
@@ -655,7 +705,7 @@ def verify(folder, entry, input_path):
     lines = straight_lines(path, straight, entry)
     if lines:
         return rejected(lines)
-    return run_report(straight.methods[b"verify"], data)
+    return run_report(straight.methods[b"verify"], data, alloc)
 
 
 def without_slash(folder):

@@ -245,6 +245,32 @@ case(
 case("words-two", {"c/A.class": one}, words=["verify", "c", "A"])
 case("words-four", {"c/A.class": one}, words=["verify", "c", "A", "in", "in"])
 case("words-option", {"c/A.class": one}, words=["verify", "c", "A", "in", "--jump", "5"])
+case("words-option-equals", {"c/A.class": one}, words=["verify", "c", "A", "in", "--jump=5"])
+case("words-options", {"c/A.class": one}, words=["--alloc", "0", "verify", "--invoke=0", "c", "--jump", "0", "A", "in", "--throw", "0"])
+case("words-option-before-folder", {"c/A.class": class_file("c", [returns]), "A/c.class": class_file("c", [returns])}, words=["verify", "A", "--jump=6", "c", "in"])
+case("words-option-after-dashes", {"c/A.class": one, "--jump=5": b"ab"}, words=["verify", "c", "A", "--", "--jump=5"])
+case("words-option-twice", {"c/A.class": one}, words=["verify", "c", "A", "in", "--jump", "5", "--jump", "5"])
+case("words-option-twice-mixed", {"c/A.class": one}, words=["--jump=5", "verify", "c", "A", "in", "--alloc", "9", "--jump", "6"])
+case("words-option-cut-name", {"c/A.class": one}, words=["verify", "c", "A", "in", "--jum", "5"])
+case("words-option-other-case", {"c/A.class": one}, words=["verify", "c", "A", "in", "--Jump", "5"])
+case("words-option-no-name", {"c/A.class": one}, words=["verify", "c", "A", "in", "--=5"])
+case("words-option-short", {"c/A.class": one}, words=["verify", "c", "A", "in", "-jump", "5"])
+case("words-option-steps", {"c/A.class": one}, words=["verify", "c", "A", "in", "--steps", "5"])
+case("words-value-none", {"c/A.class": one}, words=["verify", "c", "A", "in", "--jump"])
+case("words-value-of-words", {"c/A.class": one}, words=["verify", "c", "A", "--jump", "in"])
+case("words-value-option", {"c/A.class": one}, words=["verify", "c", "A", "in", "--jump", "--alloc=6"])
+case("words-value-dashes", {"c/A.class": one}, words=["verify", "c", "A", "in", "--jump", "--", "6"])
+case("words-value-dash", {"c/A.class": one}, words=["verify", "c", "A", "in", "--jump", "-"])
+case("words-value-minus", {"c/A.class": one}, words=["verify", "c", "A", "in", "--jump=-1"])
+case("words-value-empty", {"c/A.class": one}, words=["verify", "c", "A", "in", "--jump="])
+for name, most in ("alloc", 1073741824), ("invoke", 1073741824), ("jump", 1073741824), ("throw", 1048576):
+    for title, value in ("least", "0"), ("most", most), ("past", most + 1), ("ten-digits", "0000000009"), ("eleven-digits", "00000000009"):
+        case("words-%s-%s" % (name, title), {"c/A.class": one}, words=["verify", "c", "A", "in", "--%s=%s" % (name, value)])
+for title, value in ("letter", "x"), ("dot", "5.0"), ("hex", "0x5"), ("plus", "+5"), ("underscore", "1_0"), ("space", "5 "), ("arabic", "\u0665"), ("wide", "\uff15"), ("huge", "9" * 20):
+    case("words-number-" + title, {"c/A.class": one}, words=["verify", "c", "A", "in", "--jump=" + value])
+array = {"c/A.class": class_file("A", [straight(instructions("iconst_5, newarray byte, areturn"))])}
+for value in 0, 23, 24:
+    case("words-alloc-of-%d" % value, array, words=["verify", "c", "A", "in", "--alloc=%d" % value])
 case("words-dash", {"c/A.class": one}, words=["verify", "c", "-", "in"])
 case("words-dash-of-input", {"c/A.class": one}, words=["verify", "c", "A", "-in"])
 case("input-absent", {"c/A.class": one}, words=["verify", "c", "A", "none"])

@@ -2,10 +2,10 @@ mod Numbers
 mod TypeLaws
 mod FormLaws
 mod FrameLaws
-mod WholeLaws
+pub mod WholeLaws
 mod TypeFaults
 mod FrameFaults
-mod WholeFaults
+pub mod WholeFaults
 mod Loop
 mod Written
 mod Facts

@@ -15,3 +15,4 @@ pub use labelling::label;
 pub use laws::{
     labelled_is_well_formed, labels_or_fault, no_labels_where_refused, one_fault, one_labelling,
 };
+pub use starts::read_starts;

@@ -18,3 +18,4 @@ pub use files::rules;
 pub use judge::{Judged, judge_files};
 pub use named::units_of_path;
 pub use view::{FileView, view_file};
+pub use whole::add_class_lines;

@@ -2,7 +2,7 @@ ghost use Rattle.std.specs.Prelude.{◌≡◌, ◌<◌, ◌^◌, length, IfOk};
 ghost use Rattle.dj_straight.specs.Methods.{program_view};
 ghost use Rattle.dj_sandbox.specs.Shaped.{AreShort};
 
-use dj_names::{Costs, Kind, Name, Outcome};
+use dj_names::{Costs, Kind, Name, Outcome, Thresholds};
 use dj_report::{PathFile, Report, Violation};
 use dj_rules::RulesError;
 use dj_sandbox::{check, entry_name, entry_of, has_entry, run_violations, verify};
@@ -43,9 +43,16 @@ const NO_COSTS: Costs = Costs {
     throw: 0,
 };
 
+const THRESHOLDS: Thresholds = Thresholds {
+    alloc: 67_108_864,
+    invoke: 1_000_000,
+    jump: 1_000_000,
+    throw: 1_000_000,
+};
+
 #[test]
 fn run(rt: HostRuntime) {
-    let report = verify(rt.alloc(), &FILES, b"A", &[10, 11]);
+    let report = verify(rt.alloc(), &FILES, b"A", &[10, 11], THRESHOLDS);
     assert!(rt; matches!(&report, Ok(report) if is_returned(report)));
 }
 

@@ -1,9 +1,9 @@
 -- The limits, the order in which files are judged and run, the lines of a run, and the entry, at plain values.
-use Rattle.std.proofs.Common.{◌≡◌, ◌≢◌, ℕ, ◌⊎◌, false, List, [], ◌∷◌, ◌++◌, map, length, Option, Some, None, inl, inr, refl, sym, ap, ◌∙◌}
+use Rattle.std.proofs.Common.{arith, ◌≡◌, ◌≢◌, ℕ, false, List, [], ◌∷◌, map, length, Some, None, inl, inr, refl, sym, ap}
 use Rattle.std.specs.Prelude.{codes}
 use Rattle.dj_edge.specs.Held.{File}
+use Rattle.dj_names.specs.declared.run.Thresholds.{Thresholds}
 use Rattle.dj_report.specs.Stages.{IsDecided}
-use Rattle.dj_report.specs.declared.report.Report.{Report}
 use Rattle.dj_report.specs.declared.report.Report.TheVariants as reports
 use Rattle.dj_report.specs.declared.report.Violation.{Violation}
 use Rattle.dj_rules.specs.Violations.{AreViolations}
@@ -11,7 +11,7 @@ use Rattle.dj_straight.specs.Program.{Program, Method}
 use Rattle.dj_straight.specs.Straight.{IsNotStraight}
 use Rattle.dj_sandbox.specs.Entry.{with_slashes, entry_method, has_entry, IsEntryLine, IsShapeLine}
 use Rattle.dj_sandbox.specs.Judging.{IsFirstPath, JudgesFiles, JudgesRun, Runs, Accepts, check_stages, run_stages}
-use Rattle.dj_sandbox.specs.Limits.{most_files, most_file_bytes, most_total_bytes, most_input_bytes, default_thresholds}
+use Rattle.dj_sandbox.specs.Limits.{most_files, most_file_bytes, most_total_bytes, most_input_bytes, most_thresholds, IsWithinMost}
 use Rattle.dj_sandbox.specs.Statuses.{IsAmong, check_statuses, run_statuses}
 
 -- ---- the limits and the thresholds
@@ -28,8 +28,23 @@ limit-total = refl
 limit-input : most_input_bytes ≡ 1048576
 limit-input = refl
 
-thresholds : default_thresholds ≡ record { alloc = 67108864; invoke = 1000000; jump = 1000000; throw = 1000000 }
+thresholds : most_thresholds ≡ record { alloc = 1073741824; invoke = 1073741824; jump = 1073741824; throw = 1048576 }
 thresholds = refl
+
+thresholds-within : IsWithinMost most_thresholds
+thresholds-within = record { alloc = omega arith; invoke = omega arith; jump = omega arith; throw = omega arith }
+
+thresholds-alloc_past : IsWithinMost (record most_thresholds { alloc = 1073741825 }) → ⊥
+thresholds-alloc_past h = omega (arith, h.alloc)
+
+thresholds-invoke_past : IsWithinMost (record most_thresholds { invoke = 1073741825 }) → ⊥
+thresholds-invoke_past h = omega (arith, h.invoke)
+
+thresholds-jump_past : IsWithinMost (record most_thresholds { jump = 1073741825 }) → ⊥
+thresholds-jump_past h = omega (arith, h.jump)
+
+thresholds-throw_past : IsWithinMost (record most_thresholds { throw = 1048577 }) → ⊥
+thresholds-throw_past h = omega (arith, h.throw)
 
 -- ---- the order
 
@@ -39,13 +54,13 @@ rejected-first files violations are some = inl (violations, refl, are, some)
 accepted-last : (files : List File) → AreViolations files [] → IsDecided (check_stages files) (reports.Accepted (length files))
 accepted-last files are = inr (are, inl refl)
 
-run-rejected_first : (files : List File) (class input : List ℕ) (violations : List Violation) → AreViolations files violations → violations ≢ []
-    → IsDecided (run_stages files class input) (reports.Rejected violations)
-run-rejected_first files class input violations are some = inl (violations, refl, are, some)
+run-rejected_first : (files : List File) (class input : List ℕ) (most : Thresholds) (violations : List Violation) → AreViolations files violations → violations ≢ []
+    → IsDecided (run_stages files class input most) (reports.Rejected violations)
+run-rejected_first files class input most violations are some = inl (violations, refl, are, some)
 
-run-not_straight_second : (files : List File) (class input path : List ℕ) → AreViolations files [] → IsNotStraight files → IsFirstPath files path
-    → IsDecided (run_stages files class input) (reports.Later path)
-run-not_straight_second files class input path are not_straight first = inr (are, inl (path, refl, not_straight, first))
+run-not_straight_second : (files : List File) (class input path : List ℕ) (most : Thresholds) → AreViolations files [] → IsNotStraight files → IsFirstPath files path
+    → IsDecided (run_stages files class input most) (reports.Later path)
+run-not_straight_second files class input path most are not_straight first = inr (are, inl (path, refl, not_straight, first))
 
 -- nothing is rejected without a violation
 rejected-none : (files : List File) → JudgesFiles files (Some (reports.Rejected [])) → ⊥
@@ -59,8 +74,8 @@ run-rejected_none files class h =
     h.5 (sym none)
 
 -- a run always ends, and files are always accepted at last
-runs-on : (files : List File) (class input : List ℕ) → Runs files class input None → ⊥
-runs-on files class input h = h
+runs-on : (files : List File) (class input : List ℕ) (most : Thresholds) → Runs files class input most None → ⊥
+runs-on files class input most h = h
 
 accepts-on : (files : List File) → Accepts files None → ⊥
 accepts-on files h = h

@@ -3,6 +3,7 @@ use Rattle.std.proofs.Common.{◌≡◌, ℕ, List, [], ◌∷◌, Some, None, r
 use Rattle.dj_names.specs.declared.run.Outcome.{Outcome}
 use Rattle.dj_names.specs.declared.run.Costs.{Costs}
 use Rattle.dj_edge.specs.Held.{File}
+use Rattle.dj_names.specs.declared.run.Thresholds.{Thresholds}
 use Rattle.dj_report.specs.Stages.{DecidesOne, DecideOne}
 use Rattle.dj_report.specs.declared.report.Report.TheVariants as reports
 use Rattle.dj_report.specs.declared.report.Violation.{Violation}
@@ -13,7 +14,6 @@ use Rattle.dj_straight.specs.Metered.{RunsTo}
 use Rattle.dj_straight.proofs.Turns.{same_end}
 use Rattle.dj_straight.specs.Straight.{IsStraightSet}
 use Rattle.dj_straight.proofs.Straights.{one_program}
-use Rattle.dj_sandbox.specs.Limits.{default_thresholds}
 use Rattle.dj_sandbox.specs.Entry.{entry_method, AreRunViolations}
 use Rattle.dj_sandbox.specs.Judging.{JudgesFiles, Accepts, FindsStraight, JudgesRun, Runs, IsFirstPath, check_stages, run_stages}
 
@@ -61,24 +61,24 @@ run_lines_one files class (Some r) None (p, xs, straight, r-is, a, some) (q, str
 run_lines_one files class None (Some s) (p, straight, none) (q, ys, straight2, s-is, b, some) = absurd (some (same_set_lines files q p class ys [] straight2 straight b none))
 run_lines_one files class None None a b = refl
 
-same_costed : (program : Program) (class input : List ℕ) (o o2 : Outcome) (c c2 : Costs) → RunsTo program (entry_method class) input default_thresholds o c
-    → RunsTo program (entry_method class) input default_thresholds o2 c2 → reports.Costed o c ≡ reports.Costed o2 c2
-same_costed program class input o o2 c c2 a b =
-    let end = same_end program (entry_method class) input default_thresholds o o2 c c2 a b in
+same_costed : (program : Program) (class input : List ℕ) (most : Thresholds) (o o2 : Outcome) (c c2 : Costs) → RunsTo program (entry_method class) input most o c
+    → RunsTo program (entry_method class) input most o2 c2 → reports.Costed o c ≡ reports.Costed o2 c2
+same_costed program class input most o o2 c c2 a b =
+    let end = same_end program (entry_method class) input most o o2 c c2 a b in
     λ i. reports.Costed (end.0 i) (end.1 i)
 
-runs_one : (files : List File) (class input : List ℕ) → DecidesOne (Runs files class input)
-runs_one files class input (Some r) (Some s) (p, o, c, straight, r-is, a) (q, o2, c2, straight2, s-is, b) =
-    let same : RunsTo p (entry_method class) input default_thresholds o2 c2 =
-    subst (λ t. RunsTo t (entry_method class) input default_thresholds o2 c2) (one_program files q p straight2 straight) b in
-    ap Some (r-is ∙ same_costed p class input o o2 c c2 a same ∙ sym s-is)
-runs_one files class input (Some r) None a none = absurd none
-runs_one files class input None b none p = absurd none
+runs_one : (files : List File) (class input : List ℕ) (most : Thresholds) → DecidesOne (Runs files class input most)
+runs_one files class input most (Some r) (Some s) (p, o, c, straight, r-is, a) (q, o2, c2, straight2, s-is, b) =
+    let same : RunsTo p (entry_method class) input most o2 c2 =
+    subst (λ t. RunsTo t (entry_method class) input most o2 c2) (one_program files q p straight2 straight) b in
+    ap Some (r-is ∙ same_costed p class input most o o2 c c2 a same ∙ sym s-is)
+runs_one files class input most (Some r) None a none = absurd none
+runs_one files class input most None b none p = absurd none
 
 -- ---- the order of work
 
 pub check_one : (files : List File) → DecideOne (check_stages files)
 check_one files = (files_one files, (accepts_one files, tt))
 
-pub run_one : (files : List File) (class input : List ℕ) → DecideOne (run_stages files class input)
-run_one files class input = (files_one files, (straight_one files, (run_lines_one files class, (runs_one files class input, tt))))
+pub run_one : (files : List File) (class input : List ℕ) (most : Thresholds) → DecideOne (run_stages files class input most)
+run_one files class input most = (files_one files, (straight_one files, (run_lines_one files class, (runs_one files class input most, tt))))

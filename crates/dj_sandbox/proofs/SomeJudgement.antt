@@ -1,6 +1,7 @@
 -- Files are not without a report: each stage of judging them has an answer where those before it handed on.
 use Rattle.std.proofs.Common.{◌≢◌, ℕ, List, [], ◌∷◌, length, Option, Some, None, refl, inl, inr}
 use Rattle.dj_edge.specs.Held.{File}
+use Rattle.dj_names.specs.declared.run.Thresholds.{Thresholds}
 use Rattle.dj_report.specs.Stages.{Stage, Answers, AnswerInTurn}
 use Rattle.dj_report.specs.declared.report.Report.{Report}
 use Rattle.dj_report.specs.declared.report.Report.TheVariants as reports
@@ -54,9 +55,9 @@ run_lines_answer : (files : List File) (class : List ℕ) → FindsStraight file
 run_lines_answer files class (program, straight) =
     answers (JudgesRun files class) (so (some_run_violations files program class) (λ (violations, are). judged_run files class program straight violations are))
 
-runs_answer : (files : List File) (class input : List ℕ) → JudgesRun files class None → Answers (Runs files class input)
-runs_answer files class input (program, straight, none) =
-    answers (Runs files class input) (so (some_end files program class input straight none)
+runs_answer : (files : List File) (class input : List ℕ) (most : Thresholds) → JudgesRun files class None → Answers (Runs files class input most)
+runs_answer files class input most (program, straight, none) =
+    answers (Runs files class input most) (so (some_end files program class input most straight none)
     (λ (outcome, costs, runs). (Some (reports.Costed outcome costs), (program, outcome, costs, straight, refl, runs))))
 
 -- ---- the order of work
@@ -64,11 +65,11 @@ runs_answer files class input (program, straight, none) =
 pub check_answers : (files : List File) → AnswerInTurn (check_stages files)
 check_answers files = (files_answer files, λ none. (accepts_answers files, λ on. on))
 
-pub run_answers : (files : List File) (class input : List ℕ) → AnswerInTurn (run_stages files class input)
-run_answers files class input = (
+pub run_answers : (files : List File) (class input : List ℕ) (most : Thresholds) → AnswerInTurn (run_stages files class input most)
+run_answers files class input most = (
   files_answer files,
   λ none. (
     straight_answers files,
-    λ straight. (run_lines_answer files class straight, λ lines. (runs_answer files class input lines, λ on. on)),
+    λ straight. (run_lines_answer files class straight, λ lines. (runs_answer files class input most lines, λ on. on)),
   ),
 )

@@ -4,6 +4,7 @@ use Rattle.std.specs.List.{AllByRecursion}
 use Rattle.dj_edge.specs.Held.{File}
 use Rattle.dj_names.specs.declared.run.Outcome.{Outcome}
 use Rattle.dj_names.specs.declared.run.Costs.{Costs}
+use Rattle.dj_names.specs.declared.run.Thresholds.{Thresholds}
 use Rattle.dj_pool.specs.Pool.{Constant}
 use Rattle.dj_class.specs.ClassFile.{MemberInfo}
 use Rattle.dj_straight.specs.Program.{Name, Program, HasNoFields, Class, Method, Code, Body, Abstract, Runs, same_name, method_in, body_code, code_in, code_of, runs_static}
@@ -16,7 +17,6 @@ use Rattle.dj_straight.proofs.Runs.{straight_code_ends}
 use Rattle.dj_report.specs.declared.report.Violation.{Violation}
 use Rattle.dj_report.proofs.Sorted.{contains_none, contains_first, contains_later}
 use Rattle.dj_report.specs.Lines.{file_line}
-use Rattle.dj_sandbox.specs.Limits.{default_thresholds}
 use Rattle.dj_straight.specs.Methods.{straight_descriptor, straight_signature}
 use Rattle.dj_straight.specs.Straight.{IsStraightMethod, AreStraightMethods, IsStraightSet}
 use Rattle.dj_sandbox.specs.Entry.{entry_method, has_entry, IsShapeLine, IsShapeLineOf, IsEntryLine, AreRunViolations}
@@ -180,12 +180,12 @@ no_fields (file ∷ (other ∷ files)) program is = absurd is
 
 -- ---- the run of a straight set that violates no rule
 
-abbrev Ended : Program → List ℕ → List ℕ → Type 0
-Ended program class input = (outcome : Outcome) × (costs : Costs) × RunsTo program (entry_method class) input default_thresholds outcome costs
+abbrev Ended : Program → List ℕ → List ℕ → Thresholds → Type 0
+Ended program class input most = (outcome : Outcome) × (costs : Costs) × RunsTo program (entry_method class) input most outcome costs
 
-ends_with_shape : (files : List File) (program : Program) (class input : List ℕ) → IsStraightSet files program → (entry : IsEntryCode files program class)
-    → HasShape straight_signature entry.code → Ended program class input
-ends_with_shape files program class input straight entry shape =
+ends_with_shape : (files : List File) (program : Program) (class input : List ℕ) (most : Thresholds) → IsStraightSet files program → (entry : IsEntryCode files program class)
+    → HasShape straight_signature entry.code → Ended program class input most
+ends_with_shape files program class input most straight entry shape =
     let is : IsStraightEntry program (entry_method class) straight_signature entry.code = record {
       code_is = entry.code_is;
       parameters = refl;
@@ -198,14 +198,14 @@ ends_with_shape files program class input straight entry shape =
       no_fields = no_fields files program straight;
       no_initialisers = λ name above. no_initialisers files program straight name;
     } in
-    let end = straight_code_ends program (entry_method class) straight_signature entry.code input default_thresholds is in
+    let end = straight_code_ends program (entry_method class) straight_signature entry.code input most is in
     (end.0, end.1, (2 * length entry.code.instructions, end.2))
 
-pub some_end : (files : List File) (program : Program) (class input : List ℕ) → IsStraightSet files program → AreRunViolations files program class []
-    → NotNot ((outcome : Outcome) × (costs : Costs) × RunsTo program (entry_method class) input default_thresholds outcome costs)
-some_end files program class input straight none =
+pub some_end : (files : List File) (program : Program) (class input : List ℕ) (most : Thresholds) → IsStraightSet files program → AreRunViolations files program class []
+    → NotNot ((outcome : Outcome) × (costs : Costs) × RunsTo program (entry_method class) input most outcome costs)
+some_end files program class input most straight none =
     let entry : IsEntryCode files program class = entry_code files program class straight (entry_is_there files program class none) in
     so (shape_or_fault straight_signature entry.code) (elim [
-      | inl shape ↦ ends_with_shape files program class input straight entry shape
+      | inl shape ↦ ends_with_shape files program class input most straight entry shape
       | inr (n, fault) ↦ let line = entry.told n fault in absurd (contains_none line.0 ((none.all line.0).1 (inl line.1)))
     ])

@@ -2,6 +2,7 @@
 use Rattle.std.specs.Prelude.{◌≡◌, ◌≢◌, ℕ, List, [], ◌∷◌, Some, None, length}
 use Rattle.dj_names.specs.declared.run.Outcome.{Outcome}
 use Rattle.dj_names.specs.declared.run.Costs.{Costs}
+use Rattle.dj_names.specs.declared.run.Thresholds.{Thresholds}
 use Rattle.dj_edge.specs.Held.{File}
 use Rattle.dj_report.specs.Stages.{Stage}
 use Rattle.dj_report.specs.declared.report.Report.{Report}
@@ -11,7 +12,6 @@ use Rattle.dj_rules.specs.Violations.{AreViolations}
 use Rattle.dj_straight.specs.Program.{Program}
 use Rattle.dj_straight.specs.Metered.{RunsTo}
 use Rattle.dj_straight.specs.Straight.{IsStraightSet, IsNotStraight}
-use Rattle.dj_sandbox.specs.Limits.{default_thresholds}
 use Rattle.dj_sandbox.specs.Entry.{entry_method, AreRunViolations}
 
 -- no rule is violated that is judged of every set; or else the violations are told
@@ -41,18 +41,18 @@ JudgesRun files class (Some report) =
     × IsStraightSet files program × (report ≡ reports.Rejected violations) × AreRunViolations files program class violations × (violations ≢ [])
 JudgesRun files class None = (program : Program) × IsStraightSet files program × AreRunViolations files program class []
 
--- the class of a straight set runs on the input, and the outcome and the costs are told
-abbrev pub Runs : List File → List ℕ → List ℕ → Stage Report
-Runs files class input (Some report) =
+-- the class of a straight set runs on the input within the thresholds, and the outcome and the costs are told
+abbrev pub Runs : List File → List ℕ → List ℕ → Thresholds → Stage Report
+Runs files class input most (Some report) =
     (program : Program) × (outcome : Outcome) × (costs : Costs)
-    × IsStraightSet files program × (report ≡ reports.Costed outcome costs) × RunsTo program (entry_method class) input default_thresholds outcome costs
-Runs files class input None = ⊥
+    × IsStraightSet files program × (report ≡ reports.Costed outcome costs) × RunsTo program (entry_method class) input most outcome costs
+Runs files class input most None = ⊥
 
 -- how files are checked
 abbrev pub check_stages : List File → List (Stage Report)
 check_stages files = JudgesFiles files ∷ Accepts files ∷ []
 
--- how files are checked, and the class of this name is run on these bytes
-abbrev pub run_stages : List File → List ℕ → List ℕ → List (Stage Report)
-run_stages files class input =
-    JudgesFiles files ∷ FindsStraight files ∷ JudgesRun files class ∷ Runs files class input ∷ []
+-- how files are checked, and the class of this name is run on these bytes within the thresholds
+abbrev pub run_stages : List File → List ℕ → List ℕ → Thresholds → List (Stage Report)
+run_stages files class input most =
+    JudgesFiles files ∷ FindsStraight files ∷ JudgesRun files class ∷ Runs files class input most ∷ []

@@ -16,9 +16,16 @@ most_total_bytes = 67108864
 abbrev pub most_input_bytes : ℕ
 most_input_bytes = 1048576
 
--- what a run may be charged
-abbrev pub default_thresholds : Thresholds
-default_thresholds = record { alloc = 67108864; invoke = 1000000; jump = 1000000; throw = 1000000 }
+-- the most that a run may be charged, whatever its thresholds
+abbrev pub most_thresholds : Thresholds
+most_thresholds = record { alloc = 1073741824; invoke = 1073741824; jump = 1073741824; throw = 1048576 }
+
+-- each threshold is at most its maximum
+pub record IsWithinMost (most : Thresholds) : Type 0 where
+  pub alloc : most.alloc ≤ most_thresholds.alloc
+  pub invoke : most.invoke ≤ most_thresholds.invoke
+  pub jump : most.jump ≤ most_thresholds.jump
+  pub throw : most.throw ≤ most_thresholds.throw
 
 -- the bytes of the files together
 abbrev pub total_bytes : List File → ℕ

@@ -9,7 +9,7 @@ ghost use Rattle.dj_straight.specs.Metered.{RunsTo};
 ghost use Rattle.dj_straight.specs.Methods.{program_view};
 ghost use Rattle.dj_straight.specs.Straight.{IsNotStraight};
 ghost use Rattle.dj_straight.specs.Running.{IsStraightEnd, AreRunnable};
-ghost use Rattle.dj_sandbox.specs.Limits.{most_input_bytes, default_thresholds};
+ghost use Rattle.dj_sandbox.specs.Limits.{most_input_bytes, IsWithinMost};
 ghost use Rattle.dj_sandbox.specs.Entry.{entry_method, has_entry};
 ghost use Rattle.dj_sandbox.specs.Judging.{IsFirstPath, run_stages};
 ghost use Rattle.dj_sandbox.specs.Shaped.{AreShaped};
@@ -21,14 +21,6 @@ use dj_report::{PathFile, Report};
 use dj_rules::{RulesError, judge_files};
 use dj_straight::{Ending, StraightSet, run_method, straight_set};
 use std::alloc::Global;
-
-// What a run may be charged.
-const THRESHOLDS: Thresholds = Thresholds {
-    alloc: 67_108_864,
-    invoke: 1_000_000,
-    jump: 1_000_000,
-    throw: 1_000_000,
-};
 
 // The report that the set with the file of this path is not run yet.
 fn later(alloc: Global, path: &str) -> Result<Report, RulesError>
@@ -54,33 +46,37 @@ fn run_entry(
     set: &StraightSet,
     class: &[u8],
     input: &[u8],
+    thresholds: Thresholds,
 ) -> Result<Ending, RulesError>
     requires entry { has_entry (program_view set.now.class) class.now ≡ true }
     requires shaped { AreShaped set.now.class }
     requires runnable { AreRunnable set.now.class }
     requires input { length input.now ≤ most_input_bytes }
+    requires thresholds { IsWithinMost thresholds }
     requires no_fields { HasNoFields (program_view set.now.class) }
     requires plain { (name : List ℕ) → has_initialiser (program_view set.now.class) name ≡ false }
-    ensures runs { IfOk result (λ e. RunsTo (program_view set.now.class) (entry_method class.now) input.now default_thresholds e.outcome e.costs) }
+    ensures runs { IfOk result (λ e. RunsTo (program_view set.now.class) (entry_method class.now) input.now thresholds e.outcome e.costs) }
     ensures kinds { IfOk result (λ e. IsStraightEnd e.outcome) }
     ensures linked { IfOk result (λ e. e.outcome ≡ Link → ⊥) }
 {
     match entry_of(&set.class, class) {
-        Some(method) => run_method(alloc, method, input, THRESHOLDS),
+        Some(method) => run_method(alloc, method, input, thresholds),
         None => unreachable!(),
     }
 }
 
-/// The report on a run of the class of this name on the input. Each file stands under its path within the folder.
+/// The report on a run of the class of this name on the input, within the thresholds. Each file stands under its path within the folder.
 pub fn verify(
     alloc: Global,
     files: &[PathFile<'_>],
     class: &[u8],
     input: &[u8],
+    thresholds: Thresholds,
 ) -> Result<Report, RulesError>
     requires short { All (λ file. length file.bytes.now < 2 ^ 32) files.now }
     requires input { length input.now ≤ most_input_bytes }
-    ensures decided { IfOk result (IsDecided (run_stages (map path_file_view files.now) class.now input.now)) }
+    requires thresholds { IsWithinMost thresholds }
+    ensures decided { IfOk result (IsDecided (run_stages (map path_file_view files.now) class.now input.now thresholds)) }
     ensures status { IfOk result (λ report. IsAmong (report_status report) run_statuses) }
 {
     let judged = judge_files(alloc, files)?;
@@ -94,7 +90,7 @@ pub fn verify(
     if !violations.as_slice().is_empty() {
         return Ok(Report::Rejected(violations));
     }
-    let ending = run_entry(alloc, &set, class, input)?;
+    let ending = run_entry(alloc, &set, class, input, thresholds)?;
     Ok(Report::Costed {
         outcome: ending.outcome,
         costs: ending.costs,

@@ -1,3 +1,4 @@
+pub mod Allowed
 pub mod Folders
 pub mod Loading
 pub mod Reporting

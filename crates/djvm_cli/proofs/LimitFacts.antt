@@ -1,5 +1,5 @@
 -- On which side of each limit a report lies, the first of the stages that decides, and how a call ends, at plain values.
-use Rattle.std.proofs.Common.{◌≡◌, ◌≢◌, ℕ, ◌+◌, ◌<◌, ◌≤◌, List, [], ◌∷◌, ◌++◌, length, Option, Some, None, inl, inr, refl, sym, subst, arith}
+use Rattle.std.proofs.Common.{◌≡◌, ◌≢◌, ℕ, ◌<◌, ◌≤◌, List, [], ◌∷◌, length, Option, Some, None, inl, inr, refl, sym, subst, arith}
 use Rattle.std.specs.Prelude.{codes}
 use Rattle.std.specs.Io.KnownBytes.{Appends}
 use Rattle.dj_edge.specs.Held.{File, Held, class_files, bytes_at}
@@ -11,7 +11,7 @@ use Rattle.dj_report.specs.Text.{report_text}
 use Rattle.dj_report.specs.declared.report.Violation.{Violation}
 use Rattle.dj_rules.specs.Violations.{AreViolations}
 use Rattle.dj_sandbox.specs.Limits.{AreWithin, IsFirstPast, IsTooLong, IsTooMuch, total_bytes}
-use Rattle.djvm_cli.specs.Job.{Check, Verify}
+use Rattle.dj_words.specs.DoneJobs.{Check, Verify, done_job_of}
 use Rattle.djvm_cli.specs.Report.{CountsFiles, ReadsInput, FindsInput, ReadsFiles, IsReport, files_within}
 use Rattle.djvm_cli.specs.Ends.{ReadEnds, OutOfMemory, WritesFront, IsReportStatus, TellsUsage}
 use Rattle.djvm_cli.proofs.Same.{same_front}
@@ -100,29 +100,30 @@ verify_words : List (List ℕ)
 verify_words = codes "verify" ∷ codes "c/" ∷ codes "A" ∷ codes "in" ∷ []
 
 order-files : (held : Held) → 4096 < length (class_files (codes "c") held) → IsReport verify_words held (reports.Limited limits.FileCount)
-unfolding verify_words
+unfolding verify_words done_job_of
 order-files held past = inl (refl, past)
 
 order-input : (held : Held) → length (class_files (codes "c") held) ≤ 4096 → bytes_at held (codes "in") ≡ None → IsReport verify_words held (reports.Absent (codes "in"))
-unfolding verify_words
+unfolding verify_words done_job_of
 order-input held few absent =
     let P : Option (List ℕ) → Type 0 = λ found. ReadsInput (codes "in") found (Some (reports.Absent (codes "in"))) in
     inr (few, inl (subst P (sym absent) refl))
 
 order-file : (held : Held) → length (class_files (codes "c") held) ≤ 4096 → IsFirstPast IsTooLong (class_files (codes "c") held) → IsReport check_words held (reports.Limited limits.File)
-unfolding check_words
+unfolding check_words done_job_of
 order-file held few past = inr (few, inr (tt, inl (inl (refl, past))))
 
 order-total : (held : Held) → length (class_files (codes "c") held) ≤ 4096 → IsFirstPast IsTooMuch (class_files (codes "c") held) → IsReport check_words held (reports.Limited limits.Total)
-unfolding check_words
+unfolding check_words done_job_of
 order-total held few past = inr (few, inr (tt, inl (inr (refl, past))))
 
 order-judged : (held : Held) (violations : List Violation) → length (class_files (codes "c") held) ≤ 4096 → AreWithin (class_files (codes "c") held)
     → AreViolations (files_within (codes "c") held) violations → violations ≢ [] → IsReport check_words held (reports.Rejected violations)
-unfolding check_words
+unfolding check_words done_job_of
 order-judged held violations few within are some = inr (few, inr (tt, inr (within, inl (violations, refl, are, some))))
 
 order-words : (held : Held) → IsReport (codes "check" ∷ []) held reports.Usage
+unfolding done_job_of
 order-words held = inl refl
 
 -- ---- how a call ends
@@ -146,12 +147,14 @@ memory-front words held report old new right (inl broken) = same_front words hel
 memory-front words held report old new right (inr nothing) = front-none old new (report_text report) nothing
 
 -- only a store that tells what it holds has a report with the status 65
-absent-untold : IsReportStatus (Some (Verify [] [] [])) None 65 → ⊥
+absent-untold : IsReportStatus (Some (Verify [] [] [] (record { alloc = 0; invoke = 0; jump = 0; throw = 0 }))) None 65 → ⊥
 absent-untold h = let held = h.1 refl in absurd cc
 
 -- words of no job have the status 64 and no other
 usage-is : TellsUsage [] 64
+unfolding done_job_of
 usage-is = (λ _. refl, λ _. refl)
 
 usage-only : TellsUsage [] 0 → ⊥
+unfolding done_job_of
 usage-only h = absurd (cc (h.1 refl))

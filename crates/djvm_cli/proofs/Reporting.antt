@@ -1,5 +1,5 @@
 -- From the steps of a job to its report.
-use Rattle.std.proofs.Common.{◌≡◌, ℕ, ◌+◌, ◌^◌, ◌<◌, ◌≤◌, List, [], ◌∷◌, ◌++◌, length, map, All, IsTrue, Option, Some, None, IsSome, IfSome, string_bytes, vec_len, unwrap_or, refl, sym, ap, ◌∙◌, subst, inl, inr, arith}
+use Rattle.std.proofs.Common.{◌≡◌, ℕ, ◌^◌, ◌<◌, ◌≤◌, List, [], ◌∷◌, ◌++◌, length, map, All, IsTrue, Option, Some, None, IsSome, IfSome, string_bytes, vec_len, unwrap_or, refl, sym, ap, ◌∙◌, subst, inl, inr, arith}
 use Rattle.std.specs.Prelude.{is_some}
 use Rattle.std.specs.Global.{Vec}
 use Rattle.dj_edge.specs.InMemory.{String}
@@ -26,7 +26,8 @@ use Rattle.djvm_cli.specs.declared.load.Loaded.TheVariants as loads
 use Rattle.djvm_cli.specs.declared.load.Input.{Input}
 use Rattle.djvm_cli.specs.declared.load.Input.TheVariants as inputs
 use Rattle.djvm_cli.specs.Inputs.{IsJobInput}
-use Rattle.djvm_cli.specs.Job.{Job, folder_of}
+use Rattle.dj_words.specs.DoneJobs.{DoneJob}
+use Rattle.djvm_cli.specs.Jobs.{folder_of}
 use Rattle.djvm_cli.specs.Report.{input_asks, CountsFiles, FindsInput, ReadsFiles, judging, stages, input_of, within_folder, files_within}
 use Rattle.djvm_cli.specs.Steps.{files_at, IsListed, AreClassPaths, AreRead, IsLoaded}
 use Rattle.djvm_cli.specs.Views.{source_view}
@@ -121,7 +122,7 @@ sources_few paths sources loaded folder within is read few same =
 -- ---- what was asked
 
 -- the folder, and then a front of what the input asks
-pub asks_input : (job : Job) (folder : List ℕ) (held : Option Held) (list : List String) (old mid new : List (List ℕ)) → folder ≡ folder_of job → IfSome held (AreTheirs folder list)
+pub asks_input : (job : DoneJob) (folder : List ℕ) (held : Option Held) (list : List String) (old mid new : List (List ℕ)) → folder ≡ folder_of job → IfSome held (AreTheirs folder list)
     → mid ≡ old ++ folder ∷ [] → GrowsByFront mid new (input_asks job)
     → IfSome held (λ h. GrowsByFront old new (folder_of job ∷ (input_asks job ++ class_paths (folder_of job) h)))
 asks_input job folder held list old mid new same theirs is grows =
@@ -132,7 +133,7 @@ asks_input job folder held list old mid new same theirs is grows =
     theirs
 
 -- the folder, what the input asks, and then a front of the paths
-pub asks_files : (job : Job) (folder : List ℕ) (held : Option Held) (list : List String) (old mid next new : List (List ℕ)) → folder ≡ folder_of job → IfSome held (AreTheirs folder list)
+pub asks_files : (job : DoneJob) (folder : List ℕ) (held : Option Held) (list : List String) (old mid next new : List (List ℕ)) → folder ≡ folder_of job → IfSome held (AreTheirs folder list)
     → mid ≡ old ++ folder ∷ [] → next ≡ mid ++ input_asks job → GrowsByFront next new (map string_bytes list)
     → IfSome held (λ h. GrowsByFront old new (folder_of job ∷ (input_asks job ++ class_paths (folder_of job) h)))
 asks_files job folder held list old mid next new same theirs is then_is grows =
@@ -145,7 +146,7 @@ asks_files job folder held list old mid next new same theirs is then_is grows =
 
 -- ---- stage by stage, where the store tells what it holds
 
-module _ (job : Job) (held : Option Held) where
+module _ (job : DoneJob) (held : Option Held) where
   abbrev pub Counted : Type 0
   Counted = IfSome held (λ h. CountsFiles (class_files (folder_of job) h) None)
 

@@ -1,20 +1,20 @@
 -- A job has one report: no stage of its work both decides and hands on, and none decides two reports.
-use Rattle.std.proofs.Common.{◌≡◌, ℕ, ◌+◌, ◌<◌, ◌≤◌, List, [], ◌∷◌, ◌++◌, length, Option, Some, None, refl, sym, ap, ◌∙◌, subst, inl, inr, arith}
+use Rattle.std.proofs.Common.{◌≡◌, ℕ, ◌+◌, ◌≤◌, List, ◌∷◌, ◌++◌, length, Option, Some, None, refl, sym, ap, ◌∙◌, subst, inl, inr, arith}
 use Rattle.std.specs.List.{AllByRecursion}
 use Rattle.std.specs.Io.KnownBytes.{Appends}
 use Rattle.std.proofs.lemmas.List.Sums.{sum_by-append, sum_by-cons}
 use Rattle.dj_edge.specs.Held.{File, Held, bytes_at, class_files}
 use Rattle.dj_edge.specs.Counts.{IsFront}
 use Rattle.dj_edge.proofs.Lists.{cut_cases, at_cut}
-use Rattle.dj_report.specs.Stages.{DecidesOne, DecideOne, IsDecided}
+use Rattle.dj_report.specs.Stages.{DecidesOne, DecideOne}
 use Rattle.dj_report.proofs.Stages.{one_decided}
 use Rattle.dj_report.specs.declared.report.Report.{Report}
-use Rattle.dj_report.specs.declared.report.Report.TheVariants as reports
 use Rattle.dj_report.specs.Text.{report_text, report_status}
-use Rattle.dj_sandbox.specs.Limits.{most_file_bytes, most_total_bytes, most_input_bytes, total_bytes, AreWithin, IsFirstPast, IsTooLong, IsTooMuch}
+use Rattle.dj_sandbox.specs.Limits.{most_file_bytes, most_total_bytes, total_bytes, AreWithin, IsFirstPast, IsTooLong, IsTooMuch}
 use Rattle.dj_sandbox.specs.Entry.{entry_name}
 use Rattle.dj_sandbox.proofs.OneJudgement.{check_one, run_one}
-use Rattle.djvm_cli.specs.Job.{Job, Check, Verify, folder_of, job_of}
+use Rattle.dj_words.specs.DoneJobs.{DoneJob, Check, Verify, done_job_of}
+use Rattle.djvm_cli.specs.Jobs.{folder_of}
 use Rattle.djvm_cli.specs.Report.{RefusesWords, CountsFiles, ReadsInput, FindsInput, ReadsFiles, judging, stages, files_within, input_of}
 use Rattle.djvm_cli.specs.OneReport.{HasOneReport, HasOneEnd, HasOneFront}
 
@@ -68,11 +68,11 @@ input_one path (Some input) (Some r) None a b = absurd (omega (arith, a.1, b))
 input_one path (Some input) None (Some s) a b = absurd (omega (arith, a, b.1))
 input_one path (Some input) None None a b = refl
 
-job_input_one : (job : Job) (held : Held) → DecidesOne (FindsInput job held)
+job_input_one : (job : DoneJob) (held : Held) → DecidesOne (FindsInput job held)
 job_input_one (Check folder) held (Some r) s a b = absurd a
 job_input_one (Check folder) held None (Some s) a b = absurd b
 job_input_one (Check folder) held None None a b = refl
-job_input_one (Verify folder entry path) held r s a b = input_one path (bytes_at held path) r s a b
+job_input_one (Verify folder entry path most) held r s a b = input_one path (bytes_at held path) r s a b
 
 files_one : (files : List File) → DecidesOne (ReadsFiles files)
 files_one files (Some r) (Some s) (inl a) (inl b) = ap Some (a.0 ∙ sym b.0)
@@ -85,18 +85,18 @@ files_one files None (Some s) within (inl b) = absurd (not_long files within b.1
 files_one files None (Some s) within (inr b) = absurd (not_much files within b.1)
 files_one files None None a b = refl
 
-judging_one : (job : Job) (files : List File) (input : List ℕ) → DecideOne (judging job files input)
+judging_one : (job : DoneJob) (files : List File) (input : List ℕ) → DecideOne (judging job files input)
 judging_one (Check folder) files input = check_one files
-judging_one (Verify folder entry path) files input = run_one files (entry_name entry) input
+judging_one (Verify folder entry path most) files input = run_one files (entry_name entry) input most
 
-stages_one : (job : Option Job) (held : Held) → DecideOne (stages job held)
+stages_one : (job : Option DoneJob) (held : Held) → DecideOne (stages job held)
 stages_one None held = (words_one, tt)
 stages_one (Some job) held =
     let files = class_files (folder_of job) held in
     (count_one files, (job_input_one job held, (files_one files, judging_one job (files_within (folder_of job) held) (input_of job held))))
 
 pub same_report : HasOneReport
-same_report words held r s a b = one_decided (stages (job_of words) held) (stages_one (job_of words) held) r s a b
+same_report words held r s a b = one_decided (stages (done_job_of words) held) (stages_one (done_job_of words) held) r s a b
 
 pub same_end : HasOneEnd
 same_end words held a b old_a new_a old_b new_b first second =

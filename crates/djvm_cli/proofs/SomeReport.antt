@@ -1,5 +1,5 @@
 -- No job is without a report: each stage of its work has an answer where those before it handed on.
-use Rattle.std.proofs.Common.{◌≤◌, ℕ, List, length, Option, Some, None, refl, inl, inr}
+use Rattle.std.proofs.Common.{ℕ, List, length, Option, Some, None, refl, inl, inr}
 use Rattle.std.proofs.lemmas.Bool.{cases_lt}
 use Rattle.dj_edge.specs.Held.{File, Held, bytes_at, class_files}
 use Rattle.dj_report.specs.Stages.{Answers, AnswerInTurn}
@@ -9,7 +9,8 @@ use Rattle.dj_report.specs.declared.report.Limit.TheVariants as limits
 use Rattle.dj_sandbox.specs.Limits.{most_files, most_input_bytes}
 use Rattle.dj_sandbox.specs.Entry.{entry_name}
 use Rattle.dj_sandbox.proofs.SomeJudgement.{check_answers, run_answers}
-use Rattle.djvm_cli.specs.Job.{Job, Check, Verify, folder_of, job_of}
+use Rattle.dj_words.specs.DoneJobs.{DoneJob, Check, Verify, done_job_of}
+use Rattle.djvm_cli.specs.Jobs.{folder_of}
 use Rattle.djvm_cli.specs.Report.{RefusesWords, CountsFiles, ReadsInput, FindsInput, ReadsFiles, judging, stages, files_within, input_of}
 use Rattle.djvm_cli.specs.OneReport.{HasSomeReport}
 use Rattle.djvm_cli.proofs.SomeLimits.{limited}
@@ -32,9 +33,9 @@ input_answers path (Some input) none =
       | inr short ↦ none None short
     ]
 
-job_input_answers : (job : Job) (held : Held) → Answers (FindsInput job held)
+job_input_answers : (job : DoneJob) (held : Held) → Answers (FindsInput job held)
 job_input_answers (Check folder) held none = none None tt
-job_input_answers (Verify folder entry path) held none = input_answers path (bytes_at held path) none
+job_input_answers (Verify folder entry path most) held none = input_answers path (bytes_at held path) none
 
 files_answer : (files : List File) → Answers (ReadsFiles files)
 files_answer files none =
@@ -46,11 +47,11 @@ files_answer files none =
       ]
     ]
 
-judging_answers : (job : Job) (files : List File) (input : List ℕ) → AnswerInTurn (judging job files input)
+judging_answers : (job : DoneJob) (files : List File) (input : List ℕ) → AnswerInTurn (judging job files input)
 judging_answers (Check folder) files input = check_answers files
-judging_answers (Verify folder entry path) files input = run_answers files (entry_name entry) input
+judging_answers (Verify folder entry path most) files input = run_answers files (entry_name entry) input most
 
-stages_answer : (job : Option Job) (held : Held) → AnswerInTurn (stages job held)
+stages_answer : (job : Option DoneJob) (held : Held) → AnswerInTurn (stages job held)
 stages_answer None held = (words_answer, λ on. on)
 stages_answer (Some job) held =
     let files = class_files (folder_of job) held in (
@@ -66,4 +67,4 @@ stages_answer (Some job) held =
     )
 
 pub some_report : HasSomeReport
-some_report words held none = some_decided (stages (job_of words) held) (stages_answer (job_of words) held) none
+some_report words held none = some_decided (stages (done_job_of words) held) (stages_answer (done_job_of words) held) none

@@ -6,7 +6,7 @@ use Rattle.dj_edge.specs.Counts.{Rose, IsFront, GrowsByFront}
 use Rattle.dj_report.specs.declared.report.Report.{Report}
 use Rattle.dj_report.specs.Text.{report_text, report_status}
 use Rattle.dj_sandbox.specs.Statuses.{IsAmong}
-use Rattle.djvm_cli.specs.Job.{Job, Check, Verify, job_of}
+use Rattle.dj_words.specs.DoneJobs.{DoneJob, Check, Verify, done_job_of}
 use Rattle.djvm_cli.specs.Report.{IsReport, asks}
 
 -- the store failed or lacks the input, the sink failed, there was no memory
@@ -62,17 +62,17 @@ abbrev pub OutOfMemory : List (List ℕ) → Option Held → Option (List ℕ) �
 OutOfMemory words held old new = Broken words held old new ⊎ Appends old new []
 
 -- the statuses of the reports of a job: ABSENT has 65
-abbrev pub report_statuses : Option Job → List ℕ
+abbrev pub report_statuses : Option DoneJob → List ℕ
 report_statuses None = 64 ∷ []
 report_statuses (Some (Check folder)) = 0 ∷ 2 ∷ 7 ∷ []
-report_statuses (Some (Verify folder entry input)) = 0 ∷ 1 ∷ 2 ∷ 3 ∷ 7 ∷ 65 ∷ 75 ∷ []
+report_statuses (Some (Verify folder entry input most)) = 0 ∷ 1 ∷ 2 ∷ 3 ∷ 7 ∷ 65 ∷ 75 ∷ []
 
 -- every status that a call with these words ends with: those of its reports, and those of faults and of want of memory
 abbrev pub IsStatus : List (List ℕ) → ℕ → Type 0
-IsStatus words status = IsAmong status (read_fault ∷ write_fault ∷ no_memory ∷ report_statuses (job_of words))
+IsStatus words status = IsAmong status (read_fault ∷ write_fault ∷ no_memory ∷ report_statuses (done_job_of words))
 
 -- the status of a report of the job: only a store that tells what it holds has one that the input isn't there
-abbrev pub IsReportStatus : Option Job → Option Held → ℕ → Type 0
+abbrev pub IsReportStatus : Option DoneJob → Option Held → ℕ → Type 0
 IsReportStatus job held status = IsAmong status (report_statuses job) × (status ≡ read_fault → IsSome held)
 
 -- a report was written, and its status answered, or that of a fault or of want of memory
@@ -81,7 +81,7 @@ IsWritten status result = IsAmong result (write_fault ∷ no_memory ∷ status �
 
 -- the status is that of USAGE exactly where the words give no job
 abbrev pub TellsUsage : List (List ℕ) → ℕ → Type 0
-TellsUsage words status = (status ≡ 64) ↔ (job_of words ≡ None)
+TellsUsage words status = (status ≡ 64) ↔ (done_job_of words ≡ None)
 
 -- the store was asked what the words ask of it, up to some place
 abbrev pub AsksInOrder : List (List ℕ) → Option Held → List (List ℕ) → List (List ℕ) → Type 0

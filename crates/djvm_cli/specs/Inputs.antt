@@ -6,7 +6,7 @@ use Rattle.dj_report.specs.declared.report.Limit.TheVariants as limits
 use Rattle.dj_sandbox.specs.Limits.{most_input_bytes}
 use Rattle.djvm_cli.specs.declared.load.Input.{Input}
 use Rattle.djvm_cli.specs.declared.load.Input.TheVariants as inputs
-use Rattle.djvm_cli.specs.Job.{Job}
+use Rattle.dj_words.specs.DoneJobs.{DoneJob}
 use Rattle.djvm_cli.specs.Report.{FindsInput, input_of}
 use Rattle.djvm_cli.specs.Ends.{IsReportStatus}
 
@@ -26,13 +26,13 @@ IsReadInput path found (inputs.Absent absent) = (found ≡ None) × (absent ≡ 
 IsReadInput path found inputs.TooLong = IsSomeAnd found (λ input. most_input_bytes < length input)
 
 -- what the stage of the input decides, or that it hands on, with the input
-abbrev pub IsJobInput : Job → Held → Input → Type 0
+abbrev pub IsJobInput : DoneJob → Held → Input → Type 0
 IsJobInput job held (inputs.Bytes bytes) = FindsInput job held None × (bytes.items ≡ input_of job held)
 IsJobInput job held (inputs.Absent path) = FindsInput job held (Some (reports.Absent path))
 IsJobInput job held inputs.TooLong = FindsInput job held (Some (reports.Limited limits.Input))
 
 -- the status of what is decided of the input is one of the job
-abbrev pub IsInputOf : Job → Option Held → Input → Type 0
+abbrev pub IsInputOf : DoneJob → Option Held → Input → Type 0
 IsInputOf job held (inputs.Bytes bytes) = ⊤
 IsInputOf job held (inputs.Absent path) = IsReportStatus (Some job) held 65
 IsInputOf job held inputs.TooLong = IsReportStatus (Some job) held 7

@@ -1,4 +1,4 @@
-pub mod Job
+pub mod Jobs
 pub mod Report
 pub mod Ends
 pub mod OneReport

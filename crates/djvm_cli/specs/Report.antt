@@ -9,7 +9,8 @@ use Rattle.dj_report.specs.declared.report.Limit.TheVariants as limits
 use Rattle.dj_sandbox.specs.Limits.{most_files, most_input_bytes, AreWithin, IsFirstPast, IsTooLong, IsTooMuch}
 use Rattle.dj_sandbox.specs.Entry.{entry_name}
 use Rattle.dj_sandbox.specs.Judging.{check_stages, run_stages}
-use Rattle.djvm_cli.specs.Job.{Job, Check, Verify, folder_of, job_of}
+use Rattle.dj_words.specs.DoneJobs.{DoneJob, Check, Verify, done_job_of}
+use Rattle.djvm_cli.specs.Jobs.{folder_of}
 
 -- the file under its path within the folder
 abbrev pub within_folder : List ℕ → File → File
@@ -37,10 +38,10 @@ ReadsInput path (Some input) (Some report) = (report ≡ reports.Limited limits.
 ReadsInput path (Some input) None = length input ≤ most_input_bytes
 
 -- the input of a run is read; a check has none
-abbrev pub FindsInput : Job → Held → Stage Report
+abbrev pub FindsInput : DoneJob → Held → Stage Report
 FindsInput (Check folder) held (Some report) = ⊥
 FindsInput (Check folder) held None = ⊤
-FindsInput (Verify folder entry path) held answer = ReadsInput path (bytes_at held path) answer
+FindsInput (Verify folder entry path most) held answer = ReadsInput path (bytes_at held path) answer
 
 -- the files are within the limits; or else the limit that is passed first is told
 abbrev pub ReadsFiles : List File → Stage Report
@@ -50,17 +51,17 @@ ReadsFiles files (Some report) =
 ReadsFiles files None = AreWithin files
 
 -- the bytes that a run is given
-abbrev pub input_of : Job → Held → List ℕ
+abbrev pub input_of : DoneJob → Held → List ℕ
 input_of (Check folder) held = []
-input_of (Verify folder entry path) held = unwrap_or (bytes_at held path) []
+input_of (Verify folder entry path most) held = unwrap_or (bytes_at held path) []
 
 -- how files and an input that were read are judged
-abbrev pub judging : Job → List File → List ℕ → List (Stage Report)
+abbrev pub judging : DoneJob → List File → List ℕ → List (Stage Report)
 judging (Check folder) files input = check_stages files
-judging (Verify folder entry path) files input = run_stages files (entry_name entry) input
+judging (Verify folder entry path most) files input = run_stages files (entry_name entry) input most
 
 -- how a job is worked on, where this is held
-abbrev pub stages : Option Job → Held → List (Stage Report)
+abbrev pub stages : Option DoneJob → Held → List (Stage Report)
 stages None held = RefusesWords ∷ []
 stages (Some job) held =
     CountsFiles (class_files (folder_of job) held) ∷ FindsInput job held ∷ ReadsFiles (class_files (folder_of job) held)
@@ -68,7 +69,7 @@ stages (Some job) held =
 
 -- the report of the job that the words ask for, where this is held
 abbrev pub IsReport : List (List ℕ) → Held → Report → Type 0
-IsReport words held report = IsDecided (stages (job_of words) held) report
+IsReport words held report = IsDecided (stages (done_job_of words) held) report
 
 -- ---- what is asked
 
@@ -76,14 +77,14 @@ abbrev pub class_paths : List ℕ → Held → List (List ℕ)
 class_paths folder held = map (λ file. file.0) (class_files folder held)
 
 -- the path of the input
-abbrev pub input_asks : Job → List (List ℕ)
+abbrev pub input_asks : DoneJob → List (List ℕ)
 input_asks (Check folder) = []
-input_asks (Verify folder entry path) = path ∷ []
+input_asks (Verify folder entry path most) = path ∷ []
 
-abbrev pub job_asks : Option Job → Held → List (List ℕ)
+abbrev pub job_asks : Option DoneJob → Held → List (List ℕ)
 job_asks None held = []
 job_asks (Some job) held = folder_of job ∷ (input_asks job ++ class_paths (folder_of job) held)
 
 -- the folders and paths that the job asks of the store, in order
 abbrev pub asks : List (List ℕ) → Held → List (List ℕ)
-asks words held = job_asks (job_of words) held
+asks words held = job_asks (done_job_of words) held

@@ -6,19 +6,29 @@ ghost use Rattle.dj_report.specs.Text.{report_text, report_status};
 ghost use Rattle.dj_rules.specs.Views.{path_file_view};
 ghost use Rattle.dj_sandbox.specs.Limits.{most_files, most_input_bytes};
 ghost use Rattle.djvm_cli.specs.declared.load.Stop.TheVariants.{Memory};
-ghost use Rattle.djvm_cli.specs.Job.{job_of};
+ghost use Rattle.dj_words.specs.DoneJobs.{done_job_of};
+ghost use Rattle.djvm_cli.specs.Jobs.{folder_of, IsAllowed};
 ghost use Rattle.djvm_cli.specs.Report.{judging, stages, job_asks};
 ghost use Rattle.djvm_cli.specs.Ends.{IsStatus, IsReportStatus, IsWritten, read_fault, write_fault, no_memory, IsRight, Finished, ReadEnds, WriteFault, OutOfMemory, AsksInOrder, WritesFront, TellsUsage};
 ghost use Rattle.djvm_cli.specs.Steps.{Counted};
-ghost use Rattle.djvm_cli.specs.Views.{job_view};
+ghost use Rattle.dj_words.specs.Views.{job_view};
 
 use crate::cut::cut_folders;
 use crate::load::{Input, Listing, Loaded, Stop, list_paths, read_files, read_job_input};
-use crate::words::{Command, command_of};
 use dj_edge::{Files, Host, Sink, SinkError, put_all};
 use dj_report::{Limit, PathFile, Report, bytes_of, status_of};
 use dj_sandbox::{check, entry_name, verify};
+use dj_words::{Command, command_of};
 use std::alloc::Global;
+
+/// The folder of the class files.
+fn folder<'a>(command: Command<'a>) -> &'a str
+    ensures { result.now ≡ folder_of (job_view command.entry) }
+{
+    match command {
+        Command::Check { folder } | Command::Verify { folder, .. } => folder,
+    }
+}
 
 /// Judges files and an input that were read, as the job asks.
 fn judge(
@@ -30,15 +40,20 @@ fn judge(
     requires few { length files.now ≤ most_files }
     requires short { All (λ file. length file.bytes.now < 2 ^ 32) files.now }
     requires input { length input.now ≤ most_input_bytes }
+    requires allowed { IsAllowed (job_view command) }
     ensures decided { IfOk result (IsDecided (judging (job_view command.entry) (map path_file_view files.now) input.now)) }
     ensures status { IfOk result (λ report. IsReportStatus (Some (job_view command.entry)) None (report_status report)) }
     ensures no_fault { IfErr result (λ stop. stop ≡ Memory) }
 {
     match command {
         Command::Check { .. } => Ok(check(alloc, files)?),
-        Command::Verify { entry, .. } => {
+        Command::Verify {
+            entry,
+            thresholds,
+            ..
+        } => {
             let class = entry_name(alloc, entry)?;
-            Ok(verify(alloc, files, class.as_slice(), input)?)
+            Ok(verify(alloc, files, class.as_slice(), input, thresholds)?)
         }
     }
 }
@@ -50,13 +65,14 @@ fn report_of_job<F: Files>(
     command: Command<'_>,
     files: &mut F,
 ) -> Result<Report, Stop>
+    requires allowed { IsAllowed (job_view command) }
     ensures held { F.held files.new ≡ F.held files.old }
     ensures counts { Counted (F.faults files.old) (F.faults files.new) result }
     ensures asks { IfSome (F.held files.old) (λ h. GrowsByFront (F.asked files.old) (F.asked files.new) (job_asks (Some (job_view command.entry)) h)) }
     ensures right { IfOk result (λ report. IfSome (F.held files.old) (λ h. IsDecided (stages (Some (job_view command.entry)) h) report)) }
     ensures status { IfOk result (λ report. IsReportStatus (Some (job_view command.entry)) (F.held files.old) (report_status report)) }
 {
-    let paths = match list_paths(alloc, files, command.folder())? {
+    let paths = match list_paths(alloc, files, folder(command))? {
         Listing::Paths(paths) => paths,
         Listing::TooMany => return Ok(Report::Limited(Limit::FileCount)),
     };
@@ -69,7 +85,7 @@ fn report_of_job<F: Files>(
         Loaded::Files(sources) => sources,
         Loaded::Passed(limit) => return Ok(Report::Limited(limit)),
     };
-    let within = cut_folders(alloc, command.folder(), &sources)?;
+    let within = cut_folders(alloc, folder(command), &sources)?;
     judge(alloc, command, &within, &input)
 }
 
@@ -80,11 +96,12 @@ fn report_of<F: Files>(alloc: Global, words: &[String], files: &mut F) -> Result
     ensures asks { AsksInOrder (map string_bytes words.now) (F.held files.old) (F.asked files.old) (F.asked files.new) }
     ensures right { IfOk result (IsRight (map string_bytes words.now) (F.held files.old)) }
     ensures usage { IfOk result (λ report. TellsUsage (map string_bytes words.now) (report_status report)) }
-    ensures status { IfOk result (λ report. IsReportStatus (job_of (map string_bytes words.now)) (F.held files.old) (report_status report)) }
+    ensures status { IfOk result (λ report. IsReportStatus (done_job_of (map string_bytes words.now)) (F.held files.old) (report_status report)) }
 {
-    match command_of(words) {
-        Some(command) => report_of_job(alloc, command, files),
-        None => Ok(Report::Usage),
+    match command_of(alloc, words) {
+        Ok(Some(command)) => report_of_job(alloc, command, files),
+        Ok(None) => Ok(Report::Usage),
+        Err(_) => Err(Stop::Memory),
     }
 }
 

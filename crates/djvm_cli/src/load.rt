@@ -7,14 +7,14 @@ ghost use Rattle.dj_sandbox.specs.Limits.{most_total_bytes};
 ghost use Rattle.djvm_cli.specs.Steps.{Counted, IsListed, AreClassPaths, AreRead, IsLoaded, files_at};
 ghost use Rattle.djvm_cli.specs.Inputs.{IsShortInput, IsAbsentWhereTold, IsReadInput, IsJobInput, IsInputOf};
 ghost use Rattle.djvm_cli.specs.Report.{input_asks};
-ghost use Rattle.djvm_cli.specs.Views.{job_view};
+ghost use Rattle.dj_words.specs.Views.{job_view};
 ghost use Rattle.djvm_cli.specs.Next.{IsNextRead, IsNext};
 
-use crate::words::Command;
 use dj_edge::{Files, ListError, ReadError};
 use dj_names::Name;
 use dj_report::Limit;
 use dj_rules::RulesError;
+use dj_words::Command;
 use std::alloc::Global;
 
 /// Why a job has no report.

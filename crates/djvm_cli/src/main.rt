@@ -10,7 +10,6 @@ mod out_sink;
 mod system;
 #[cfg(test)]
 mod tests;
-mod words;
 
 use clock_host::ClockHost;
 use dj_edge::FolderFiles;

@@ -1,4 +1,4 @@
-use Rattle.std.proofs.Common.{◌≡◌, ◌≤◌, ◌<◌, ◌^◌, ℕ, List, None, length, map, All, IsTrue, IfSome, string_bytes, refl, sym, ap, ◌∙◌, subst, arith}
+use Rattle.std.proofs.Common.{◌≡◌, ◌<◌, ◌^◌, ℕ, List, None, length, map, All, IsTrue, string_bytes, refl, sym, ap, ◌∙◌, subst, arith}
 use Rattle.dj_edge.specs.Held.{is_class_path}
 use Rattle.dj_edge.proofs.Lists.{told_so, ok_so}
 use Rattle.dj_report.specs.Stages.{IsDecided}
@@ -6,8 +6,9 @@ use Rattle.dj_report.specs.declared.report.PathFile.{PathFile}
 use Rattle.dj_rules.specs.Views.{path_file_view}
 use Rattle.djvm_cli.specs.declared.load.SourceFile.{SourceFile}
 use Rattle.djvm_cli.specs.Report.{FindsInput, judging, within_folder, input_of}
-use Rattle.djvm_cli.specs.Views.{job_view, source_view}
-use Rattle.djvm_cli.proofs.Reporting.{paths_listed, few_listed, class_paths_listed, paths_held, sources_class_paths, sources_short, sources_few, asks_input, asks_files, too_many, counted, absent, too_long, found, passed, judged, Decides}
+use Rattle.dj_words.specs.Views.{job_view}
+use Rattle.djvm_cli.specs.Views.{source_view}
+use Rattle.djvm_cli.proofs.Reporting.{paths_listed, few_listed, class_paths_listed, paths_held, sources_class_paths, sources_short, asks_input, asks_files, counted, found, passed, judged, Decides}
 use Rattle.djvm_cli.proofs.djvm.report_of_job.Goals as goal
 
 pub returns-in_err-input-clause-asks : goal.returns-in_err-input-clause-asks

@@ -1,0 +1,3 @@
+pub mod Wrapping
+mod ArithmeticFacts
+mod ArithmeticRows

@@ -1,0 +1,6 @@
+use Rattle.std.proofs.Common.{rules}
+use Rattle.std.proofs.lemmas.Int.{wraps}
+use Rattle.dj_arith.proofs.long.add_long.Goals as goal
+
+pub returns : goal.returns
+returns c = search (rules, wraps)

@@ -1,0 +1,6 @@
+mod EntryFacts
+mod NeedFacts
+mod CodeFacts
+mod BodyFacts
+mod FileFacts
+mod LargeFacts

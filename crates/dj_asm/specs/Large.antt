@@ -1,0 +1,143 @@
+-- Lines whose instruction, entry, jump, code or count doesn't fit a class file.
+use Rattle.std.specs.Prelude.{◌≡◌, ℕ, ◌+◌, ◌^◌, ◌<◌, ◌≤◌, ◌⊎◌, Bool, true, false, List, ◌∷◌, ◌++◌, length, take, Contains, Some, slice_get}
+use Rattle.std.specs.List.{count_by}
+use Rattle.dj_ops.specs.declared.instruction.Instr.{Instr}
+use Rattle.dj_ops.specs.Instructions.{IsProper}
+use Rattle.dj_layout.specs.Places.{starts_from, end_from}
+use Rattle.dj_layout.specs.Layouts.{placed, most_bytes}
+use Rattle.dj_layout.specs.Faults.{Reaches}
+use Rattle.dj_source.specs.Lines.{Frame, Full, Operation, Catch, Line, Implements, Field, Abstract, Method, Beside, Framed, Does, End}
+use Rattle.dj_source.specs.Sources.{Source, lines_of}
+use Rattle.dj_source.specs.Labels.{instruction_count, AreMethodLines}
+use Rattle.dj_asm.specs.Entries.{Entry, Utf8, width}
+use Rattle.dj_asm.specs.Needs.{Need, needs_of, index_in}
+use Rattle.dj_asm.specs.Codes.{IsInstrOf, AreInstrsOf}
+use Rattle.dj_asm.specs.Files.{places_of}
+
+-- ---- entries
+
+-- JVMS 4.4.7: a text has at most 65,535 bytes
+abbrev pub IsShort : Entry → Type 0
+IsShort (Utf8 text) = length text < 2 ^ 16
+IsShort entry = Unit {0}
+
+-- JVMS 4.1, constant_pool_count: the last index of an entry is at most 65,534
+pub record HasRoom (index : ℕ) (entry : Entry) : Type 0 where
+  pub short : IsShort entry
+  pub last : index + width entry ≤ 65535
+
+-- the line needs an entry that has no room
+pub record IsPastPool (s : Source) (place : ℕ) : Type 0 where
+  pub need : Need
+  pub needed : Contains (needs_of s) need
+  pub place_is : need.place ≡ place
+  pub no_room : HasRoom (index_in s need.entry) need.entry → ⊥
+
+-- ---- instructions and code
+
+-- a line of a method, and its place among the lines of the source
+pub record IsMethodLine (s : Source) (place : ℕ) (body : List Line) (front : List Line) (line : Line) : Type 0 where
+  pub before : ℕ
+  pub in_method : AreMethodLines s before body
+  pub rest : List Line
+  pub parts : body ≡ front ++ line ∷ rest
+  pub place_is : place ≡ before + length front
+
+-- the instruction isn't proper: a table without targets or past the numbers, matches that don't rise, too many slots for a count, no dimensions, an index past one byte
+pub record IsImproper (s : Source) (place : ℕ) : Type 0 where
+  pub body : List Line
+  pub front : List Line
+  pub operation : Operation
+  pub at : IsMethodLine s place body front (Does operation)
+  pub instr : Instr
+  pub is_instr : IsInstrOf (places_of (index_in s) body) operation instr
+  pub improper : IsProper instr → ⊥
+
+-- a jump whose offset doesn't fit
+pub record IsFarJump (s : Source) (place : ℕ) : Type 0 where
+  pub body : List Line
+  pub front : List Line
+  pub operation : Operation
+  pub at : IsMethodLine s place body front (Does operation)
+  pub instrs : List Instr
+  pub are_instrs : AreInstrsOf (places_of (index_in s) body) body instrs
+  pub jump : ℕ × Instr
+  pub number : slice_get (placed (starts_from 0 instrs) instrs) (instruction_count front) ≡ Some jump
+  pub far : Reaches jump → ⊥
+
+-- the `.end` of code with too many bytes
+pub record IsEndOfLongCode (s : Source) (place : ℕ) : Type 0 where
+  pub body : List Line
+  pub front : List Line
+  pub at : IsMethodLine s place body front End
+  pub instrs : List Instr
+  pub are_instrs : AreInstrsOf (places_of (index_in s) body) body instrs
+  pub long : most_bytes < end_from 0 instrs
+
+-- ---- counts
+
+-- so many such lines that a count of two bytes has
+abbrev pub most_lines : ℕ
+most_lines = 65535
+
+abbrev pub is_interface : Line → Bool
+is_interface (Implements name) = true
+is_interface line = false
+
+abbrev pub is_field : Line → Bool
+is_field (Field flags name desc value) = true
+is_field line = false
+
+abbrev pub is_method : Line → Bool
+is_method (Abstract flags name desc) = true
+is_method (Method flags name desc) = true
+is_method line = false
+
+abbrev pub is_catch : Line → Bool
+is_catch (Beside (Catch class from to handler)) = true
+is_catch line = false
+
+-- such a line, after so many of them
+pub record IsOneTooMany (is_such : Line → Bool) (count : ℕ) (line : Line) : Type 0 where
+  pub such : is_such line ≡ true
+  pub many : most_lines ≤ count
+
+-- such lines before a place
+abbrev pub count_before : (Line → Bool) → Source → ℕ → ℕ
+count_before is_such s place = count_by is_such (take place (lines_of s))
+
+-- one interface, field or method too many for the class
+pub record IsPastTable (s : Source) (place : ℕ) : Type 0 where
+  pub line : Line
+  pub at : slice_get (lines_of s) place ≡ Some line
+  pub too_many : IsOneTooMany is_interface (count_before is_interface s place) line
+      ⊎ (IsOneTooMany is_field (count_before is_field s place) line ⊎ IsOneTooMany is_method (count_before is_method s place) line)
+
+-- one `.catch` too many for its method
+pub record IsPastCatches (s : Source) (place : ℕ) : Type 0 where
+  pub body : List Line
+  pub front : List Line
+  pub line : Line
+  pub at : IsMethodLine s place body front line
+  pub too_many : IsOneTooMany is_catch (count_by is_catch front) line
+
+-- JVMS 4.7.4: a list of types has a count of two bytes
+abbrev pub HasTooMany : {A : Type 0} → List A → Type 0
+HasTooMany types = most_lines < length types
+
+abbrev pub HasLongLists : Frame → Type 0
+HasLongLists (Full locals stack) = HasTooMany locals ⊎ HasTooMany stack
+HasLongLists frame = ⊥
+
+-- a full frame with too many types
+pub record IsLongFrame (s : Source) (place : ℕ) : Type 0 where
+  pub frame : Frame
+  pub at : slice_get (lines_of s) place ≡ Some (Framed frame)
+  pub long : HasLongLists frame
+
+-- ---- one of these
+
+abbrev pub IsTooLarge : Source → ℕ → Type 0
+IsTooLarge s place =
+    IsPastPool s place ⊎ (IsImproper s place ⊎ (IsFarJump s place ⊎ (IsEndOfLongCode s place
+    ⊎ (IsPastTable s place ⊎ (IsPastCatches s place ⊎ IsLongFrame s place)))))

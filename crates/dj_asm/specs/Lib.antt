@@ -1,0 +1,6 @@
+pub mod Entries
+pub mod Needs
+pub mod Codes
+pub mod Files
+pub mod Large
+pub mod Texts

@@ -1,0 +1,218 @@
+-- The rules at plain values.
+use Rattle.std.proofs.Common.{◌≡◌, ℕ, true, false, List, [], ◌∷◌, Option, refl, ap, inl, inr, arith, codes, pos, get_or, unwrap_or}
+use Rattle.dj_names.specs.declared.descriptor.Base.TheVariants as bases
+use Rattle.dj_names.specs.declared.descriptor.Of.TheVariants as ofs
+use Rattle.dj_names.specs.declared.descriptor.Ty.{Ty}
+use Rattle.dj_names.specs.declared.descriptor.Desc.TheVariants as descs
+use Rattle.dj_ops.specs.declared.instruction.Instr.TheVariants as instrs
+use Rattle.dj_ops.specs.declared.frames.VType.TheVariants as types
+use Rattle.dj_pool.specs.Pool.{Constant, Utf8, Integer, Float, Long, Double, Class, Text, Method, NameAndType, Handle, MethodType}
+use Rattle.dj_class.specs.ClassFile.{AttributeInfo, MemberInfo, ClassFile}
+use Rattle.dj_check.specs.Opcodes.{is_float_op}
+use Rattle.dj_check.specs.Floats.{IsFloating, HasFloat, IsFloatArray}
+use Rattle.dj_check.specs.Malformed.{LacksCode, HasNeedlessCode, FitsField, NamesValue}
+use Rattle.dj_check.specs.Classes.{IsReserved, IsReflective}
+use Rattle.dj_check.specs.Code.{IsFloatType}
+use Rattle.dj_check.specs.Members.{IsFloatConstant, HasInterfaceCode}
+use Rattle.dj_check.specs.Instructions.{IsDynamic, IsReflection, IsFloat, IsSubroutine, IsBreakpoint, IsMultiArray}
+use Rattle.dj_check.specs.Methods.{CatchesError}
+
+-- ---- a pool
+
+-- 1 and 2 are a class that mustn't be caught, 3 and 4 the class Class, 5 to 8 getClass of it, 9 to 12 constants, 13 the name of code
+pool : List Constant
+pool =
+    Utf8 (codes "java/lang/OutOfMemoryError") ∷ Class 1 ∷ Utf8 (codes "java/lang/Class") ∷ Class 3 ∷ Utf8 (codes "getClass") ∷ Utf8 (codes "()Ljava/lang/Class;")
+    ∷ NameAndType 5 6 ∷ Method 2 7 ∷ Handle 1 8 ∷ MethodType 6 ∷ Float 0 ∷ Integer (pos 7) ∷ Utf8 (codes "Code") ∷ Utf8 (codes "I") ∷ []
+
+-- ---- rule 12, opcodes
+
+float_ops : (is_float_op 11 ≡ true) × (is_float_op 15 ≡ true) × (is_float_op 24 ≡ true) × (is_float_op 57 ≡ true) × (is_float_op 99 ≡ true) × (is_float_op 119 ≡ true) × (is_float_op 144 ≡ true) × (is_float_op 152 ≡ true) × (is_float_op 174 ≡ true)
+float_ops = (refl, refl, refl, refl, refl, refl, refl, refl, refl)
+
+float_ops_not : (is_float_op 10 ≡ false) × (is_float_op 16 ≡ false) × (is_float_op 22 ≡ false) × (is_float_op 25 ≡ false) × (is_float_op 97 ≡ false) × (is_float_op 100 ≡ false) × (is_float_op 136 ≡ false) × (is_float_op 145 ≡ false) × (is_float_op 148 ≡ false) × (is_float_op 153 ≡ false) × (is_float_op 173 ≡ false) × (is_float_op 176 ≡ false)
+float_ops_not = (refl, refl, refl, refl, refl, refl, refl, refl, refl, refl, refl, refl)
+
+-- ---- instructions
+
+float-instrs : IsFloat pool (instrs.Simple 98) × IsFloat pool (instrs.Local 23 0 true) × IsFloat pool (instrs.Array 7) × IsFloat pool (instrs.Literal 18 11)
+unfolding pool
+float-instrs = (refl, refl, refl, tt)
+
+float-instrs_not : (IsFloat pool (instrs.Simple 96) → ⊥) × (IsFloat pool (instrs.Array 8) → ⊥) × (IsFloat pool (instrs.Literal 18 12) → ⊥)
+unfolding pool
+float-instrs_not = (λ e. absurd cc, λ e. absurd cc, λ is. is)
+
+subroutines : IsSubroutine pool (instrs.Branch 168 (pos 0)) × IsSubroutine pool (instrs.Branch 201 (pos 0)) × IsSubroutine pool (instrs.Local 169 1 false) × IsSubroutine pool (instrs.Local 169 1 true)
+subroutines = (refl, refl, refl, refl)
+
+subroutines_not : (IsSubroutine pool (instrs.Branch 167 (pos 0)) → ⊥) × (IsSubroutine pool (instrs.Local 21 1 true) → ⊥)
+subroutines_not = (λ e. absurd cc, λ e. absurd (omega arith))
+
+breakpoints : IsBreakpoint pool (instrs.Simple 202)
+breakpoints = refl
+
+breakpoints_not : IsBreakpoint pool (instrs.Simple 0) → ⊥
+breakpoints_not e = absurd (omega arith)
+
+multi-arrays : IsMultiArray pool (instrs.Multi 2 1)
+multi-arrays = tt
+
+multi-arrays_not : IsMultiArray pool (instrs.Class 189 2) → ⊥
+multi-arrays_not is = is
+
+-- invokedynamic, and ldc of a handle or a method's type
+dynamics : IsDynamic pool (instrs.Dynamic 0) × IsDynamic pool (instrs.Literal 18 9) × IsDynamic pool (instrs.Literal 19 10)
+unfolding pool
+dynamics = (tt, (refl, tt), (refl, tt))
+
+-- ldc2_w of a handle, and ldc of an int
+dynamics_not : (IsDynamic pool (instrs.Literal 20 9) → ⊥) × (IsDynamic pool (instrs.Literal 18 12) → ⊥)
+unfolding pool
+dynamics_not = ((λ is. let e = is.0 in absurd cc), (λ is. is.1))
+
+-- ldc of any class
+reflection-ldc : IsReflection pool (instrs.Literal 18 2)
+unfolding pool
+reflection-ldc = inl (refl, tt)
+
+-- a member getClass of any class
+reflection-get-class : IsReflection pool (instrs.Member 182 8)
+unfolding pool
+reflection-get-class = inr (inr (refl, refl))
+
+-- ---- names
+
+reserved : IsReserved (codes "java/A") × IsReserved (codes "javax/swing/A") × IsReserved (codes "sandbox/A")
+reserved = (inr (inl refl), inr (inr refl), inl refl)
+
+reserved_not : (IsReserved (codes "javaz/A") → ⊥) × (IsReserved (codes "sandbox") → ⊥)
+reserved_not = (
+  λ is. elim is [ inl e ↦ absurd cc | inr (inl e) ↦ absurd cc | inr (inr e) ↦ absurd cc ],
+  λ is. elim is [ inl e ↦ absurd cc | inr (inl e) ↦ absurd cc | inr (inr e) ↦ absurd cc ],
+)
+
+reflective : IsReflective (codes "java/lang/Class") × IsReflective (codes "java/lang/reflect/Method")
+reflective = (inl refl, inr (inr (inl refl)))
+
+-- catch_type: the class by its index; no class has the index 0 or that of a text
+catches : CatchesError pool 2
+unfolding pool
+catches = inr (inr (inr refl))
+
+catches_not : (CatchesError pool 0 → ⊥) × (CatchesError pool 1 → ⊥)
+unfolding pool
+catches_not = ((λ is. is), (λ is. is))
+
+-- ---- descriptors
+
+float-ty : Ty
+float-ty = record { dims = 0; of = ofs.Base bases.Float }
+
+double-array : Ty
+double-array = record { dims = 1; of = ofs.Base bases.Double }
+
+floats : HasFloat (codes "F") × IsFloatArray (codes "[D")
+unfolding float-ty double-array
+floats = (
+  (descs.Field float-ty, record { text_is = refl; valid = record { few = omega arith; named = tt } }, inl refl),
+  record { ty = double-array; array = omega arith; described = record { text_is = refl; valid = record { few = omega arith; named = tt } }; floating = inr refl },
+)
+
+-- neither an int nor a class whose name has these letters
+floats_not : (IsFloating (record { dims = 0; of = ofs.Base bases.Int }) → ⊥) × (IsFloating (record { dims = 2; of = ofs.Class (codes "FD") }) → ⊥)
+floats_not = (
+  λ is. elim is [ inl e ↦ absurd cc | inr e ↦ absurd cc ],
+  λ is. elim is [ inl e ↦ absurd cc | inr e ↦ absurd cc ],
+)
+
+float-constants : IsFloatConstant pool (Float 0) × IsFloatConstant pool (Double 0)
+float-constants = (tt, tt)
+
+float-constants_not : (IsFloatConstant pool (Integer (pos 0)) → ⊥) × (IsFloatConstant pool (Utf8 (codes "F")) → ⊥)
+float-constants_not = ((λ is. is), (λ is. is))
+
+float-types : IsFloatType types.Float × IsFloatType types.Double
+float-types = (inl refl, inr refl)
+
+float-types_not : (IsFloatType types.Long → ⊥) × (IsFloatType types.Top → ⊥)
+float-types_not = (
+  λ is. elim is [ inl e ↦ absurd cc | inr e ↦ absurd cc ],
+  λ is. elim is [ inl e ↦ absurd cc | inr e ↦ absurd cc ],
+)
+
+-- ---- rule 1
+
+method : ℕ → List AttributeInfo → MemberInfo
+method flags attributes = record { flags = flags; name = 5; desc = 6; attributes = attributes }
+
+code : AttributeInfo
+code = record { name = 13; body = [] }
+
+other : AttributeInfo
+other = record { name = 14; body = [] }
+
+-- neither native nor abstract: without code, and with two; an attribute of another name is none
+lacks-code : LacksCode pool (method 1 []) × LacksCode pool (method 1 (other ∷ [])) × LacksCode pool (method 9 (code ∷ code ∷ []))
+unfolding pool method code other
+lacks-code = (
+  ((λ is. elim is [ inl n ↦ n refl | inr a ↦ a refl ]), λ e. absurd (omega (arith, e))),
+  ((λ is. elim is [ inl n ↦ n refl | inr a ↦ a refl ]), λ e. absurd (omega (arith, e))),
+  ((λ is. elim is [ inl n ↦ n refl | inr a ↦ a refl ]), λ e. absurd (omega (arith, e))),
+)
+
+lacks-code_not : (LacksCode pool (method 1 (other ∷ code ∷ [])) → ⊥) × (LacksCode pool (method 257 []) → ⊥) × (LacksCode pool (method 1025 []) → ⊥)
+unfolding pool method code other
+lacks-code_not = (
+  λ is. is.1 refl,
+  λ is. is.0 (inl (λ e. absurd cc)),
+  λ is. is.0 (inr (λ e. absurd cc)),
+)
+
+needless-code : HasNeedlessCode pool (method 257 (code ∷ []))
+unfolding pool method code
+needless-code = (inl (λ e. absurd cc), λ e. absurd cc)
+
+needless-code_not : (HasNeedlessCode pool (method 257 []) → ⊥) × (HasNeedlessCode pool (method 1 (code ∷ [])) → ⊥)
+unfolding pool method code
+needless-code_not = (λ is. is.1 refl, λ is. elim is.0 [ inl n ↦ n refl | inr a ↦ a refl ])
+
+-- JVMS table 4.7.2-A
+fits : FitsField (Integer (pos 7)) (codes "Z") × FitsField (Long (pos 7)) (codes "J") × FitsField (Float 0) (codes "F") × FitsField (Double 0) (codes "D") × FitsField (Text 1) (codes "Ljava/lang/String;")
+fits = (inr (inr (inr (inr refl))), refl, refl, refl, refl)
+
+fits_not : (FitsField (Utf8 (codes "I")) (codes "I") → ⊥) × (FitsField (Class 1) (codes "Ljava/lang/String;") → ⊥)
+fits_not = ((λ is. is), (λ is. is))
+
+-- the constant 12 for a field whose descriptor has the index 14
+names-value : NamesValue pool 14 12
+unfolding pool
+names-value = record { constant = Integer (pos 7); found = refl; text = codes "I"; described = refl; fits = inr (inr (inl refl)) }
+
+-- ---- rule 16
+
+class : ℕ → ClassFile
+class flags = record {
+  minor = 0;
+  major = 52;
+  pool = pool;
+  flags = flags;
+  this_class = 2;
+  super_class = 0;
+  interfaces = [];
+  fields = [];
+  methods = [];
+  attributes = [];
+}
+
+interface-code : HasInterfaceCode (class 512) (method 1 (code ∷ []))
+unfolding class pool method code
+interface-code = (
+  (λ e. absurd cc, λ e. let first : 103 ≡ 60 = ap (λ (t : Option (List ℕ)). get_or (unwrap_or t []) 0 0) e in absurd (omega (arith, first))),
+  λ e. absurd cc,
+)
+
+-- no interface, and no code
+interface-code_not : (HasInterfaceCode (class 33) (method 1 (code ∷ [])) → ⊥) × (HasInterfaceCode (class 512) (method 1025 []) → ⊥)
+unfolding class pool method code
+interface-code_not = (λ is. is.0.0 refl, λ is. is.1 refl)

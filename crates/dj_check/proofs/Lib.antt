@@ -1,0 +1,11 @@
+pub mod NamedBodies
+pub mod Codes
+pub mod Anys
+pub mod Stands
+pub mod MarkLaws
+pub mod Judging
+pub mod MethodLaws
+pub mod MapLaws
+pub mod FileLaws
+pub mod Marked
+mod Facts

@@ -1,0 +1,60 @@
+-- What the text of a class constant stands for.
+use Rattle.std.proofs.Common.{◌≡◌, ℕ, zero, suc, ◌≤◌, Bool, false, List, ◌∷◌, ◌++◌, Option, replicate, refl, subst, inl, inr, arith, IsTrue, ◌↔◌}
+use Rattle.dj_names.specs.declared.descriptor.Ty.{Ty}
+use Rattle.dj_names.specs.declared.descriptor.Desc.TheVariants as descs
+use Rattle.dj_names.specs.Names.{IsClassName}
+use Rattle.dj_names.specs.Descriptors.{of_text, Describes}
+use Rattle.dj_names.specs.Tests.{class_name_test}
+use Rattle.dj_names.specs.NameReading.{reads_class_name}
+use Rattle.dj_names.proofs.TestLaws.{class_name_test-decides}
+use Rattle.dj_names.proofs.DescLaws.{described_once}
+use Rattle.dj_check.specs.Classes.{element_class, IsArrayOf, IsReflective, IsReflectiveText}
+
+bracket_no_name : (rest : List ℕ) → IsTrue (class_name_test (91 ∷ rest)) → ⊥
+unfolding class_name_test reads_class_name
+bracket_no_name rest t = absurd cc
+
+array_no_name : (text : List ℕ) (dims : ℕ) (rest : List ℕ) → 1 ≤ dims → text ≡ replicate dims 91 ++ rest → IsClassName text → ⊥
+array_no_name text zero rest some e is = absurd (omega arith)
+array_no_name text (suc dims) rest some e is =
+    bracket_no_name (replicate dims 91 ++ rest) ((class_name_test-decides (91 ∷ (replicate dims 91 ++ rest))).1 (subst IsClassName e is))
+
+-- a class's name is the descriptor of no array
+pub class_no_array : (text class : List ℕ) → IsClassName text → IsArrayOf text class → ⊥
+class_no_array text class is array = array_no_name text array.ty.dims (of_text array.ty.of) array.array array.described.text_is is
+
+-- a class's name stands for itself
+pub reflective_class : (text : List ℕ) (b : Bool) → IsClassName text → (IsTrue b ↔ IsReflective text) → IsTrue b ↔ IsReflectiveText text
+reflective_class text b is told = (
+  λ t. record { class = text; stands = inl (is, refl); reflective = told.0 t },
+  λ has. elim has.stands [
+    | inl same ↦ told.1 (subst IsReflective same.1 has.reflective)
+    | inr array ↦ absurd (class_no_array text has.class is array)
+  ],
+)
+
+same_type : (a b : Ty) → descs.Field a ≡ descs.Field b → a ≡ b
+same_type a b e = cc
+
+-- an array's descriptor for its element's class
+pub reflective_array : (text : List ℕ) (ty : Ty) (b : Bool) → (IsClassName text → ⊥) → Describes text (descs.Field ty)
+    → (IsTrue b ↔ ((1 ≤ ty.dims) × IsReflective (element_class ty.of))) → IsTrue b ↔ IsReflectiveText text
+reflective_array text ty b other described told = (
+  λ t. let is = told.0 t in record { class = element_class ty.of; stands = inr (record { ty = ty; array = is.0; described = described; element = refl }); reflective = is.1 },
+  λ has. elim has.stands [
+    | inl name ↦ absurd (other name.0)
+    | inr array ↦
+        let same = same_type array.ty ty (described_once text (descs.Field array.ty) (descs.Field ty) array.described described) in
+        told.1 (subst (λ (t : Ty). 1 ≤ t.dims) same array.array, subst (λ (t : Ty). IsReflective (element_class t.of)) same (subst IsReflective array.element has.reflective))
+  ],
+)
+
+-- where it is neither it stands for none
+pub reflective_none : (text : List ℕ) → (IsClassName text → ⊥) → ((ty : Ty) → Describes text (descs.Field ty) → ⊥) → IsTrue false ↔ IsReflectiveText text
+reflective_none text other none = (
+  λ t. absurd cc,
+  λ has. elim has.stands [ inl name ↦ absurd (other name.0) | inr array ↦ absurd (none array.ty array.described) ],
+)
+
+pub field_no_method : (ty : Ty) (params : List Ty) (ret : Option Ty) → descs.Field ty ≡ descs.Method params ret → ⊥
+field_no_method ty params ret e = absurd cc

@@ -1,0 +1,153 @@
+-- The code's own: what its passes hand on to one another.
+use Rattle.std.specs.Prelude.{◌≡◌, ◌≢◌, ℕ, Bool, true, false, ◌⊎◌, ◌<◌, ◌^◌, List, [], ◌∷◌, length, Contains, Option, Some, None}
+use Rattle.std.specs.List.{AllByRecursion}
+use Rattle.std.specs.Borrow.{Bor}
+use Rattle.dj_ops.specs.declared.rows.CatchRow.{CatchRow}
+use Rattle.dj_pool.specs.Pool.{Constant}
+use Rattle.dj_class.specs.ClassFile.{MemberInfo, ClassFile}
+use Rattle.dj_report.specs.declared.report.Violation.{Violation}
+use Rattle.dj_report.specs.declared.report.PathFile.{PathFile}
+use Rattle.dj_report.specs.Lines.{Adds, file_line}
+use Rattle.dj_rules.specs.Violations.{this_name}
+use Rattle.dj_check.specs.Rules.{IsOwnLine, IsLoneLine}
+use Rattle.dj_rules.specs.Views.{path_file_view}
+use Rattle.dj_class.specs.Code.{CodeInfo, IsCode}
+use Rattle.dj_labels.specs.declared.labelled.Labelled.{Labelled}
+use Rattle.dj_labels.specs.declared.errors.CodeError.{CodeError}
+use Rattle.dj_labels.specs.declared.errors.CodeError.TheVariants as code_errors
+use Rattle.dj_frames.specs.declared.read.FrameError.{FrameError}
+use Rattle.dj_frames.specs.declared.read.FrameError.TheVariants as frame_errors
+use Rattle.dj_labels.specs.Labels.{IsLabelled}
+use Rattle.dj_check.specs.declared.code.WholeCode.{WholeCode}
+use Rattle.dj_check.specs.declared.code.MethodCode.{MethodCode}
+use Rattle.dj_check.specs.declared.code.MethodCode.TheVariants as methods
+use Rattle.dj_check.specs.Attributes.{codes_of, maps_of}
+use Rattle.dj_check.specs.Code.{IsFloatMap}
+use Rattle.dj_check.specs.Malformed.{IsFaulty, IsRefused, IsGood, LacksLabels, IsFaultyCode, IsFaultyBody, IsFaultyMethod}
+
+-- ---- code
+
+-- memory ran out
+abbrev pub lacks_memory : CodeError → Bool
+lacks_memory code_errors.Memory = true
+lacks_memory _ = false
+
+-- the same, of frames
+abbrev pub lacks_memory_of_frames : FrameError → Bool
+lacks_memory_of_frames frame_errors.Memory = true
+lacks_memory_of_frames _ = false
+
+-- the labels of code, or none where there are none
+abbrev pub IsLabelling : List ℕ → List CatchRow → Option Labelled → Type 0
+IsLabelling code table None = (labelled : Labelled) → IsLabelled code table labelled → ⊥
+IsLabelling code table (Some labelled) = IsLabelled code table labelled
+
+-- the body that is there
+abbrev pub bodies_in : Option (Bor (List ℕ)) → List (List ℕ)
+bodies_in None = []
+bodies_in (Some body) = body.now ∷ []
+
+-- what is told of whole code
+pub record IsWholeCode (pool : List Constant) (info : CodeInfo) (code : WholeCode) : Type 0 where
+  pub bytes : code.code.now ≡ info.code
+  pub labels : IsLabelled info.code info.table code.labelled
+  pub maps : maps_of pool info ≡ bodies_in code.map
+
+-- what is told of code with these bodies of a stack map, at most one, or that it has no labels
+pub record IsMappedCode (info : CodeInfo) (maps : List (List ℕ)) (code : WholeCode) : Type 0 where
+  pub bytes : code.code.now ≡ info.code
+  pub labels : IsLabelled info.code info.table code.labelled
+  pub maps_are : maps ≡ bodies_in code.map
+
+abbrev pub IsMappedView : CodeInfo → List (List ℕ) → Option WholeCode → Type 0
+IsMappedView info maps None = LacksLabels info
+IsMappedView info maps (Some code) = IsMappedCode info maps code
+
+abbrev pub IsCodeView : List Constant → CodeInfo → Option WholeCode → Type 0
+IsCodeView pool info None = IsFaultyCode pool info
+IsCodeView pool info (Some code) = IsWholeCode pool info code
+
+-- the body of a Code attribute is that of whole code
+pub record IsWholeBody (pool : List Constant) (body : List ℕ) (code : WholeCode) : Type 0 where
+  pub info : CodeInfo
+  pub is : IsCode body info
+  pub whole : IsWholeCode pool info code
+
+abbrev pub IsBodyView : List Constant → List ℕ → Option WholeCode → Type 0
+IsBodyView pool body None = IsFaultyBody pool body
+IsBodyView pool body (Some code) = IsWholeBody pool body code
+
+-- what a native or abstract method has that has these bodies of code
+abbrev pub IsBodilessView : List (List ℕ) → MethodCode → Type 0
+IsBodilessView bodies methods.Faulty = bodies ≢ []
+IsBodilessView bodies methods.Bodiless = bodies ≡ []
+IsBodilessView bodies (methods.Whole code) = ⊥
+
+-- another method has one body, which is whole
+pub record IsOneBody (pool : List Constant) (bodies : List (List ℕ)) (code : WholeCode) : Type 0 where
+  pub body : List ℕ
+  pub one : bodies ≡ body ∷ []
+  pub whole : IsWholeBody pool body code
+
+-- or it hasn't one, or has one that is faulty
+abbrev pub HasBadBodies : List Constant → List (List ℕ) → Type 0
+HasBadBodies pool bodies = (length bodies ≢ 1) ⊎ ((body : List ℕ) × (bodies ≡ body ∷ []) × IsFaultyBody pool body)
+
+abbrev pub IsOwnView : List Constant → List (List ℕ) → MethodCode → Type 0
+IsOwnView pool bodies methods.Faulty = HasBadBodies pool bodies
+IsOwnView pool bodies methods.Bodiless = ⊥
+IsOwnView pool bodies (methods.Whole code) = IsOneBody pool bodies code
+
+-- the method has this code
+pub record IsWholeMethod (pool : List Constant) (m : MemberInfo) (code : WholeCode) : Type 0 where
+  pub sound : IsFaultyMethod pool m → ⊥
+  pub body : List ℕ
+  pub one : codes_of pool m ≡ body ∷ []
+  pub whole : IsWholeBody pool body code
+
+abbrev pub IsMethodView : List Constant → MemberInfo → MethodCode → Type 0
+IsMethodView pool m methods.Faulty = IsFaultyMethod pool m
+IsMethodView pool m methods.Bodiless = (IsFaultyMethod pool m → ⊥) × (codes_of pool m ≡ [])
+IsMethodView pool m (methods.Whole code) = IsWholeMethod pool m code
+
+-- the code has fewer than 65,536 bytes, and its map is short
+pub record IsShortCode (code : WholeCode) : Type 0 where
+  pub few : length code.code.now < 2 ^ 16
+  pub instrs : length code.labelled.code < 2 ^ 32
+  pub map : AllByRecursion (λ body. length body < 2 ^ 32) (bodies_in code.map)
+
+-- the stack map of the code has a float or a double
+abbrev pub HasMapOf : WholeCode → Type 0
+HasMapOf code = (body : List ℕ) × Contains (bodies_in code.map) body × IsFloatMap code.code.now body
+
+-- ---- files
+
+-- the class file has no faulty part, and its lines were added; or it has one, and nothing was
+abbrev pub IsJudgedClass : List ℕ → ClassFile → List Violation → List Violation → Bool → Type 0
+IsJudgedClass path c old new true = (IsFaulty c → ⊥) × Adds (IsOwnLine path c) old new
+IsJudgedClass path c old new false = IsFaulty c × (new ≡ old)
+
+-- the file is this good class file, and its lines were added
+pub record IsGoodFile (file : PathFile) (old new : List Violation) (name : List ℕ) : Type 0 where
+  pub class : ClassFile
+  pub good : IsGood file.bytes.now class
+  pub named : name ≡ this_name class
+  pub lines : Adds (IsOwnLine file.path.now class) old new
+
+-- rule 1 is violated, and its line was added
+pub record IsRefusedFile (file : PathFile) (old new : List Violation) : Type 0 where
+  pub refused : IsRefused file.bytes.now
+  pub line : Adds (λ v. v ≡ file_line file.path.now 1) old new
+
+abbrev pub IsJudgedFile : PathFile → List Violation → List Violation → Option (Bor (List ℕ)) → Type 0
+IsJudgedFile file old new None = IsRefusedFile file old new
+IsJudgedFile file old new (Some name) = IsGoodFile file old new name.now
+
+-- the class's name, and none where rule 1 is violated
+abbrev pub TellsName : PathFile → Option (Bor (List ℕ)) → Type 0
+TellsName file None = IsRefused file.bytes.now
+TellsName file (Some name) = (c : ClassFile) × IsGood file.bytes.now c × (name.now ≡ this_name c)
+
+-- the lines of the file by itself were added, and its class's name is told where it has one
+abbrev pub IsNamedFile : PathFile → List Violation → List Violation → Option (Bor (List ℕ)) → Type 0
+IsNamedFile file old new name = Adds (IsLoneLine (path_file_view file)) old new × TellsName file name

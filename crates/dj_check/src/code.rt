@@ -1,0 +1,171 @@
+ghost use Rattle.std.specs.Prelude.{◌≡◌, ◌↔◌, ◌<◌, ◌^◌, length, map, All, IsTrue, IfOk};
+ghost use Rattle.std.specs.List.{AllByRecursion};
+ghost use Rattle.dj_class.specs.ClassFile.{IsAttribute};
+ghost use Rattle.dj_class.specs.Members.{member_of};
+ghost use Rattle.dj_class.specs.CodeViews.{code_of};
+ghost use Rattle.dj_check.specs.Malformed.{IsBodiless};
+ghost use Rattle.dj_check.specs.Passes.{lacks_memory, IsLabelling, bodies_in, IsMappedView, IsCodeView, IsBodyView, IsBodilessView, IsOwnView, IsMethodView};
+
+use crate::bodies::bodies_named;
+use crate::error::RulesError;
+use dj_class::{CodeView, MemberView, read_code};
+use dj_labels::{CodeError, Labelled, label};
+use dj_ops::CatchRow;
+use dj_pool::Pool;
+use dj_rules::is_memory;
+use std::alloc::Global;
+
+/// Code that is whole: its bytes, what it is with numbers for addresses, and the body of its stack map, if it has one.
+#[derive(Debug, Drop)]
+pub struct WholeCode<'a> {
+    pub code: &'a [u8],
+    pub labelled: Labelled,
+    pub map: Option<&'a [u8]>,
+}
+
+/// What a method has for code.
+#[derive(Debug, Drop)]
+pub enum MethodCode<'a> {
+    /// What no class file may have.
+    Faulty,
+    /// Nothing, as it is native or abstract.
+    Bodiless,
+    Whole(WholeCode<'a>),
+}
+
+fn is_bodiless(method: &MemberView<'_>) -> bool
+    ensures { IsTrue result ↔ IsBodiless (member_of method.now) }
+{
+    method.access().is_native() || method.access().is_abstract()
+}
+
+// Whether there was no memory.
+fn lacks_memory(error: &CodeError) -> bool
+    ensures { result ≡ lacks_memory error.now }
+{
+    matches!(error, CodeError::Memory)
+}
+
+// The labelled code, or none where it has no labels.
+fn labelling_of(
+    alloc: Global,
+    code: &[u8],
+    table: &[CatchRow],
+) -> Result<Option<Labelled>, RulesError>
+    requires { length code.now < 2 ^ 16 }
+    ensures { IfOk result (IsLabelling code.now table.now) }
+{
+    match label(alloc, code, table) {
+        Ok(labelled) => Ok(Some(labelled)),
+        Err(error) => {
+            if lacks_memory(&error) {
+                Err(RulesError::Memory)
+            } else {
+                Ok(None)
+            }
+        }
+    }
+}
+
+// The code of a view with this body of a stack map, where it has labels.
+fn code_with_map<'a>(
+    alloc: Global,
+    view: &CodeView<'a>,
+    map: Option<&'a [u8]>,
+) -> Result<Option<WholeCode<'a>>, RulesError>
+    requires { length view.now.code.now < 2 ^ 16 }
+    ensures { IfOk result (IsMappedView (code_of view.now) (bodies_in map.entry)) }
+{
+    match labelling_of(alloc, view.code, view.table.as_slice()) {
+        Ok(Some(labelled)) => Ok(Some(WholeCode {
+            code: view.code,
+            labelled,
+            map,
+        })),
+        Ok(None) => Ok(None),
+        Err(error) => Err(error),
+    }
+}
+
+// The code of a view, where it is whole.
+fn whole_code<'a>(
+    alloc: Global,
+    pool: &Pool<'_>,
+    view: &CodeView<'a>,
+) -> Result<Option<WholeCode<'a>>, RulesError>
+    requires { length view.now.code.now < 2 ^ 16 }
+    ensures { IfOk result (IsCodeView pool.now (code_of view.now)) }
+{
+    let maps = bodies_named(alloc, pool, b"StackMapTable", view.attributes.as_slice())?;
+    match maps.as_slice() {
+        [] => code_with_map(alloc, view, None),
+        [map] => code_with_map(alloc, view, Some(*map)),
+        _ => Ok(None),
+    }
+}
+
+// The code of the body of a Code attribute, where it is whole.
+fn code_of_body<'a>(
+    alloc: Global,
+    pool: &Pool<'_>,
+    body: &'a [u8],
+) -> Result<Option<WholeCode<'a>>, RulesError>
+    requires { length body.now < 2 ^ 32 }
+    ensures { IfOk result (IsBodyView pool.now body.now) }
+{
+    match read_code(alloc, body) {
+        Ok(view) => whole_code(alloc, pool, &view),
+        Err(error) => {
+            if is_memory(error) {
+                Err(RulesError::Memory)
+            } else {
+                Ok(None)
+            }
+        }
+    }
+}
+
+// What a native or abstract method has that has these bodies of code.
+fn bodiless_code<'a>(bodies: &[&'a [u8]]) -> MethodCode<'a>
+    ensures { IsBodilessView (map (λ body. body.now) bodies.now) result }
+{
+    if bodies.is_empty() {
+        MethodCode::Bodiless
+    } else {
+        MethodCode::Faulty
+    }
+}
+
+// What another method has.
+fn own_code<'a>(
+    alloc: Global,
+    pool: &Pool<'_>,
+    bodies: &[&'a [u8]],
+) -> Result<MethodCode<'a>, RulesError>
+    requires { All (λ body. length body.now < 2 ^ 32) bodies.now }
+    ensures { IfOk result (IsOwnView pool.now (map (λ body. body.now) bodies.now)) }
+{
+    match bodies {
+        [body] => match code_of_body(alloc, pool, body)? {
+            Some(code) => Ok(MethodCode::Whole(code)),
+            None => Ok(MethodCode::Faulty),
+        },
+        _ => Ok(MethodCode::Faulty),
+    }
+}
+
+/// What the method has for code.
+pub fn code_of_method<'a>(
+    alloc: Global,
+    pool: &Pool<'_>,
+    method: &MemberView<'a>,
+) -> Result<MethodCode<'a>, RulesError>
+    requires { AllByRecursion (IsAttribute pool.now) (member_of method.now).attributes }
+    ensures { IfOk result (IsMethodView pool.now (member_of method.now)) }
+{
+    let bodies = bodies_named(alloc, pool, b"Code", method.attributes.as_slice())?;
+    if is_bodiless(method) {
+        return Ok(bodiless_code(&bodies));
+    }
+    own_code(alloc, pool, &bodies)
+}

@@ -1,0 +1,53 @@
+ghost use Rattle.std.specs.Prelude.{◌≡◌};
+
+use dj_names::NoMemory;
+use std::alloc::{AllocError, AllocFailed};
+use thiserror::Error;
+
+/// Why files were not judged.
+#[derive(Clone, Copy, Debug, PartialEq, Eq, Error)]
+pub enum RulesError {
+    /// There was no memory.
+    #[error("out of memory")]
+    Memory,
+}
+
+impl From<NoMemory> for RulesError {
+    ghost use Rattle.dj_check.specs.declared.error.RulesError.TheVariants.{Memory};
+
+    ghost from_gives = { λ _ e. e ≡ Memory };
+
+    fn from(_error: NoMemory) -> RulesError {
+        RulesError::Memory
+    }
+}
+
+impl From<AllocError> for RulesError {
+    ghost use Rattle.dj_check.specs.declared.error.RulesError.TheVariants.{Memory};
+
+    ghost from_gives = { λ _ e. e ≡ Memory };
+
+    fn from(_error: AllocError) -> RulesError {
+        RulesError::Memory
+    }
+}
+
+impl<T: Drop> From<AllocFailed<T>> for RulesError {
+    ghost use Rattle.dj_check.specs.declared.error.RulesError.TheVariants.{Memory};
+
+    ghost from_gives = { λ _ e. e ≡ Memory };
+
+    fn from(_error: AllocFailed<T>) -> RulesError {
+        RulesError::Memory
+    }
+}
+
+impl From<dj_rules::RulesError> for RulesError {
+    ghost use Rattle.dj_check.specs.declared.error.RulesError.TheVariants.{Memory};
+
+    ghost from_gives = { λ _ e. e ≡ Memory };
+
+    fn from(_error: dj_rules::RulesError) -> RulesError {
+        RulesError::Memory
+    }
+}

@@ -1,0 +1,193 @@
+ghost use Rattle.std.specs.Prelude.{◌≡◌, ◌↔◌, ◌⊎◌, IsTrue, IsSomeAnd};
+ghost use Rattle.dj_pool.specs.Pool.{constant_at};
+ghost use Rattle.dj_pool.specs.Views.{constant_of};
+ghost use Rattle.dj_check.specs.Classes.{IsGetClass, NamesGetClass, NamesReflective, class_text_index, names_at};
+ghost use Rattle.dj_check.specs.Instructions.{index_of, IsHandleOrType, IsClass, IsFloatNumber, NamesSuch, PushesSuch, IsDynamic, IsReflection, IsFloat, IsSubroutine, IsBreakpoint, IsMultiArray};
+ghost use Rattle.dj_check.specs.Judged.{AreTexts};
+
+use crate::judged::{JudgedText, text_in};
+use crate::opcodes::{is_float_base, is_float_op, is_short_literal, is_subroutine_jump};
+use dj_ops::Instr;
+use dj_pool::{Entry, Pool};
+
+// The index of the constant that an instruction names.
+fn index_of(instr: &Instr) -> Option<u16>
+    ensures { result ≡ index_of instr.now }
+{
+    match instr {
+        Instr::Literal { op: _, index } => Some(*index),
+        Instr::Member { op: _, index } => Some(*index),
+        Instr::Interface { index, count: _ } => Some(*index),
+        Instr::Dynamic { index } => Some(*index),
+        Instr::Class { op: _, index } => Some(*index),
+        Instr::Multi { index, dims: _ } => Some(*index),
+        _ => None,
+    }
+}
+
+// The index of the text of the class that a constant names.
+fn class_text_index(pool: &Pool<'_>, entry: Entry<'_>) -> Option<u16>
+    ensures { result ≡ class_text_index pool.now (constant_of entry.entry) }
+{
+    let class = match entry {
+        Entry::Class(name) => return Some(name),
+        Entry::Field(class, _) => class,
+        Entry::Method(class, _) => class,
+        Entry::InterfaceMethod(class, _) => class,
+        _ => return None,
+    };
+    match pool.get(class) {
+        Some(Entry::Class(name)) => Some(name),
+        _ => None,
+    }
+}
+
+// Whether the class of a constant is of reflection.
+fn names_reflective(pool: &Pool<'_>, texts: &[JudgedText], entry: Entry<'_>) -> bool
+    requires { AreTexts pool.now texts.now }
+    ensures { IsTrue result ↔ NamesReflective pool.now (constant_of entry.entry) }
+{
+    match class_text_index(pool, entry) {
+        Some(index) => text_in(pool, texts, index).reflective,
+        None => false,
+    }
+}
+
+// Whether these are the name and the descriptor of getClass.
+fn is_get_class(name: &[u8], desc: &[u8]) -> bool
+    ensures { IsTrue result ↔ IsGetClass (name.now, desc.now) }
+{
+    name == b"getClass".as_slice() && desc == b"()Ljava/lang/Class;".as_slice()
+}
+
+// Whether the member of a constant is getClass.
+fn names_get_class(pool: &Pool<'_>, entry: Entry<'_>) -> bool
+    ensures { IsTrue result ↔ NamesGetClass pool.now (constant_of entry.entry) }
+{
+    let names = match entry {
+        Entry::Field(_, names) => names,
+        Entry::Method(_, names) => names,
+        Entry::InterfaceMethod(_, names) => names,
+        _ => return false,
+    };
+    match pool.name_and_type(names) {
+        Some((name, desc)) => is_get_class(name, desc),
+        None => false,
+    }
+}
+
+// Whether the constant that an instruction names is of reflection.
+fn names_reflection(pool: &Pool<'_>, texts: &[JudgedText], instr: &Instr) -> bool
+    requires { AreTexts pool.now texts.now }
+    ensures { IsTrue result ↔ (NamesSuch NamesReflective pool.now instr.now ⊎ NamesSuch NamesGetClass pool.now instr.now) }
+{
+    let Some(index) = index_of(instr) else {
+        return false;
+    };
+    match pool.get(index) {
+        Some(entry) => names_reflective(pool, texts, entry) || names_get_class(pool, entry),
+        None => false,
+    }
+}
+
+// Whether the index is that of a method handle or a method's type.
+fn is_handle_or_type(pool: &Pool<'_>, index: u16) -> bool
+    ensures { IsTrue result ↔ IsSomeAnd (constant_at pool.now index) IsHandleOrType }
+{
+    matches!(
+        pool.get(index),
+        Some(Entry::Handle(_, _) | Entry::MethodType(_))
+    )
+}
+
+// Whether the index is that of a class.
+fn is_class(pool: &Pool<'_>, index: u16) -> bool
+    ensures { IsTrue result ↔ IsSomeAnd (constant_at pool.now index) IsClass }
+{
+    matches!(pool.get(index), Some(Entry::Class(_)))
+}
+
+// Whether the index is that of a float or a double.
+fn is_float_number(pool: &Pool<'_>, index: u16) -> bool
+    ensures { IsTrue result ↔ IsSomeAnd (constant_at pool.now index) IsFloatNumber }
+{
+    matches!(pool.get(index), Some(Entry::Float(_) | Entry::Double(_)))
+}
+
+/// Whether it is of the rule DYNAMIC.
+pub fn is_dynamic(pool: &Pool<'_>, instr: &Instr) -> bool
+    ensures { IsTrue result ↔ IsDynamic pool.now instr.now }
+{
+    match instr {
+        Instr::Dynamic { index: _ } => true,
+        Instr::Literal { op, index } => is_short_literal(*op) && is_handle_or_type(pool, *index),
+        _ => false,
+    }
+}
+
+// Whether the instruction pushes a class.
+fn pushes_class(pool: &Pool<'_>, instr: &Instr) -> bool
+    ensures { IsTrue result ↔ PushesSuch IsClass pool.now instr.now }
+{
+    match instr {
+        Instr::Literal { op, index } => is_short_literal(*op) && is_class(pool, *index),
+        _ => false,
+    }
+}
+
+/// Whether it is of the rule REFLECTION.
+pub fn is_reflection(pool: &Pool<'_>, texts: &[JudgedText], instr: &Instr) -> bool
+    requires { AreTexts pool.now texts.now }
+    ensures { IsTrue result ↔ IsReflection pool.now instr.now }
+{
+    pushes_class(pool, instr) || names_reflection(pool, texts, instr)
+}
+
+/// Whether it is of the rule FLOAT.
+pub fn is_float(pool: &Pool<'_>, instr: &Instr) -> bool
+    ensures { IsTrue result ↔ IsFloat pool.now instr.now }
+{
+    match instr {
+        Instr::Simple { op } => is_float_op(*op),
+        Instr::Local {
+            op,
+            slot: _,
+            wide: _,
+        } => is_float_op(*op),
+        Instr::Array { base } => is_float_base(*base),
+        Instr::Literal { op: _, index } => is_float_number(pool, *index),
+        _ => false,
+    }
+}
+
+/// Whether it is of the rule SUBROUTINE.
+pub fn is_subroutine(pool: &Pool<'_>, instr: &Instr) -> bool
+    ensures { IsTrue result ↔ IsSubroutine pool.now instr.now }
+{
+    match instr {
+        Instr::Branch { op, target: _ } => is_subroutine_jump(*op),
+        Instr::Local {
+            op,
+            slot: _,
+            wide: _,
+        } => *op == 169,
+        _ => false,
+    }
+}
+
+/// Whether it is of the rule BREAKPOINT.
+pub fn is_breakpoint(pool: &Pool<'_>, instr: &Instr) -> bool
+    ensures { IsTrue result ↔ IsBreakpoint pool.now instr.now }
+{
+    match instr {
+        Instr::Simple { op } => *op == 202,
+        _ => false,
+    }
+}
+
+/// Whether it is of the rule MULTI_ARRAY.
+pub fn is_multi_array(pool: &Pool<'_>, instr: &Instr) -> bool
+    ensures { IsTrue result ↔ IsMultiArray pool.now instr.now }
+{
+    matches!(instr, Instr::Multi { index: _, dims: _ })
+}

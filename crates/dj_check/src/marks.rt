@@ -1,0 +1,35 @@
+ghost use Rattle.std.specs.Prelude.{◌≡◌, ◌↔◌, IsTrue, OnOk};
+ghost use Rattle.dj_report.specs.Lines.{Gains};
+ghost use Rattle.dj_check.specs.Marks.{mark_at};
+
+use crate::error::RulesError;
+
+/// A part of a file that has lines: a member, by the indexes of its name and descriptor, as a whole or at the instruction of a number.
+#[derive(Clone, Copy, Debug, PartialEq, Eq, PartialOrd, Ord)]
+pub struct Place {
+    pub name: u16,
+    pub desc: u16,
+    pub number: Option<u32>,
+}
+
+/// A rule that is violated at a place. A line is made of it only where it is needed.
+#[derive(Clone, Copy, Debug, PartialEq, Eq, PartialOrd, Ord)]
+pub struct Mark {
+    pub place: Place,
+    pub rule: u8,
+}
+
+/// Appends the mark of a rule, if it is violated.
+pub fn add_mark_if(
+    marks: &mut Vec<Mark>,
+    place: Place,
+    rule: u8,
+    violated: bool,
+) -> Result<(), RulesError>
+    ensures { OnOk result (Gains (λ mark. IsTrue violated × (mark ≡ mark_at place rule)) marks.old.items marks.new.items) }
+{
+    if violated {
+        marks.push(Mark { place, rule })?;
+    }
+    Ok(())
+}

@@ -1,0 +1,4 @@
+pub mod Lengths
+pub mod Heaps
+pub mod Views
+pub mod Calls

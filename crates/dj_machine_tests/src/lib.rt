@@ -1,0 +1,7 @@
+//! Tests of the parts of the machine.
+#![tactic(auto)]
+
+#[cfg(test)]
+mod heap;
+#[cfg(test)]
+mod stack;

@@ -1,0 +1,31 @@
+mod WordFacts
+mod LineFacts
+mod FaultFacts
+mod SourceFacts
+mod OrderLaws
+mod OrderSources
+mod Beginnings
+pub mod FaultLaws
+mod ReadingFacts
+mod Readers
+mod Choices
+mod WordLaws
+mod TypeWords
+mod Starts
+mod FieldReaders
+mod ListReaders
+mod FrameReaders
+mod Opcodes
+mod ValueReaders
+mod OperationReaders
+mod Operations
+mod LineOrder
+mod LineReaders
+mod TokenLaws
+mod ItemLaws
+mod TextReading
+pub mod TextLaws
+pub mod OneSource
+pub mod NumberLaws
+mod BodyFacts
+mod TextFacts

@@ -1,0 +1,122 @@
+-- Labels of a body, and the first line that names one wrongly. A label is the number of instructions before it.
+use Rattle.std.specs.Prelude.{◌≡◌, ◌≢◌, ℕ, ◌+◌, ◌<◌, ◌⊎◌, Bool, true, false, List, [], ◌∷◌, ◌++◌, length, map, Contains, Some, slice_get}
+use Rattle.std.specs.List.{flat_map, filter, AllByRecursion, count_by}
+use Rattle.dj_source.specs.declared.error.AsmError.{AsmError}
+use Rattle.dj_source.specs.declared.error.AsmError.TheVariants as asm_errors
+use Rattle.dj_source.specs.Words.{Token, LineEnd, Placed, tokens_of}
+use Rattle.dj_source.specs.Lines.{Label, FrameType, Simple, Object, New, Frame, Same, Stack1, Chop, Append, Full, Operation, Jump, Table, Lookup, Labelled, Catch, Line, Beside, Framed, Does}
+use Rattle.dj_source.specs.Sources.{Source, MethodSource, head_lines, method_lines, IsTextOf}
+
+-- ---- what a label stands for
+
+abbrev pub is_instruction : Line → Bool
+is_instruction (Does operation) = true
+is_instruction line = false
+
+abbrev pub instruction_count : List Line → ℕ
+instruction_count lines = count_by is_instruction lines
+
+-- the first line that defines the label stands before the instruction of this number, or at the code's end
+pub record IsLabelAt (body : List Line) (label : Label) (number : ℕ) : Type 0 where
+  pub front : List Line
+  pub rest : List Line
+  pub parts : body ≡ front ++ Beside (Labelled label) ∷ rest
+  pub first : AllByRecursion (λ line. line ≢ Beside (Labelled label)) front
+  pub number_is : number ≡ instruction_count front
+
+-- ---- what a line asks of labels
+
+pub data Use : Type 0 where
+  -- an instruction stands there
+  AtInstruction : Label → Use
+  -- the first comes before the second, which may be the code's end
+  Range : Label → Label → Use
+
+abbrev pub type_uses : FrameType → List Use
+type_uses (Simple word) = []
+type_uses (Object name) = []
+type_uses (New label) = AtInstruction label ∷ []
+
+abbrev pub frame_uses : Frame → List Use
+frame_uses Same = []
+frame_uses (Stack1 type) = type_uses type
+frame_uses (Chop n) = []
+frame_uses (Append types) = flat_map type_uses types
+frame_uses (Full locals stack) = flat_map type_uses locals ++ flat_map type_uses stack
+
+abbrev pub operation_uses : Operation → List Use
+operation_uses (Jump op label) = AtInstruction label ∷ []
+operation_uses (Table low labels default) = AtInstruction default ∷ map AtInstruction labels
+operation_uses (Lookup pairs default) = AtInstruction default ∷ map (λ pair. AtInstruction pair.1) pairs
+operation_uses operation = []
+
+abbrev pub uses_of : Line → List Use
+uses_of (Beside (Catch class from to handler)) = Range from to ∷ AtInstruction handler ∷ []
+uses_of (Framed frame) = frame_uses frame
+uses_of (Does operation) = operation_uses operation
+uses_of line = []
+
+pub record IsInstructionLabel (body : List Line) (label : Label) : Type 0 where
+  pub number : ℕ
+  pub defined : IsLabelAt body label number
+  pub instruction : number < instruction_count body
+
+pub record IsRange (body : List Line) (from to : Label) : Type 0 where
+  pub first : ℕ
+  pub end : ℕ
+  pub from_is : IsLabelAt body from first
+  pub to_is : IsLabelAt body to end
+  pub some : first < end
+
+abbrev pub IsMet : List Line → Use → Type 0
+IsMet body (AtInstruction label) = IsInstructionLabel body label
+IsMet body (Range from to) = IsRange body from to
+
+-- ---- faults
+
+-- the label was defined before
+abbrev pub IsDoubled : List Line → Line → Type 0
+IsDoubled front (Beside (Labelled label)) = Contains front (Beside (Labelled label))
+IsDoubled front line = ⊥
+
+-- the lines of a method, after so many lines of the source
+pub record AreMethodLines (s : Source) (before : ℕ) (lines : List Line) : Type 0 where
+  pub front : List MethodSource
+  pub method : MethodSource
+  pub rest : List MethodSource
+  pub methods : s.methods ≡ front ++ method ∷ rest
+  pub before_is : before ≡ length (head_lines s) + length (flat_map method_lines front)
+  pub lines_are : lines ≡ method_lines method
+
+-- the line after so many lines of the source defines a label again, or asks what doesn't hold
+pub record IsMislabelled (s : Source) (place : ℕ) : Type 0 where
+  pub before : ℕ
+  pub body : List Line
+  pub in_method : AreMethodLines s before body
+  pub front : List Line
+  pub line : Line
+  pub rest : List Line
+  pub parts : body ≡ front ++ line ∷ rest
+  pub place_is : place ≡ before + length front
+  pub wrong : IsDoubled front line ⊎ (AllByRecursion (IsMet body) (uses_of line) → ⊥)
+
+-- the numbers of the lines that have words
+abbrev pub ends_line : Placed → Bool
+ends_line placed = ends placed.token where
+  ends : Token → Bool
+  ends LineEnd = true
+  ends _ = false
+
+abbrev pub line_numbers : List ℕ → List ℕ
+line_numbers text = map (λ (placed : Placed). placed.line) (filter ends_line (tokens_of text))
+
+-- the text's words say a source, and this is its first line that is wrongly labelled
+pub record LabelFault (text : List ℕ) (e : AsmError) : Type 0 where
+  pub source : Source
+  pub is_text : IsTextOf text source
+  pub place : ℕ
+  pub wrong : IsMislabelled source place
+  pub first : (earlier : ℕ) → earlier < place → IsMislabelled source earlier → ⊥
+  pub line : ℕ
+  pub number : slice_get (line_numbers text) place ≡ Some line
+  pub told : e ≡ asm_errors.Label line

@@ -1,0 +1,11 @@
+pub mod Words
+pub mod Items
+pub mod Mnemonics
+pub mod Lines
+pub mod Sources
+pub mod Faults
+pub mod Labels
+pub mod Order
+pub mod Reading
+pub mod LineReading
+pub mod Laws

@@ -1,0 +1,185 @@
+-- The readers' vocabulary: reading as functions on the tokens at hand. Clauses of the crate's own readers cite it, and no public one;
+-- proofs/TextLaws says that what is read of a text is its source or its fault.
+use Rattle.std.specs.Prelude.{ℕ, suc, ◌^◌, ◌==◌, ◌&&◌, ◌||◌, Bool, true, false, ⊤, ℤ, pos, negsuc, neg_ℤ, List, [], ◌∷◌, length, take, drop, Option, Some, None, nat_lt, nat_le, if◌then◌else◌, bytes_eq, codes}
+use Rattle.std.specs.List.{list_all}
+use Rattle.std.specs.Option.{option_map}
+use Rattle.std.specs.Char.{is_digit}
+use Rattle.std.specs.Str.Parse.{digits_value}
+use Rattle.dj_bytes.specs.Options.{◌>>=◌}
+use Rattle.dj_names.specs.Types.{Name}
+use Rattle.dj_names.specs.ModifiedUtf8.{units_text}
+use Rattle.dj_names.specs.Tests.{class_name_test, array_descriptor_test}
+use Rattle.dj_source.specs.Words.{Token, Word, Quoted, LineEnd, Placed}
+use Rattle.dj_source.specs.Lines.{FrameType, Simple, Object, New, Label}
+use Rattle.dj_source.specs.Mnemonics.{mnemonics, base_words}
+
+-- ---- steps
+
+-- what was read, with the tokens after it; or the tokens from the first on that may not stand there; or those from a number on that its field doesn't hold
+pub data Read (A : Type 0) : Type 0 where
+  Got : A → List Placed → Read A
+  Wrong : List Placed → Read A
+  Large : List Placed → Read A
+
+abbrev pub Reader : Type 0 → Type 0
+Reader A = List Placed → Read A
+
+abbrev pub read_map : {A B : Type 0} → (A → B) → Read A → Read B
+read_map f (Got a rest) = Got (f a) rest
+read_map f (Wrong rest) = Wrong rest
+read_map f (Large rest) = Large rest
+
+abbrev pub read_then : {A B : Type 0} → Read A → Reader B → Read (A × B)
+read_then (Got a rest) next = read_map (λ b. (a, b)) (next rest)
+read_then (Wrong rest) next = Wrong rest
+read_then (Large rest) next = Large rest
+
+-- seen as something else
+abbrev pub mapped : {A B : Type 0} → (A → B) → Reader A → Reader B
+mapped f reader tokens = read_map f (reader tokens)
+
+-- one after the other
+infixr 20 ◌&◌
+abbrev pub ◌&◌ : {A B : Type 0} → Reader A → Reader B → Reader (A × B)
+(first & second) tokens = read_then (first tokens) second
+
+-- nothing of the tokens
+abbrev pub got : {A : Type 0} → A → Reader A
+got a tokens = Got a tokens
+
+-- what a token says, where it fits
+abbrev pub said_by : {A : Type 0} → (A → Bool) → Option A → Placed → List Placed → Read A
+said_by fits None here rest = Wrong (here ∷ rest)
+said_by fits (Some a) here rest = if fits a then Got a rest else Large (here ∷ rest)
+
+-- one token
+abbrev pub one : {A : Type 0} → (Token → Option A) → (A → Bool) → Reader A
+one says fits [] = Wrong []
+one says fits (here ∷ rest) = said_by fits (says here.token) here rest
+
+abbrev pub any_size : {A : Type 0} → A → Bool
+any_size a = true
+
+-- what a token begins, and what stands after it
+abbrev pub begun : {K A : Type 0} → Option K → (K → Reader A) → Placed → List Placed → Read A
+begun None next here rest = Wrong (here ∷ rest)
+begun (Some k) next here rest = next k rest
+
+abbrev pub choose : {K A : Type 0} → (Token → Option K) → (K → Reader A) → Reader A
+choose begins next [] = Wrong []
+choose begins next (here ∷ rest) = begun (begins here.token) next here rest
+
+-- ---- words
+
+abbrev pub word_of : Token → Option (List ℕ)
+word_of (Word units) = Some units
+word_of token = None
+
+abbrev pub string_of : Token → Option (List ℕ)
+string_of (Quoted units) = Some units
+string_of token = None
+
+abbrev pub end_of : Token → Option ⊤
+end_of LineEnd = Some tt
+end_of token = None
+
+abbrev pub tested : {A : Type 0} → (A → Bool) → A → Option A
+tested test a = if test a then Some a else None
+
+-- what the table has at the word
+abbrev pub row_of : {K : Type 0} → List (List ℕ × K) → List ℕ → Option K
+row_of [] word = None
+row_of (row ∷ rows) word = if bytes_eq row.0 word then Some row.1 else row_of rows word
+
+-- the place of a word in a list, counted from n
+abbrev pub place_from : ℕ → List (List ℕ) → List ℕ → Option ℕ
+place_from n [] word = None
+place_from n (w ∷ ws) word = if bytes_eq w word then Some n else place_from (suc n) ws word
+
+-- the opcode of the token's word
+abbrev pub opcode_of : Token → Option ℕ
+opcode_of token = word_of token >>= place_from 0 mnemonics
+
+-- the base type of the token's word
+abbrev pub base_of : Token → Option ℕ
+base_of token = word_of token >>= place_from 4 base_words
+
+-- this word alone
+abbrev pub exactly : List ℕ → Token → Option ⊤
+exactly word token = word_of token >>= row_of ((word, tt) ∷ [])
+
+-- before a colon that ends the word
+abbrev pub before_colon : List ℕ → Option (List ℕ)
+before_colon [] = None
+before_colon (b ∷ []) = if b == 58 then Some [] else None
+before_colon (b ∷ c ∷ bs) = option_map (λ label. b ∷ label) (before_colon (c ∷ bs))
+
+abbrev pub is_some_label : Label → Bool
+is_some_label label = nat_le 1 (length label)
+
+-- the label that the word defines
+abbrev pub label_in : List ℕ → Option Label
+label_in word = before_colon word >>= tested is_some_label
+
+-- ---- numbers
+
+abbrev pub is_numeral : ℕ → List ℕ → Bool
+is_numeral radix digits = nat_le 1 (length digits) && list_all (λ b. is_digit b radix) digits
+
+abbrev pub flags_of : Token → Option ℕ
+flags_of token = word_of token >>= λ word. if is_numeral 16 word && nat_le (length word) 4 then Some (digits_value 16 word) else None
+
+abbrev pub number_in : List ℕ → Option ℤ
+number_in [] = None
+number_in (b ∷ bs) =
+    if b == 45 then (if is_numeral 10 bs then Some (neg_ℤ (pos (digits_value 10 bs))) else None)
+    else (if is_numeral 10 (b ∷ bs) then Some (pos (digits_value 10 (b ∷ bs))) else None)
+
+abbrev pub number_of : Token → Option ℤ
+number_of token = word_of token >>= number_in
+
+-- from low up to high, without sign
+abbrev pub is_between : ℕ → ℕ → ℤ → Bool
+is_between low high (pos n) = nat_le low n && nat_le n high
+is_between low high (negsuc n) = false
+
+-- a number that fits so many bits and a sign
+abbrev pub is_signed : ℕ → ℤ → Bool
+is_signed bits (pos n) = nat_lt n (2 ^ bits)
+is_signed bits (negsuc n) = nat_lt n (2 ^ bits)
+
+-- ---- names
+
+abbrev pub class_text_test : List ℕ → Bool
+class_text_test text = class_name_test text || array_descriptor_test text
+
+-- a text that passes
+abbrev pub name_of : (List ℕ → Bool) → Token → Option Name
+name_of test token = word_of token >>= λ word. tested test (units_text word)
+
+-- a class that is caught, or any
+abbrev pub caught_in : List ℕ → Option (Option Name)
+caught_in word = if bytes_eq (codes "any") word then Some None else option_map (λ name. Some name) (tested class_text_test (units_text word))
+
+abbrev pub caught_of : Token → Option (Option Name)
+caught_of token = word_of token >>= caught_in
+
+-- ---- types of frames
+
+abbrev pub is_simple_type : List ℕ → Bool
+is_simple_type word =
+    bytes_eq word (codes "top") || (bytes_eq word (codes "int") || (bytes_eq word (codes "float") || (bytes_eq word (codes "double")
+    || (bytes_eq word (codes "long") || (bytes_eq word (codes "null") || bytes_eq word (codes "this"))))))
+
+-- after `ref:` or `new:`
+abbrev pub long_type : List ℕ → Option FrameType
+long_type word =
+    if bytes_eq (take 4 word) (codes "ref:") then option_map (λ name. Object name) (tested class_text_test (units_text (drop 4 word)))
+    else (if bytes_eq (take 4 word) (codes "new:") then option_map (λ label. New label) (tested is_some_label (drop 4 word))
+    else None)
+
+abbrev pub type_in : List ℕ → Option FrameType
+type_in word = if is_simple_type word then Some (Simple word) else long_type word
+
+abbrev pub type_of : Token → Option FrameType
+type_of token = word_of token >>= type_in

@@ -1,0 +1,21 @@
+ghost use Rattle.dj_source.specs.Laws.{OneSource, OneWordFault, NoFaultOfSource, SourceOrFault};
+
+/// The words of a text say one source at most.
+pub fn one_source()
+    ensures { OneSource }
+{}
+
+/// A text has one first fault of its words at most.
+pub fn one_word_fault()
+    ensures { OneWordFault }
+{}
+
+/// A text whose words say a source has no fault of its words.
+pub fn no_fault_of_source()
+    ensures { NoFaultOfSource }
+{}
+
+/// The words of a text say a source or have a first fault.
+pub fn source_or_fault()
+    ensures { SourceOrFault }
+{}

@@ -1,0 +1,2 @@
+pub mod Bottom
+mod FrameFacts

@@ -1,0 +1,54 @@
+-- The commands that aren't done yet.
+use Rattle.std.proofs.Common.{◌≡◌, Bool, true, false, List, [], ◌∷◌, Option, Some, None, refl, cond, codes, ℕ}
+use Rattle.std.specs.Prelude.{option_and_then}
+use Rattle.dj_bytes.specs.Options.{◌>>=◌}
+use Rattle.dj_words.specs.Words.{Word, Job, Sample, is_word, number_between, rewrite_job, assemble_job, sample_job}
+use Rattle.dj_words.specs.DoneJobs.{DoneJob, done}
+use Rattle.dj_words.specs.WordsApp.{Values, has_no_value, steps_in, raw_in, job_of_values}
+
+abbrev cut : Option Job → Option DoneJob
+cut job = option_and_then done job
+
+rewrite_undone : (b : Bool) (operands : List Word) → cut (cond b (rewrite_job operands []) None) ≡ None
+rewrite_undone false operands = refl
+rewrite_undone true [] = refl
+rewrite_undone true (a ∷ []) = refl
+rewrite_undone true (a ∷ b ∷ []) = refl
+rewrite_undone true (a ∷ b ∷ c ∷ rest) = refl
+
+raw_undone : (operands : List Word) (steps : Option ℕ) → cut (raw_in operands steps) ≡ None
+raw_undone [] s = refl
+raw_undone (a ∷ []) s = refl
+raw_undone (a ∷ b ∷ []) s = refl
+raw_undone (a ∷ b ∷ c ∷ []) None = refl
+raw_undone (a ∷ b ∷ c ∷ []) (Some s) = refl
+raw_undone (a ∷ b ∷ c ∷ d ∷ rest) s = refl
+
+assemble_undone : (b : Bool) (operands : List Word) → cut (cond b (assemble_job operands []) None) ≡ None
+assemble_undone false operands = refl
+assemble_undone true [] = refl
+assemble_undone true (a ∷ []) = refl
+assemble_undone true (a ∷ b ∷ rest) = refl
+
+two_numbers : (seed count : Option ℕ) → cut (seed >>= λ s. count >>= λ c. Some (Sample s c)) ≡ None
+two_numbers None count = refl
+two_numbers (Some s) None = refl
+two_numbers (Some s) (Some c) = refl
+
+sample_undone : (b : Bool) (operands : List Word) → cut (cond b (sample_job operands []) None) ≡ None
+sample_undone false operands = refl
+sample_undone true [] = refl
+sample_undone true (a ∷ []) = refl
+sample_undone true (a ∷ b ∷ []) = two_numbers (number_between 0 65536 a) (number_between 1 1000 b)
+sample_undone true (a ∷ b ∷ c ∷ rest) = refl
+
+either : (b : Bool) (x y : Option Job) (z : Option DoneJob) → cut x ≡ z → cut y ≡ z → cut (cond b x y) ≡ z
+either true x y z e f = e
+either false x y z e f = f
+
+pub job_of_others : (name : Word) (operands : List Word) (v : Values) → is_word name (codes "check") ≡ false → is_word name (codes "verify") ≡ false → cut (job_of_values name operands v) ≡ None
+job_of_others name operands v other another =
+    rw (other, another) (either (is_word name (codes "rewrite")) _ _ None (rewrite_undone (has_no_value v) operands)
+    (either (is_word name (codes "raw")) _ _ None (raw_undone operands (steps_in v))
+    (either (is_word name (codes "assemble")) _ _ None (assemble_undone (has_no_value v) operands)
+    (either (is_word name (codes "sample")) _ None None (sample_undone (has_no_value v) operands) refl))))

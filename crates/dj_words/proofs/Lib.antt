@@ -1,0 +1,14 @@
+mod WordsFacts
+pub mod ByClap
+pub mod Refusals
+pub mod Forms
+pub mod Rules
+pub mod AfterWalk
+pub mod Turns
+pub mod RowLemmas
+pub mod NoJobs
+pub mod OptionLaws
+pub mod Holding
+pub mod Walking
+pub mod Decimal
+pub mod Done

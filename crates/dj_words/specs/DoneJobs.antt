@@ -1,0 +1,22 @@
+-- The jobs of the commands that are done so far. Words that ask for another one are words of no job.
+use Rattle.std.specs.Prelude.{List, Option, Some, None}
+use Rattle.dj_bytes.specs.Options.{◌>>=◌}
+use Rattle.dj_names.specs.declared.run.Thresholds.{Thresholds}
+use Rattle.dj_words.specs.Words.{Word, Job, job_of}
+use Rattle.dj_words.specs.Words as words
+
+pub data DoneJob : Type 0 where
+  -- check FOLDER
+  Check : Word → DoneJob
+  -- verify FOLDER ENTRY INPUT
+  Verify : Word → Word → Word → Thresholds → DoneJob
+
+abbrev pub done : Job → Option DoneJob
+done (words.Check folder) = Some (Check folder)
+done (words.Verify folder entry input most) = Some (Verify folder entry input most)
+done _ = None
+
+unfoldable pub done_job_of : List Word → Option DoneJob
+done_job_of words = do
+  job ← job_of words
+  done job

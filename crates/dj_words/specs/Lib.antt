@@ -1,0 +1,4 @@
+pub mod Words
+pub mod DoneJobs
+pub mod WordsApp
+pub mod Views

@@ -1,0 +1,29 @@
+-- The program's values as the definitions see them.
+use Rattle.std.specs.Prelude.{List, Option, map, option_map}
+use Rattle.std.specs.Borrow.{Bor}
+use Rattle.dj_words.specs.Words.{Word}
+use Rattle.dj_words.specs.DoneJobs.{DoneJob, Check, Verify}
+use Rattle.dj_words.specs.WordsApp.{Values}
+use Rattle.dj_words.specs.declared.command.Command.{Command}
+use Rattle.dj_words.specs.declared.command.Command.TheVariants as commands
+use Rattle.dj_words.specs.declared.options.Options.{Options}
+
+-- the job that a command does
+abbrev pub job_view : Command → DoneJob
+job_view (commands.Check folder) = Check folder.now
+job_view (commands.Verify folder entry input thresholds) = Verify folder.now entry.now input.now thresholds
+
+abbrev pub texts : List (Bor Word) → List Word
+texts words = map (λ word. word.now) words
+
+abbrev pub text_given : Option (Bor Word) → Option Word
+text_given word = option_map (λ w. w.now) word
+
+abbrev pub values_view : Options → Values
+values_view options = record {
+  alloc = text_given options.alloc;
+  invoke = text_given options.invoke;
+  jump = text_given options.jump;
+  throw = text_given options.throw;
+  steps = text_given options.steps;
+}
