@@ -4,3 +4,4 @@ pub mod Codes
 pub mod Files
 pub mod Large
 pub mod Texts
+pub mod Laws

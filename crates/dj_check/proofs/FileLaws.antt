@@ -7,9 +7,8 @@ use Rattle.dj_class.proofs.ClassLaws.{one_class_file}
 use Rattle.dj_report.specs.declared.report.Violation.{Violation}
 use Rattle.dj_report.specs.Lines.{file_line, Adds, Gains, IsLineAmong}
 use Rattle.dj_report.proofs.Sorted.{contains_none}
-use Rattle.dj_report.proofs.Adding.{adds_same, adds_both, adds_part, among_map, exactly_found, exactly_same}
+use Rattle.dj_report.proofs.Adding.{adds_same, adds_both, adds_part, among_map}
 use Rattle.dj_report.specs.declared.report.PathFile.{PathFile}
-use Rattle.dj_report.specs.Order.{IsInOrder}
 use Rattle.std.proofs.lemmas.List.{take_all}
 use Rattle.dj_rules.specs.Views.{path_file_view}
 use Rattle.dj_check.specs.Passes.{IsJudgedFile, IsNamedFile}
@@ -23,7 +22,7 @@ use Rattle.dj_check.specs.Malformed.{IsFaulty, IsRefused, IsGood}
 use Rattle.dj_check.specs.Classes.{IsReserved}
 use Rattle.dj_check.specs.Members.{HasFloatConstant}
 use Rattle.dj_check.specs.Methods.{MethodViolates}
-use Rattle.dj_check.specs.Rules.{line_at, IsMemberLine, FieldViolates, IsNamingLine, IsOwnLine, IsLoneLine, IsAmongLoneLines, AreLoneViolations}
+use Rattle.dj_check.specs.Rules.{line_at, IsMemberLine, FieldViolates, IsNamingLine, IsOwnLine, IsLoneLine, IsAmongLoneLines}
 use Rattle.dj_check.specs.Marks.{place_of, AreMarksOf, names_in, IsMarkLine}
 
 pub naming_lines : (path : List ℕ) (c : ClassFile) (reserved float : Bool) (x0 x1 x2 : List Violation) → (IsTrue reserved ↔ IsReserved (this_name c)) → (IsTrue float ↔ HasFloatConstant c)
@@ -93,7 +92,7 @@ pub faulty_class : (bytes : List ℕ) (c : ClassFile) → IsClassFile bytes c �
 faulty_class bytes c is faulty = inr (c, is, faulty)
 
 -- bytes are not both refused and a good class file
-refused_not_good : (bytes : List ℕ) (c : ClassFile) → IsGood bytes c → IsRefused bytes → ⊥
+pub refused_not_good : (bytes : List ℕ) (c : ClassFile) → IsGood bytes c → IsRefused bytes → ⊥
 refused_not_good bytes c good refused = elim refused [
   | inl none ↦ none c good.file
   | inr (d, is, faulty) ↦ good.whole (subst IsFaulty (one_class_file tests_decide bytes d c is good.file) faulty)
@@ -122,10 +121,8 @@ named_file file old lines new (Some name) judged added = (
 abbrev pub IsOwnFileLine : PathFile → Violation → Type 0
 IsOwnFileLine file v = IsLoneLine (path_file_view file) v
 
--- the lines of all files, put in order
-pub all_lone_lines : (files : List PathFile) (n : ℕ) (found lines : List Violation) → length files ≤ n → Adds (IsLineAmong IsOwnFileLine (take n files)) [] found → IsInOrder lines → ((v : Violation) → Contains lines v ↔ Contains found v)
-    → AreLoneViolations (map path_file_view files) lines
-all_lone_lines files n found lines le adds in_order members =
-    let own : Adds (IsLineAmong IsOwnFileLine files) [] found = subst (λ (xs : List PathFile). Adds (IsLineAmong IsOwnFileLine xs) [] found) (take_all n files le) adds in
-    exactly_same (IsLineAmong IsOwnFileLine files) (IsAmongLoneLines (map path_file_view files)) lines (among_map path_file_view IsLoneLine files)
-    (exactly_found (IsLineAmong IsOwnFileLine files) found lines own in_order members)
+-- the lines of all files
+pub all_lone_lines : (files : List PathFile) (n : ℕ) (old found : List Violation) → length files ≤ n → Adds (IsLineAmong IsOwnFileLine (take n files)) old found → Adds (IsAmongLoneLines (map path_file_view files)) old found
+all_lone_lines files n old found le adds =
+    adds_same (IsLineAmong IsOwnFileLine files) (IsAmongLoneLines (map path_file_view files)) old found (among_map path_file_view IsLoneLine files)
+    (subst (λ (xs : List PathFile). Adds (IsLineAmong IsOwnFileLine xs) old found) (take_all n files le) adds)

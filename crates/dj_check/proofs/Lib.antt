@@ -8,4 +8,6 @@ pub mod MethodLaws
 pub mod MapLaws
 pub mod FileLaws
 pub mod Marked
+pub mod Keys
+pub mod DoubleLaws
 mod Facts

@@ -11,3 +11,4 @@ pub mod Rules
 pub mod Judged
 pub mod Passes
 pub mod Marks
+pub mod Doubles

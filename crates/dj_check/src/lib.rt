@@ -4,8 +4,10 @@
 mod bodies;
 mod classes;
 mod code;
+mod doubles;
 mod error;
 mod fields;
+mod files;
 mod instructions;
 mod judge;
 mod judged;
@@ -15,7 +17,6 @@ mod marks;
 mod methods;
 mod opcodes;
 mod passes;
-mod rules;
 
 pub use error::RulesError;
-pub use rules::lone_rules;
+pub use files::rules;

@@ -29,3 +29,7 @@ pub mod OneSource
 pub mod NumberLaws
 mod BodyFacts
 mod TextFacts
+mod LabelLaws
+mod Sections
+pub mod LabelTextLaws
+mod LabelFacts

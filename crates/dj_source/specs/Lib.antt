@@ -9,3 +9,4 @@ pub mod Order
 pub mod Reading
 pub mod LineReading
 pub mod Laws
+pub mod LabelReading

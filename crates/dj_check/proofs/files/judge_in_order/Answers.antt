@@ -2,7 +2,7 @@ use Rattle.std.proofs.Common.{List, subst}
 use Rattle.dj_report.specs.declared.report.Violation.{Violation}
 use Rattle.dj_check.specs.Passes.{IsJudgedFile}
 use Rattle.dj_check.proofs.FileLaws.{named_file}
-use Rattle.dj_check.proofs.rules.judge_in_order.Goals as goal
+use Rattle.dj_check.proofs.files.judge_in_order.Goals as goal
 
 pub returns : goal.returns
 returns c =

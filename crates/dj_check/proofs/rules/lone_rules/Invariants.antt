@@ -1,8 +1,0 @@
-use Rattle.std.proofs.Common.{[], take}
-use Rattle.dj_report.specs.Lines.{Adds, IsLineAmong}
-use Rattle.dj_check.proofs.FileLaws.{IsOwnFileLine}
-use Rattle.dj_check.proofs.rules.lone_rules.Given as goal
-
--- the lines of the files so far
-abbrev pub invariant-loop-file : goal.invariant-loop-file
-invariant-loop-file l = Adds (IsLineAmong IsOwnFileLine (take l.file-index l.files)) [] l.found.items
