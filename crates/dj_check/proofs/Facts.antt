@@ -1,5 +1,5 @@
 -- The rules at plain values.
-use Rattle.std.proofs.Common.{◌≡◌, ℕ, true, false, List, [], ◌∷◌, Option, refl, ap, inl, inr, arith, codes, pos, get_or, unwrap_or}
+use Rattle.std.proofs.Common.{◌≡◌, ℕ, true, false, List, [], ◌∷◌, map, replicate, Option, refl, ap, inl, inr, arith, codes, pos, get_or, unwrap_or}
 use Rattle.dj_names.specs.declared.descriptor.Base.TheVariants as bases
 use Rattle.dj_names.specs.declared.descriptor.Of.TheVariants as ofs
 use Rattle.dj_names.specs.declared.descriptor.Ty.{Ty}
@@ -8,7 +8,7 @@ use Rattle.dj_ops.specs.declared.instruction.Instr.TheVariants as instrs
 use Rattle.dj_ops.specs.declared.frames.VType.TheVariants as types
 use Rattle.dj_pool.specs.Pool.{Constant, Utf8, Integer, Float, Long, Double, Class, Text, Method, NameAndType, Handle, MethodType}
 use Rattle.dj_class.specs.ClassFile.{AttributeInfo, MemberInfo, ClassFile}
-use Rattle.dj_check.specs.Opcodes.{is_float_op}
+use Rattle.dj_check.specs.Opcodes.{is_float_op, is_float_base, is_short_literal, is_subroutine_jump}
 use Rattle.dj_check.specs.Floats.{IsFloating, HasFloat, IsFloatArray}
 use Rattle.dj_check.specs.Malformed.{LacksCode, HasNeedlessCode, FitsField, NamesValue}
 use Rattle.dj_check.specs.Classes.{IsReserved, IsReflective}
@@ -27,11 +27,22 @@ pool =
 
 -- ---- rule 12, opcodes
 
-float_ops : (is_float_op 11 ≡ true) × (is_float_op 15 ≡ true) × (is_float_op 24 ≡ true) × (is_float_op 57 ≡ true) × (is_float_op 99 ≡ true) × (is_float_op 119 ≡ true) × (is_float_op 144 ≡ true) × (is_float_op 152 ≡ true) × (is_float_op 174 ≡ true)
-float_ops = (refl, refl, refl, refl, refl, refl, refl, refl, refl)
+-- the first and the last of each group
+float_ops : map is_float_op (11 ∷ 15 ∷ 23 ∷ 24 ∷ 34 ∷ 41 ∷ 48 ∷ 49 ∷ 56 ∷ 57 ∷ 67 ∷ 74 ∷ 81 ∷ 82 ∷ 98 ∷ 99 ∷ 102 ∷ 103 ∷ 106 ∷ 107 ∷ 110 ∷ 111 ∷ 114 ∷ 115 ∷ 118 ∷ 119 ∷ 134 ∷ 135 ∷ 137 ∷ 144 ∷ 149 ∷ 152 ∷ 174 ∷ 175 ∷ []) ≡ replicate 34 true
+float_ops = refl
 
-float_ops_not : (is_float_op 10 ≡ false) × (is_float_op 16 ≡ false) × (is_float_op 22 ≡ false) × (is_float_op 25 ≡ false) × (is_float_op 97 ≡ false) × (is_float_op 100 ≡ false) × (is_float_op 136 ≡ false) × (is_float_op 145 ≡ false) × (is_float_op 148 ≡ false) × (is_float_op 153 ≡ false) × (is_float_op 173 ≡ false) × (is_float_op 176 ≡ false)
-float_ops_not = (refl, refl, refl, refl, refl, refl, refl, refl, refl, refl, refl, refl)
+-- those beside them
+float_ops_not : map is_float_op (10 ∷ 16 ∷ 22 ∷ 25 ∷ 33 ∷ 42 ∷ 47 ∷ 50 ∷ 55 ∷ 58 ∷ 66 ∷ 75 ∷ 80 ∷ 83 ∷ 97 ∷ 100 ∷ 101 ∷ 104 ∷ 105 ∷ 108 ∷ 109 ∷ 112 ∷ 113 ∷ 116 ∷ 117 ∷ 120 ∷ 133 ∷ 136 ∷ 145 ∷ 148 ∷ 153 ∷ 173 ∷ 176 ∷ []) ≡ replicate 33 false
+float_ops_not = refl
+
+float_bases : map is_float_base (5 ∷ 6 ∷ 7 ∷ 8 ∷ []) ≡ false ∷ true ∷ true ∷ false ∷ []
+float_bases = refl
+
+short_literals : map is_short_literal (17 ∷ 18 ∷ 19 ∷ 20 ∷ []) ≡ false ∷ true ∷ true ∷ false ∷ []
+short_literals = refl
+
+subroutine_jumps : map is_subroutine_jump (167 ∷ 168 ∷ 169 ∷ 200 ∷ 201 ∷ 202 ∷ []) ≡ false ∷ true ∷ false ∷ false ∷ true ∷ false ∷ []
+subroutine_jumps = refl
 
 -- ---- instructions
 

@@ -11,3 +11,6 @@ pub mod Marked
 pub mod Keys
 pub mod DoubleLaws
 mod Facts
+mod BodyFacts
+mod NameFacts
+mod RuleFacts

@@ -56,10 +56,6 @@ IsLoneLine file v =
 abbrev pub IsAmongLoneLines : List File → Violation → Type 0
 IsAmongLoneLines files v = (file : File) × Contains files file × IsLoneLine file v
 
--- all violations of the rules that a file is judged by alone, in order, each once
-abbrev pub AreLoneViolations : List File → List Violation → Type 0
-AreLoneViolations files = AreExactly (IsAmongLoneLines files)
-
 -- another file, at another place, is a class file of the same name
 pub record HasDouble (files : List File) (place : ℕ) (c : ClassFile) : Type 0 where
   pub other : ℕ

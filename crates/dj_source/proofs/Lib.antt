@@ -6,7 +6,12 @@ mod OrderLaws
 mod OrderSources
 mod Beginnings
 pub mod FaultLaws
+mod UnitLaws
+mod LineLaws
 mod ReadingFacts
+mod TableLaws
+mod BareTexts
+mod ReaderLaws
 mod Readers
 mod Choices
 mod WordLaws
@@ -15,10 +20,16 @@ mod Starts
 mod FieldReaders
 mod ListReaders
 mod FrameReaders
+mod FrameWords
 mod Opcodes
 mod ValueReaders
 mod OperationReaders
 mod Operations
+mod TypeLists
+mod LabelWords
+mod SwitchLists
+mod PairLists
+mod Directives
 mod LineOrder
 mod LineReaders
 mod TokenLaws
@@ -29,6 +40,8 @@ pub mod OneSource
 pub mod NumberLaws
 mod BodyFacts
 mod TextFacts
+mod DigitLaws
+pub mod UnreadLaws
 mod LabelLaws
 mod Sections
 pub mod LabelTextLaws

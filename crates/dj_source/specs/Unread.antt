@@ -1,0 +1,57 @@
+-- Lines that are left to read of a text.
+use Rattle.std.specs.Prelude.{◌≡◌, ℕ, ◌+◌, ⊤, List, [], length, map, Some, Result, Ok, Err}
+use Rattle.std.specs.List.{enumerate_from}
+use Rattle.std.specs.Str.Lines.{lines}
+use Rattle.dj_source.specs.declared.error.AsmError.{AsmError}
+use Rattle.dj_source.specs.declared.error.AsmError.TheVariants as asm_errors
+use Rattle.dj_source.specs.declared.unread.Row.{Row}
+use Rattle.dj_source.specs.declared.unread.Row.TheVariants as rows
+use Rattle.dj_source.specs.Words.{line_tokens}
+use Rattle.dj_source.specs.Order.{State}
+use Rattle.dj_source.specs.declared.reader.Stop.{Stop}
+use Rattle.dj_source.specs.declared.reader.Stop.TheVariants as stops
+use Rattle.dj_source.specs.declared.syntax.Line.{Line as TheLine}
+use Rattle.dj_source.specs.Lines.{Line}
+use Rattle.dj_source.specs.Reading.{Read}
+use Rattle.dj_source.specs.LineReading.{AreRead, missing, with_line, lines_from, lines_read}
+use Rattle.dj_source.specs.LineViews.{line_view}
+
+-- what may come, the number of the first of them, and their bytes
+pub record UnreadLines : Type 0 where
+  pub state : State
+  pub number : ℕ
+  pub rest : List ℕ
+
+-- the number after the last line
+abbrev pub end_number : UnreadLines → ℕ
+end_number u = length (lines u.rest) + u.number
+
+-- what they are
+abbrev pub read_left : UnreadLines → AreRead
+read_left u = lines_read (end_number u) (Some u.state) (map line_tokens (enumerate_from u.number (lines u.rest)))
+
+-- what they are after a line of which this is read
+abbrev pub read_after : UnreadLines → Read Line → AreRead
+read_after u read =
+    lines_from (end_number u) u.state read (λ next. lines_read (end_number u) next (map line_tokens (enumerate_from u.number (lines u.rest))))
+
+-- the error of a stop
+abbrev pub stop_fault : ℕ → Stop → AsmError
+stop_fault end (stops.Wrong line column) = asm_errors.Syntax line column
+stop_fault end (stops.Large line) = asm_errors.Large line
+stop_fault end stops.Missing = missing end
+stop_fault end stops.Memory = asm_errors.Memory
+
+-- a line, and those that are left now, or the fault
+abbrev pub GivesLine : AreRead → UnreadLines → Result TheLine AsmError → Type 0
+GivesLine whole new (Ok line) = whole ≡ with_line (line_view line) (read_left new)
+GivesLine whole new (Err asm_errors.Memory) = ⊤
+GivesLine whole new (Err e) = whole ≡ Err e
+
+-- what a row is, of the lines that were left and those that are left now
+abbrev pub GivesRow : UnreadLines → UnreadLines → Result Row AsmError → Type 0
+GivesRow old new (Ok (rows.Said number line)) = (number ≡ old.number) × (read_left old ≡ with_line (line_view line) (read_left new))
+GivesRow old new (Ok rows.Blank) = read_left old ≡ read_left new
+GivesRow old new (Ok rows.End) = read_left old ≡ Ok []
+GivesRow old new (Err asm_errors.Memory) = ⊤
+GivesRow old new (Err e) = read_left old ≡ Err e

@@ -1,0 +1,42 @@
+ghost use Rattle.std.specs.Prelude.{◌≡◌, [], ◌∷◌, ◌++◌, OnOk, OnErr};
+
+use crate::syntax::FrameType;
+use dj_names::NoMemory;
+use std::alloc::Global;
+use std::marker::Model;
+
+/// Types of a frame, in their order.
+#[derive(Drop)]
+pub struct FrameTypes<'t> {
+    items: Vec<FrameType<'t>>,
+}
+
+impl<'t> Model for FrameTypes<'t> {
+    ghost use Rattle.std.specs.Prelude.{List, map};
+    ghost use Rattle.dj_source.specs.Lines.{FrameType};
+    ghost use Rattle.dj_source.specs.TypeViews.{type_view};
+
+    ghost Value = { List FrameType };
+
+    ghost view = { λ types. map type_view types.items.items };
+}
+
+impl<'t> FrameTypes<'t> {
+    ghost use Rattle.dj_source.specs.TypeViews.{type_view};
+
+    /// No types.
+    pub(crate) fn new(alloc: Global) -> FrameTypes<'t>
+        ensures { result ≡ [] }
+    {
+        FrameTypes {
+            items: Vec::new(alloc),
+        }
+    }
+
+    /// Appends a type.
+    pub(crate) fn push(&mut self, ty: FrameType<'t>) -> Result<(), NoMemory>
+        ensures ok { OnOk result (self.new ≡ self.old ++ type_view ty.entry ∷ []) }
+    {
+        Ok(self.items.push(ty)?)
+    }
+}

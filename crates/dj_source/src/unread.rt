@@ -1,0 +1,152 @@
+ghost use Rattle.std.specs.Prelude.{◌≡◌, ◌+◌, ◌^◌, ◌<◌, ◌≤◌, ◌∷◌, [], length, List};
+ghost use Rattle.std.specs.Str.Lines.{lines};
+ghost use Rattle.dj_source.specs.Order.{AtClass};
+ghost use Rattle.dj_source.specs.LineReading.{line, missing, text_read};
+ghost use Rattle.dj_source.specs.Words.{Placed as PlacedToken};
+ghost use Rattle.dj_source.specs.Reading.{Got};
+ghost use Rattle.dj_source.specs.LineViews.{line_view};
+ghost use Rattle.dj_source.specs.Views.{placed_view, left_of};
+ghost use Rattle.dj_source.specs.StateViews.{state_view};
+ghost use Rattle.dj_source.specs.Unread.{UnreadLines, read_left, read_after, end_number, stop_fault, GivesLine, GivesRow};
+
+use crate::error::AsmError;
+use crate::line::{line_at, lines_after};
+use crate::one_line::line;
+use crate::reader::Stop;
+use crate::state::{State, after, is_final};
+use crate::syntax::Line;
+use crate::token::Placed;
+use crate::tokens::LineTokens;
+use std::alloc::Global;
+use std::marker::Model;
+
+/// A line of a text, as it is read.
+#[derive(Drop)]
+pub enum Row<'t> {
+    /// Its number and what it says.
+    Said(u32, Line<'t>),
+    /// It has no words.
+    Blank,
+    /// There is no line left, and the text may end here.
+    End,
+}
+
+/// The lines that are left to read of a text.
+#[derive(Drop)]
+pub struct Unread<'t> {
+    state: State,
+    number: u32,
+    rest: &'t [u8],
+    pub ghost counts: { 1 ≤ number },
+    pub ghost short: { number + length rest.now < 2 ^ 32 },
+}
+
+impl<'t> Model for Unread<'t> {
+    ghost use Rattle.dj_source.specs.StateViews.{state_view};
+    ghost use Rattle.dj_source.specs.Unread.{UnreadLines};
+
+    ghost Value = { UnreadLines };
+
+    ghost view = { λ u. record { state = state_view u.state; number = u.number; rest = u.rest.now } };
+}
+
+impl<'t> Unread<'t> {
+    /// All lines of a text.
+    pub fn new(text: &'t [u8]) -> Unread<'t>
+        requires { length text.now ≤ 4294967294 }
+        ensures { read_left result ≡ text_read text.now }
+    {
+        Unread {
+            state: State::Class,
+            number: 1,
+            rest: text,
+        }
+    }
+
+    /// Reads the next line, and answers the first fault of a text's words where they have one that ends here.
+    #[tactic(auto, using(crate::proofs::UnreadLaws::blank, crate::proofs::UnreadLaws::worded))]
+    pub fn row(&mut self, alloc: Global) -> Result<Row<'t>, AsmError>
+        ensures { GivesRow self.old self.new result }
+    {
+        match line_at(self.rest) {
+            Some((bytes, after)) => {
+                let number = self.number;
+                self.number = number + 1;
+                self.rest = after;
+                match LineTokens::first(number, bytes) {
+                    Some((first, at)) => Ok(Row::Said(number, self.said(alloc, first, at)?)),
+                    None => Ok(Row::Blank),
+                }
+            }
+            None => self.end(),
+        }
+    }
+
+    // The line of a first token and those after it, before the lines that are left.
+    #[tactic(auto, using(crate::proofs::UnreadLaws::stopped_line))]
+    fn said(
+        &mut self,
+        alloc: Global,
+        first: Placed<'t>,
+        at: LineTokens<'t>,
+    ) -> Result<Line<'t>, AsmError>
+        ensures { GivesLine (read_after self.old (line self.old.state (placed_view first.entry ∷ left_of at.entry))) self.new result }
+    {
+        match line(alloc, self.state, first, at) {
+            Ok((line, _)) => self.went_on(line),
+            Err(stop) => Err(self.fault(stop)),
+        }
+    }
+
+    // A line that was read, after which the state is another.
+    #[tactic(auto, using(crate::proofs::UnreadLaws::got_next, crate::proofs::UnreadLaws::got_last))]
+    fn went_on(&mut self, line: Line<'t>) -> Result<Line<'t>, AsmError>
+        ensures { (rest : List PlacedToken) → GivesLine (read_after self.old (Got (line_view line.entry) rest)) self.new result }
+    {
+        match after(self.state, &line) {
+            Some(state) => {
+                self.state = state;
+                Ok(line)
+            }
+            None => Err(self.missing()),
+        }
+    }
+
+    // The error of a stop.
+    fn fault(&self, stop: Stop) -> AsmError
+        ensures { result ≡ stop_fault (end_number self.now) stop }
+    {
+        match stop {
+            Stop::Wrong { line, column } => AsmError::Syntax { line, column },
+            Stop::Large { line } => AsmError::Large { line },
+            Stop::Missing => self.missing(),
+            Stop::Memory => AsmError::Memory,
+        }
+    }
+
+    // A line is missing after the last one.
+    fn missing(&self) -> AsmError
+        ensures { result ≡ missing (end_number self.now) }
+    {
+        AsmError::Syntax {
+            line: lines_after(self.number, self.rest),
+            column: 1,
+        }
+    }
+
+    // Where no line is left.
+    #[tactic(auto, using(crate::proofs::UnreadLaws::ended))]
+    fn end(&self) -> Result<Row<'t>, AsmError>
+        requires { lines self.now.rest ≡ [] }
+        ensures { GivesRow self.now self.now result }
+    {
+        if is_final(self.state) {
+            Ok(Row::End)
+        } else {
+            Err(AsmError::Syntax {
+                line: self.number,
+                column: 1,
+            })
+        }
+    }
+}
