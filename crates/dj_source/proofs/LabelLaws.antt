@@ -15,7 +15,7 @@ use Rattle.dj_source.specs.LabelReading.{Mark, Marks, defined_by, with_mark, num
 
 -- ---- what the rows of a table say
 
-abbrev mark : ℕ → ℕ → Mark
+abbrev pub mark : ℕ → ℕ → Mark
 mark place number = record { place = place; number = number }
 
 abbrev labelled : Label → Line
@@ -109,7 +109,7 @@ module _ (body : List Line) where
       ap (λ ls. row_of (marks_of ls) label) first.parts ∙ first_row label first.front first.rest first.others
 
   -- a row tells what the label stands for
-  row_sound : (label : Label) (m : Mark) → row_of (marks_of body) label ≡ Some m → IsLabelAt body label m.number
+  pub row_sound : (label : Label) (m : Mark) → row_of (marks_of body) label ≡ Some m → IsLabelAt body label m.number
   row_sound label m e = by (first_or_none body label) where
     by : IsFirst body label ⊎ AreOthers label body → IsLabelAt body label m.number
     by (inl first) = record {
@@ -122,7 +122,7 @@ module _ (body : List Line) where
     by (inr none) = absurd (none_or_some m (sym (no_row label 0 0 body none) ∙ e))
 
   -- what a label stands for has a row
-  row_whole : (label : Label) (number : ℕ) (at : IsLabelAt body label number) → row_of (marks_of body) label ≡ Some (mark (length at.front) number)
+  pub row_whole : (label : Label) (number : ℕ) (at : IsLabelAt body label number) → row_of (marks_of body) label ≡ Some (mark (length at.front) number)
   row_whole label number at =
       row_first label (record { front = at.front; rest = at.rest; parts = at.parts; others = at.first })
       ∙ ap (λ n. Some (mark (length at.front) n)) (sym at.number_is)

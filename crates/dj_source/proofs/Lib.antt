@@ -46,3 +46,5 @@ mod LabelLaws
 mod Sections
 pub mod LabelTextLaws
 mod LabelFacts
+mod LabelTables
+mod Labellings

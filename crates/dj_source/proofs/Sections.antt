@@ -5,13 +5,9 @@ use Rattle.std.proofs.lemmas.Bool.{and_parts, and_from, not-false}
 use Rattle.std.proofs.lemmas.List.{append_assoc, take-append-drop}
 use Rattle.dj_source.specs.Lines.{Line, Aside, Class, Super, Implements, Abstract, Method, Stack, Locals, Beside, Does, End}
 use Rattle.dj_source.specs.Sources.{Source, FieldSource, Part, Mark, Step, FrameStep, MethodSource, Bodiless, Coded, version_lines, field_line, body_lines, method_lines, head_lines, lines_of}
-use Rattle.dj_source.specs.LabelReading.{begins_method, is_cut, with_line_first, sections_of}
+use Rattle.dj_source.specs.LabelReading.{begins_method, is_cut, with_line_first, sections_of, is_inside, section_size}
 
 -- ---- one section, and those after it
-
--- it begins no method
-abbrev pub is_inside : Line → Bool
-is_inside line = not (begins_method line)
 
 cut_first : (b : Bool) → b ≡ true → (line : Line) (sections : List (List Line)) → with_line_first b line sections ≡ (line ∷ []) ∷ sections
 cut_first true e line sections = refl
@@ -86,11 +82,6 @@ source_sections s =
     ∙ ap (λ sections. head_lines s ∷ sections) (method_sections s.methods)
 
 -- ---- the first section, counted
-
--- how many lines the first section has
-abbrev pub section_size : List Line → ℕ
-section_size [] = 0
-section_size (line ∷ lines) = 1 + prefix_len is_inside lines
 
 suc_is : (n : ℕ) → suc n ≡ 1 + n
 suc_is n = omega arith

@@ -1,7 +1,7 @@
 -- The readers' vocabulary: labels, by two passes over the lines of each method. One collects its labels, the other asks each line what it names.
 -- Clauses of the crate's own functions cite it, and no public one; proofs/LabelTextLaws says that what it finds is the text's fault.
 use Rattle.std.specs.Prelude.{ℕ, suc, ◌+◌, ◌||◌, Bool, true, false, not, List, [], ◌∷◌, length, Option, Some, None, Ok, Err, slice_get, nat_lt, if◌then◌else◌}
-use Rattle.std.specs.List.{list_all}
+use Rattle.std.specs.List.{list_all, prefix_len}
 use Rattle.std.specs.Option.{option_map}
 use Rattle.dj_source.specs.declared.error.AsmError.{AsmError}
 use Rattle.dj_source.specs.declared.error.AsmError.TheVariants as asm_errors
@@ -96,6 +96,15 @@ with_line_first cut line sections = (line ∷ []) ∷ sections
 unfoldable pub sections_of : List Line → List (List Line)
 sections_of [] = []
 sections_of (line ∷ lines) = with_line_first (is_cut lines) line (sections_of lines)
+
+-- it begins no method
+abbrev pub is_inside : Line → Bool
+is_inside line = not (begins_method line)
+
+-- how many lines the first section has
+abbrev pub section_size : List Line → ℕ
+section_size [] = 0
+section_size (line ∷ lines) = 1 + prefix_len is_inside lines
 
 unfoldable pub mislabelled_after : ℕ → List (List Line) → Option ℕ
 mislabelled_after before [] = None

@@ -10,6 +10,8 @@ pub mod Views
 pub mod Strings
 pub mod Reading
 pub mod LineReading
+pub mod LabelReading
+pub mod LabelViews
 pub mod Tables
 pub mod Numbers
 pub mod NumberViews
@@ -26,4 +28,3 @@ pub mod LineStarts
 pub mod StateViews
 pub mod Laws
 pub mod Unread
-pub mod LabelReading

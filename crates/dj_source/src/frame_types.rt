@@ -1,4 +1,4 @@
-ghost use Rattle.std.specs.Prelude.{◌≡◌, [], ◌∷◌, ◌++◌, OnOk, OnErr};
+ghost use Rattle.std.specs.Prelude.{◌≡◌, [], ◌∷◌, ◌++◌, map, OnOk, OnErr};
 
 use crate::syntax::FrameType;
 use dj_names::NoMemory;
@@ -31,6 +31,13 @@ impl<'t> FrameTypes<'t> {
         FrameTypes {
             items: Vec::new(alloc),
         }
+    }
+
+    /// The types.
+    pub(crate) fn as_slice(&self) -> &[FrameType<'t>]
+        ensures { map type_view result.now ≡ self.now }
+    {
+        &self.items
     }
 
     /// Appends a type.

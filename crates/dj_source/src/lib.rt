@@ -12,6 +12,8 @@ mod frame_type;
 mod frame_types;
 mod head;
 mod label;
+mod label_table;
+mod labelling;
 mod laws;
 mod line;
 mod mnemonic;

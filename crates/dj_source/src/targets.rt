@@ -1,4 +1,4 @@
-ghost use Rattle.std.specs.Prelude.{◌≡◌, [], ◌∷◌, ◌++◌, OnOk};
+ghost use Rattle.std.specs.Prelude.{◌≡◌, [], ◌∷◌, ◌++◌, map, OnOk};
 
 use crate::token::Word;
 use dj_names::NoMemory;
@@ -31,6 +31,13 @@ impl<'t> Labels<'t> {
         Labels {
             items: Vec::new(alloc),
         }
+    }
+
+    /// The labels' words.
+    pub(crate) fn as_slice(&self) -> &[Word<'t>]
+        ensures { map units_of result.now ≡ self.now }
+    {
+        &self.items
     }
 
     /// Appends a label.
@@ -66,6 +73,7 @@ impl<'t> Model for Pairs<'t> {
 
 impl<'t> Pairs<'t> {
     ghost use Rattle.dj_source.specs.Views.{units_of};
+    ghost use Rattle.dj_source.specs.PairViews.{pair_view};
 
     /// No pairs.
     pub(crate) fn new(alloc: Global) -> Pairs<'t>
@@ -74,6 +82,13 @@ impl<'t> Pairs<'t> {
         Pairs {
             items: Vec::new(alloc),
         }
+    }
+
+    /// The pairs.
+    pub(crate) fn as_slice(&self) -> &[Pair<'t>]
+        ensures { map pair_view result.now ≡ self.now }
+    {
+        &self.items
     }
 
     /// Appends a match with its target.
