@@ -22,3 +22,13 @@ pub mod NamedEntries
 pub mod Counts
 pub mod StackSizes
 pub mod ValidFile
+pub mod KeyLaws
+pub mod PoolingLaws
+pub mod PoolSteps
+pub mod TextNumbers
+pub mod PoolChains
+pub mod PoolOnce
+pub mod PoolEntries
+pub mod NeedSteps
+pub mod PoolRoom
+mod PoolFacts

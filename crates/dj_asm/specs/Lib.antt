@@ -5,3 +5,6 @@ pub mod Files
 pub mod Large
 pub mod Texts
 pub mod Laws
+pub mod Keys
+pub mod Pooling
+pub mod PoolNeeds

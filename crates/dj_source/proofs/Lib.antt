@@ -11,6 +11,7 @@ mod LineLaws
 mod ReadingFacts
 mod TableLaws
 mod BareTexts
+mod QuotedLaws
 mod ReaderLaws
 mod Readers
 mod Choices

@@ -23,6 +23,7 @@ mod operand;
 mod operation;
 mod piece;
 mod place;
+mod quoted;
 mod reader;
 mod spelling;
 mod start;

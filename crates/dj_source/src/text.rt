@@ -100,7 +100,7 @@ fn encoded(alloc: Global, bytes: &[u8]) -> Result<Name, NoMemory>
 }
 
 /// Appends a unit's spelling.
-fn push_unit(text: &mut Name, unit: u16) -> Result<(), NoMemory>
+pub(crate) fn push_unit(text: &mut Name, unit: u16) -> Result<(), NoMemory>
     ensures { OnOk result (text.new ≡ text.old ++ unit_text unit) }
 {
     if 1 <= unit && unit <= 127 {
