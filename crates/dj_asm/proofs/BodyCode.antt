@@ -25,13 +25,13 @@ use Rattle.dj_layout.proofs.Decided.{layout_or_fault_is}
 use Rattle.dj_class.specs.Code.{CodeInfo}
 use Rattle.dj_source.specs.Lines.{Label, Operation, Plain, Push, Local, Increment, Load, LoadLong, Jump, Table, Lookup, Member, Dynamic, ClassOf, Array, Multi, Catch, Line, Method, Stack, Locals, Beside, Does, End, IsFieldUse, IsMethodUse, IsOperation, IsLine}
 use Rattle.dj_source.specs.Sources.{Source, Part, body_lines}
-use Rattle.dj_source.specs.Labels.{instruction_count, AtInstruction, operation_uses, uses_of, AreMethodLines, IsMislabelled}
-use Rattle.dj_asm.specs.Entries.{Entry}
-use Rattle.dj_asm.specs.Needs.{member_entry, index_in}
-use Rattle.dj_asm.specs.Codes.{Places, label_number, target_of, IsMemberInstr, is_interface_call, IsInstrOf, operation_in, AreInstrsOf, ranges_in, stack_map_of, frames_in, IsCodeOf}
+use Rattle.dj_source.specs.Labels.{instruction_count, AtInstruction, operation_uses, uses_of, AreMethodLines, IsMislabelled, label_number}
+use Rattle.dj_entries.specs.Entries.{Entry}
+use Rattle.dj_entries.specs.Needs.{member_entry, index_in}
+use Rattle.dj_asm.specs.Codes.{Places, target_of, IsMemberInstr, is_interface_call, IsInstrOf, operation_in, AreInstrsOf, ranges_in, stack_map_of, frames_in, IsCodeOf}
 use Rattle.dj_asm.specs.Files.{places_of}
 use Rattle.dj_asm.specs.Large.{IsImproper, IsFarJump, IsEndOfLongCode}
-use Rattle.dj_asm.specs.Texts.{NoLine}
+use Rattle.dj_entries.specs.Room.{NoLine}
 use Rattle.dj_asm.proofs.Deciding.{stable, proper_or_not}
 use Rattle.dj_asm.proofs.BodyLabels.{count_cons, count_append, coded_lines, same_places, same_in, IsNumbered, uses_numbered}
 
@@ -163,7 +163,7 @@ module _ (index : Entry → ℕ) (body : List Line) where
   targets_within (Member op class name desc marked) i is h = member_within (is_interface_call op) op (places.index (member_entry op class name desc marked)) desc i is
   targets_within o i is h = subst (HasNumbers count) (sym is) tt
 
-  ranges_within : (front rest : List Line) → body ≡ front ++ rest → ((before : List Line) (line : Line) (after : List Line) → body ≡ before ++ line ∷ after → AllByRecursion (IsNumbered body) (uses_of line))
+  pub ranges_within : (front rest : List Line) → body ≡ front ++ rest → ((before : List Line) (line : Line) (after : List Line) → body ≡ before ++ line ∷ after → AllByRecursion (IsNumbered body) (uses_of line))
       → AllByRecursion (IsRange count) (flat_map (ranges_in places) rest)
   ranges_within front [] e met = tt
   ranges_within front (Beside (Catch class from to handler) ∷ rest) e met =

@@ -9,9 +9,10 @@ use Rattle.dj_layout.specs.declared.laid.Laid.{Laid}
 use Rattle.dj_layout.specs.Layouts.{IsLaidOut}
 use Rattle.dj_frames.specs.Written.{frames_bytes}
 use Rattle.dj_source.specs.Lines.{Label, Same, Plain, Jump, Labelled as Marked, Catch, Line, Beside, Framed, Does}
-use Rattle.dj_asm.specs.Entries.{Class, index_of}
-use Rattle.dj_asm.specs.Needs.{stack_map_name}
-use Rattle.dj_asm.specs.Codes.{label_number, frames_in, IsCodeOf}
+use Rattle.dj_source.specs.Labels.{label_number}
+use Rattle.dj_entries.specs.Entries.{Class, index_of}
+use Rattle.dj_entries.specs.Needs.{stack_map_name}
+use Rattle.dj_asm.specs.Codes.{frames_in, IsCodeOf}
 use Rattle.dj_asm.specs.Files.{places_of}
 
 abbrev a : Label

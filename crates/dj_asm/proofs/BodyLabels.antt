@@ -8,11 +8,10 @@ use Rattle.std.proofs.lemmas.List.Concat.{flat_map-append}
 use Rattle.dj_names.specs.Types.{same_name}
 use Rattle.dj_source.specs.Lines.{Label, Labelled as Marked, Line, Method, Stack, Locals, Beside, End}
 use Rattle.dj_source.specs.Sources.{Source, Part, Coded, body_lines, method_lines}
-use Rattle.dj_source.specs.Labels.{is_instruction, instruction_count, IsLabelAt, Use, AtInstruction, Range, uses_of, IsMet, AreMethodLines, IsMislabelled}
-use Rattle.dj_asm.specs.Entries.{Entry}
-use Rattle.dj_asm.specs.Codes.{marks, label_number}
+use Rattle.dj_source.specs.Labels.{is_instruction, instruction_count, IsLabelAt, Use, AtInstruction, Range, uses_of, IsMet, AreMethodLines, IsMislabelled, marks, label_number}
+use Rattle.dj_entries.specs.Entries.{Entry}
 use Rattle.dj_asm.specs.Files.{places_of}
-use Rattle.dj_asm.specs.Texts.{NoLine}
+use Rattle.dj_entries.specs.Room.{NoLine}
 use Rattle.dj_asm.proofs.Deciding.{Is, stable, both, below, at_most, each}
 
 -- ---- counts

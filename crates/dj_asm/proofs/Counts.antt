@@ -9,7 +9,7 @@ use Rattle.dj_source.specs.Lines.{Line, Class, Super, Implements, Abstract, Meth
 use Rattle.dj_source.specs.Sources.{Source, MethodSource, Bodiless, Coded, version_lines, field_line, body_lines, head_lines, method_lines, lines_of}
 use Rattle.dj_asm.specs.Codes.{Places, ranges_in}
 use Rattle.dj_asm.specs.Large.{most_lines, is_interface, is_field, is_method, is_catch, IsOneTooMany, count_before, IsPastTable}
-use Rattle.dj_asm.specs.Texts.{NoLine}
+use Rattle.dj_entries.specs.Room.{NoLine}
 
 module _ (is_such : Line → Bool) where
   count_first : (line : Line) (more : List Line) → count_by is_such (line ∷ more) ≡ cond (is_such line) 1 0 + count_by is_such more

@@ -11,8 +11,8 @@ use Rattle.dj_class.specs.ClassFile.{MemberInfo, ClassFile, class_bytes}
 use Rattle.dj_class.specs.Code.{CodeInfo}
 use Rattle.dj_source.specs.Lines.{LongValue, Plain}
 use Rattle.dj_source.specs.Sources.{Source, Step, Bodiless, Coded, body_lines}
-use Rattle.dj_asm.specs.Entries.{each_once, index_of}
-use Rattle.dj_asm.specs.Needs.{methods_needs, index_in}
+use Rattle.dj_entries.specs.Entries.{each_once, index_of}
+use Rattle.dj_entries.specs.Needs.{methods_needs, index_in}
 use Rattle.dj_asm.specs.Codes.{frames_in, IsCodeOf}
 use Rattle.dj_asm.specs.Files.{places_of, IsFileOf}
 

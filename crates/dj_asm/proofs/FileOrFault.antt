@@ -10,7 +10,8 @@ use Rattle.dj_source.specs.Labels.{IsMislabelled, LabelFault, line_numbers}
 use Rattle.dj_source.proofs.TextLaws.{word_fault_or_text}
 use Rattle.dj_source.proofs.NumberLaws.{as_many_lines}
 use Rattle.dj_asm.specs.Large.{IsTooLarge}
-use Rattle.dj_asm.specs.Texts.{NoLine, IsTextOfBytes, TextFault}
+use Rattle.dj_entries.specs.Room.{NoLine}
+use Rattle.dj_asm.specs.Texts.{IsTextOfBytes, TextFault}
 use Rattle.dj_asm.proofs.SourceFile.{all_fit_of, has_file}
 use Rattle.dj_asm.proofs.Search.{HasLeast, least_or_none}
 use Rattle.dj_asm.proofs.LargeDecided.{large_or_not, large_within}

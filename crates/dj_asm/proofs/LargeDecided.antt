@@ -14,15 +14,16 @@ use Rattle.dj_layout.specs.Faults.{Reaches}
 use Rattle.dj_source.specs.Lines.{Frame, Full, Operation, Line, Framed, Does, End, IsLine}
 use Rattle.dj_source.specs.Sources.{Source, MethodSource, head_lines, method_lines, lines_of, IsSource}
 use Rattle.dj_source.specs.Labels.{instruction_count}
-use Rattle.dj_asm.specs.Entries.{Entry, with_parts}
-use Rattle.dj_asm.specs.Needs.{Need, needs_at, needs, method_needs, methods_needs, needs_of, index_in, head_entries, instruction_entries, catch_entries, stack_map_entries, frame_entries}
+use Rattle.dj_entries.specs.Entries.{Entry, with_parts}
+use Rattle.dj_entries.specs.Needs.{Need, needs_at, needs, method_needs, methods_needs, needs_of, index_in, head_entries, instruction_entries, catch_entries, stack_map_entries, frame_entries}
 use Rattle.dj_asm.specs.Codes.{IsInstrOf, AreInstrsOf}
 use Rattle.dj_asm.specs.Files.{places_of}
-use Rattle.dj_asm.specs.Large.{HasRoom, IsPastPool, IsMethodLine, IsImproper, IsFarJump, IsEndOfLongCode, most_lines, is_interface, is_field, is_method, is_catch, IsOneTooMany, count_before, IsPastTable, IsPastCatches, HasLongLists, IsLongFrame, IsTooLarge}
-use Rattle.dj_asm.proofs.Members.{each_in, each_append, each_first, each_last}
+use Rattle.dj_entries.specs.Room.{HasRoom, IsPastPool}
+use Rattle.dj_asm.specs.Large.{IsMethodLine, IsImproper, IsFarJump, IsEndOfLongCode, most_lines, is_interface, is_field, is_method, is_catch, IsOneTooMany, count_before, IsPastTable, IsPastCatches, HasLongLists, IsLongFrame, IsTooLarge}
+use Rattle.dj_entries.proofs.Members.{each_in, each_append, each_first, each_last}
 use Rattle.dj_asm.proofs.Deciding.{Is, both, either, not_so, either_way, below, at_most, so, proper_or_not, offsets_or_not}
 use Rattle.dj_asm.proofs.OneFile.{one_instr, one_code}
-use Rattle.dj_asm.proofs.SourcePool.{room_or_not}
+use Rattle.dj_entries.proofs.SourcePool.{room_or_not}
 use Rattle.dj_asm.proofs.BodyCode.{instr_of, instrs_of}
 use Rattle.dj_asm.proofs.SourceFile.{methods_allowed}
 use Rattle.dj_asm.proofs.Search.{some_in, IsCutSo, cut_or_not, at_or_not}

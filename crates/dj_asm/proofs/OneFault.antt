@@ -9,7 +9,8 @@ use Rattle.dj_source.specs.Labels.{IsMislabelled, LabelFault, line_numbers}
 use Rattle.dj_source.proofs.FaultLaws.{no_fault_of_text, one_word_fault}
 use Rattle.dj_source.proofs.OneSource.{one_source}
 use Rattle.dj_asm.specs.Large.{IsTooLarge}
-use Rattle.dj_asm.specs.Texts.{NoLine, IsTextOfBytes, LargeFault, TextFault}
+use Rattle.dj_entries.specs.Room.{NoLine}
+use Rattle.dj_asm.specs.Texts.{IsTextOfBytes, LargeFault, TextFault}
 
 -- ---- no fault of a file's text
 

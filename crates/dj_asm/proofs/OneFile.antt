@@ -17,8 +17,8 @@ use Rattle.dj_class.specs.Code.{CodeInfo, code_info_bytes}
 use Rattle.dj_source.specs.Lines.{Operation, Member, Line}
 use Rattle.dj_source.specs.Sources.{Source, MethodSource, Bodiless, Coded, body_lines}
 use Rattle.dj_source.proofs.OneSource.{one_source}
-use Rattle.dj_asm.specs.Entries.{Entry, Utf8, pool_of}
-use Rattle.dj_asm.specs.Needs.{member_entry, code_name, entries_of, index_in}
+use Rattle.dj_entries.specs.Entries.{Entry, Utf8, pool_of}
+use Rattle.dj_entries.specs.Needs.{member_entry, code_name, entries_of, index_in}
 use Rattle.dj_asm.specs.Codes.{Places, IsInterfaceCall, IsMemberInstr, is_interface_call, IsInstrOf, operation_in, AreInstrsOf, stack_map_of, frames_in, IsCodeOf}
 use Rattle.dj_asm.specs.Files.{field_of, places_of, IsMethodOf, major_of, minor_of, class_index, IsFileOf}
 use Rattle.dj_asm.specs.Texts.{IsTextOfBytes}

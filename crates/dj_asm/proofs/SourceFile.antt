@@ -6,12 +6,12 @@ use Rattle.dj_class.specs.Code.{code_info_bytes}
 use Rattle.dj_source.specs.Lines.{IsLine}
 use Rattle.dj_source.specs.Sources.{Source, MethodSource, Bodiless, Coded, method_lines, head_lines, IsSource}
 use Rattle.dj_source.specs.Labels.{AreMethodLines, IsMislabelled}
-use Rattle.dj_asm.specs.Entries.{Utf8, pool_of}
-use Rattle.dj_asm.specs.Needs.{code_name, entries_of, index_in}
+use Rattle.dj_entries.specs.Entries.{Utf8, pool_of}
+use Rattle.dj_entries.specs.Needs.{code_name, entries_of, index_in}
 use Rattle.dj_asm.specs.Files.{field_of, IsMethodOf, major_of, minor_of, class_index, IsFileOf}
-use Rattle.dj_asm.specs.Large.{IsPastPool, IsImproper, IsFarJump, IsEndOfLongCode, IsPastTable, IsPastCatches, IsLongFrame, IsTooLarge}
-use Rattle.dj_asm.specs.Texts.{NoLine}
-use Rattle.dj_asm.proofs.Members.{each_first, each_last}
+use Rattle.dj_entries.specs.Room.{IsPastPool, NoLine}
+use Rattle.dj_asm.specs.Large.{IsImproper, IsFarJump, IsEndOfLongCode, IsPastTable, IsPastCatches, IsLongFrame, IsTooLarge}
+use Rattle.dj_entries.proofs.Members.{each_first, each_last}
 use Rattle.dj_asm.proofs.BodyCode.{has_code}
 
 -- ---- all fits

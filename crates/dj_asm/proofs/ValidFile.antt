@@ -19,17 +19,17 @@ use Rattle.dj_class.specs.Code.{CodeInfo, row_bytes, code_info_bytes}
 use Rattle.dj_source.specs.Lines as lines
 use Rattle.dj_source.specs.Lines.{Value, Line, Super, Implements, Abstract, Stack, Locals, Beside, End, IsLine}
 use Rattle.dj_source.specs.Sources.{Source, FieldSource, MethodSource, Bodiless, Coded, Part, version_lines, field_line, body_lines, head_lines, method_lines, lines_of, line_items, IsTextOf}
-use Rattle.dj_asm.specs.Entries.{Utf8, Class, pool_of}
-use Rattle.dj_asm.specs.Needs.{code_name, constant_value_name, stack_map_name, value_entries, entries_of, index_in}
+use Rattle.dj_entries.specs.Entries.{Utf8, Class, pool_of}
+use Rattle.dj_entries.specs.Needs.{code_name, constant_value_name, stack_map_name, value_entries, entries_of, index_in}
 use Rattle.dj_asm.specs.Codes.{Places, frames_in, stack_map_of, IsCodeOf}
 use Rattle.dj_asm.specs.Files.{value_attribute, field_of, places_of, IsMethodOf, major_of, minor_of, class_index, IsFileOf}
 use Rattle.dj_asm.specs.Large.{most_lines, is_catch}
 use Rattle.dj_asm.specs.Texts.{IsTextOfBytes}
-use Rattle.dj_asm.proofs.Members.{in_here, in_rest, in_map, each_in, each_from, each_first, each_last}
-use Rattle.dj_asm.proofs.RightEntries.{Good, place_fits}
-use Rattle.dj_asm.proofs.SourcePool.{lines_good, pool_is_well_formed}
+use Rattle.dj_entries.proofs.Members.{in_here, in_rest, in_map, each_in, each_from, each_first, each_last}
+use Rattle.dj_entries.proofs.RightEntries.{Good, place_fits}
+use Rattle.dj_entries.proofs.SourcePool.{lines_good, pool_is_well_formed}
 use Rattle.dj_asm.proofs.SourceFile.{AllFit, all_fit_of, method_at}
-use Rattle.dj_asm.proofs.NamedEntries.{head_has_entry, text_named, class_named}
+use Rattle.dj_entries.proofs.NamedEntries.{head_has_entry, text_named, class_named}
 use Rattle.dj_asm.proofs.Counts.{count_both, count_fits, few_interfaces, few_fields, few_methods, ranges_counted}
 use Rattle.dj_asm.proofs.StackSizes.{weight, sentence_least, stack_map_is_short, part_least}
 

@@ -1,7 +1,7 @@
 -- The Code attribute of a body: its instructions, ranges and frames by the numbers of instructions, and the bytes (JVMS 4.7.3 and 4.7.4).
-use Rattle.std.specs.Prelude.{◌≡◌, ◌==◌, ℕ, ◌+◌, Bool, true, false, not, ℤ, pos, unsigned_abs, List, [], ◌∷◌, take, map, Option, Some, None, codes, bytes_eq, if◌then◌else◌}
-use Rattle.std.specs.List.{flat_map, prefix_len, AllZip}
-use Rattle.dj_names.specs.Types.{Name, same_name}
+use Rattle.std.specs.Prelude.{◌≡◌, ◌==◌, ℕ, ◌+◌, Bool, true, false, ℤ, pos, unsigned_abs, List, [], ◌∷◌, map, Option, Some, None, codes, bytes_eq, if◌then◌else◌}
+use Rattle.std.specs.List.{flat_map, AllZip}
+use Rattle.dj_names.specs.Types.{Name}
 use Rattle.dj_names.specs.Descriptors.{Describes, slots_of}
 use Rattle.dj_names.specs.declared.descriptor.Desc.{Desc}
 use Rattle.dj_ops.specs.declared.instruction.Instr.{Instr}
@@ -18,26 +18,15 @@ use Rattle.dj_layout.specs.Layouts.{IsLaidOut}
 use Rattle.dj_frames.specs.Written.{stack_map_bytes}
 use Rattle.dj_class.specs.ClassFile.{AttributeInfo}
 use Rattle.dj_class.specs.Code.{CodeInfo}
-use Rattle.dj_source.specs.Lines.{Label, FrameType, Simple, Object, New, Frame, Same, Stack1, Chop, Append, Full, Operation, Plain, Push, Local, Increment, Load, LoadLong, Jump, Table, Lookup, Member, Dynamic, ClassOf, Array, Multi, Labelled as Marked, Catch, Line, Beside, Framed, Does}
-use Rattle.dj_source.specs.Labels.{instruction_count}
-use Rattle.dj_asm.specs.Entries as entries
-use Rattle.dj_asm.specs.Entries.{Entry}
-use Rattle.dj_asm.specs.Needs.{literal_entry, member_entry, stack_map_name}
+use Rattle.dj_source.specs.Lines.{Label, FrameType, Simple, Object, New, Frame, Same, Stack1, Chop, Append, Full, Operation, Plain, Push, Local, Increment, Load, LoadLong, Jump, Table, Lookup, Member, Dynamic, ClassOf, Array, Multi, Catch, Line, Beside, Framed, Does}
+use Rattle.dj_entries.specs.Entries as entries
+use Rattle.dj_entries.specs.Entries.{Entry}
+use Rattle.dj_entries.specs.Needs.{literal_entry, member_entry, stack_map_name}
 
 -- where labels stand, and where entries
 pub record Places : Type 0 where
   pub number : Label → ℕ
   pub index : Entry → ℕ
-
--- ---- labels
-
-abbrev pub marks : Label → Line → Bool
-marks label (Beside (Marked other)) = same_name other label
-marks label line = false
-
--- the number of the instruction before which the label stands: so many are before its line
-unfoldable pub label_number : List Line → Label → ℕ
-label_number body label = instruction_count (take (prefix_len (λ line. not (marks label line)) body) body)
 
 -- ---- instructions
 

@@ -6,9 +6,10 @@ use Rattle.dj_class.specs.Code.{CodeInfo, code_info_bytes}
 use Rattle.dj_bytes.specs.Spelling.{u2}
 use Rattle.dj_source.specs.Lines.{Line, Value}
 use Rattle.dj_source.specs.Sources.{Source, FieldSource, MethodSource, Bodiless, Coded, body_lines}
-use Rattle.dj_asm.specs.Entries.{Entry, Utf8, Class, pool_of}
-use Rattle.dj_asm.specs.Needs.{value_entry, code_name, constant_value_name, entries_of, index_in}
-use Rattle.dj_asm.specs.Codes.{Places, label_number, IsCodeOf}
+use Rattle.dj_source.specs.Labels.{label_number}
+use Rattle.dj_entries.specs.Entries.{Entry, Utf8, Class, pool_of}
+use Rattle.dj_entries.specs.Needs.{value_entry, code_name, constant_value_name, entries_of, index_in}
+use Rattle.dj_asm.specs.Codes.{Places, IsCodeOf}
 
 -- JVMS 4.7.2: the ConstantValue of a field
 abbrev pub value_attribute : (Entry → ℕ) → Option Value → List AttributeInfo

@@ -1,5 +1,5 @@
 -- Lines whose instruction, entry, jump, code or count doesn't fit a class file.
-use Rattle.std.specs.Prelude.{◌≡◌, ℕ, ◌+◌, ◌^◌, ◌<◌, ◌≤◌, ◌⊎◌, Bool, true, false, List, ◌∷◌, ◌++◌, length, take, Contains, Some, slice_get}
+use Rattle.std.specs.Prelude.{◌≡◌, ℕ, ◌+◌, ◌<◌, ◌≤◌, ◌⊎◌, Bool, true, false, List, ◌∷◌, ◌++◌, length, take, Some, slice_get}
 use Rattle.std.specs.List.{count_by}
 use Rattle.dj_ops.specs.declared.instruction.Instr.{Instr}
 use Rattle.dj_ops.specs.Instructions.{IsProper}
@@ -9,29 +9,10 @@ use Rattle.dj_layout.specs.Faults.{Reaches}
 use Rattle.dj_source.specs.Lines.{Frame, Full, Operation, Catch, Line, Implements, Field, Abstract, Method, Beside, Framed, Does, End}
 use Rattle.dj_source.specs.Sources.{Source, lines_of}
 use Rattle.dj_source.specs.Labels.{instruction_count, AreMethodLines}
-use Rattle.dj_asm.specs.Entries.{Entry, Utf8, width}
-use Rattle.dj_asm.specs.Needs.{Need, needs_of, index_in}
+use Rattle.dj_entries.specs.Needs.{index_in}
+use Rattle.dj_entries.specs.Room.{IsPastPool}
 use Rattle.dj_asm.specs.Codes.{IsInstrOf, AreInstrsOf}
 use Rattle.dj_asm.specs.Files.{places_of}
-
--- ---- entries
-
--- JVMS 4.4.7: a text has at most 65,535 bytes
-abbrev pub IsShort : Entry → Type 0
-IsShort (Utf8 text) = length text < 2 ^ 16
-IsShort entry = Unit {0}
-
--- JVMS 4.1, constant_pool_count: the last index of an entry is at most 65,534
-pub record HasRoom (index : ℕ) (entry : Entry) : Type 0 where
-  pub short : IsShort entry
-  pub last : index + width entry ≤ 65535
-
--- the line needs an entry that has no room
-pub record IsPastPool (s : Source) (place : ℕ) : Type 0 where
-  pub need : Need
-  pub needed : Contains (needs_of s) need
-  pub place_is : need.place ≡ place
-  pub no_room : HasRoom (index_in s need.entry) need.entry → ⊥
 
 -- ---- instructions and code
 

@@ -1,10 +1,5 @@
-pub mod Entries
-pub mod Needs
 pub mod Codes
 pub mod Files
 pub mod Large
 pub mod Texts
 pub mod Laws
-pub mod Keys
-pub mod Pooling
-pub mod PoolNeeds

@@ -6,12 +6,9 @@ use Rattle.dj_source.specs.Sources.{Source, IsTextOf}
 use Rattle.dj_source.specs.Faults.{WordFault}
 use Rattle.dj_source.specs.Labels.{IsMislabelled, LabelFault, line_numbers}
 use Rattle.dj_class.specs.ClassFile.{ClassFile, class_bytes}
+use Rattle.dj_entries.specs.Room.{NoLine}
 use Rattle.dj_asm.specs.Files.{IsFileOf}
 use Rattle.dj_asm.specs.Large.{IsTooLarge}
-
--- no line of the source is such
-abbrev pub NoLine : (ℕ → Type 0) → Type 0
-NoLine IsSuch = (place : ℕ) → IsSuch place → ⊥
 
 -- the text says a source whose labels are right and in which all fits, and the bytes are the source's class file
 pub record IsTextOfBytes (text bytes : List ℕ) : Type 0 where

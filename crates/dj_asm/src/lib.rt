@@ -1,15 +1,7 @@
 //! The assembler: a text of lines and words means one class file, or its first fault is told.
 #![tactic(auto)]
 
-mod entries;
-mod key;
 mod laws;
-mod lines;
-mod needs;
-mod places;
-mod pool;
-mod texts;
-mod types;
 
 pub use dj_source::AsmError;
 pub use laws::{file_or_fault, means_class_file, no_file_where_fault, one_fault, one_file};

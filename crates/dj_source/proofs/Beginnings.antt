@@ -3,9 +3,9 @@ use Rattle.std.proofs.Common.{◌≡◌, ℕ, pos, true, List, [], ◌∷◌, �
 use Rattle.std.specs.List.{flat_map, AllByRecursion, AllZip}
 use Rattle.std.proofs.lemmas.Grind.{flat_map-append}
 use Rattle.dj_names.specs.Names.{IsClassName}
-use Rattle.dj_source.specs.Words.{Token, Word, LineEnd}
+use Rattle.dj_tokens.specs.Words.{Token, Word, LineEnd}
 use Rattle.dj_source.specs.Items.{Item, Says, SaysFlags, SaysCalled, SaysPlainNumber}
-use Rattle.dj_source.specs.Mnemonics.{mnemonics}
+use Rattle.dj_tokens.specs.Mnemonics.{mnemonics}
 use Rattle.dj_source.specs.Lines.{Line, Class, Super, Stack, Locals, Does, End, Plain, IsLine, IsSized}
 use Rattle.dj_source.specs.Sources.{Source, IsSizedSource, line_items, lines_of}
 use Rattle.dj_source.specs.Order.{State, AtClass, AtVersion, AtSuper, AtInterfaces, AtFields, AtMethods, AtStack, AtLocals, InBody, InFrame, run, is_final}

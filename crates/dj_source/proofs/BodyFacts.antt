@@ -7,8 +7,8 @@ use Rattle.dj_names.specs.Tests.{class_name_test, unqualified_name_test, method_
 use Rattle.dj_ops.specs.Forms.{form_of}
 use Rattle.dj_source.specs.declared.error.AsmError.{AsmError}
 use Rattle.dj_source.specs.declared.error.AsmError.TheVariants as asm_errors
-use Rattle.dj_source.specs.Words.{tokens_after, word_units, string_units}
-use Rattle.dj_source.specs.Mnemonics.{mnemonics}
+use Rattle.dj_tokens.specs.Words.{tokens_after, word_units, string_units}
+use Rattle.dj_tokens.specs.Mnemonics.{mnemonics}
 use Rattle.dj_source.specs.LineReading.{AreRead, text_read, lines_read, targets, pairs_after, types_until, types_up_to}
 
 -- | is a line feed, ' a quote and ` a backslash

@@ -2,7 +2,7 @@
 use Rattle.std.proofs.Common.{◌≡◌, ℕ, Bool, true, false, cond, List, [], ◌∷◌, map, Option, Some, option_map, codes, bytes_eq, refl, ap, ◌∙◌}
 use Rattle.dj_source.specs.declared.start.Directive.{Directive}
 use Rattle.dj_source.specs.declared.start.Directive.TheVariants as rows
-use Rattle.dj_source.specs.Reading.{row_of}
+use Rattle.dj_tokens.specs.WordReading.{row_of}
 use Rattle.dj_source.specs.LineReading.{directives}
 use Rattle.dj_source.specs.LineStarts.{directive_view}
 

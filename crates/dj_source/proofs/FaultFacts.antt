@@ -3,7 +3,7 @@ use Rattle.std.proofs.Common.{◌≡◌, ℕ, ℤ, pos, List, [], ◌∷◌, ◌
 use Rattle.dj_names.specs.Names.{IsNameByte, IsClassName}
 use Rattle.dj_source.specs.declared.error.AsmError.{AsmError}
 use Rattle.dj_source.specs.declared.error.AsmError.TheVariants as asm_errors
-use Rattle.dj_source.specs.Words.{Token, Word, Quoted, Bad, LineEnd, Placed, word_units, string_units, tokens_after}
+use Rattle.dj_tokens.specs.Words.{Token, Word, Quoted, Bad, LineEnd, Placed, word_units, string_units, tokens_after}
 use Rattle.std.specs.Str.Parse.{IsNumeral, digits_value}
 use Rattle.dj_source.specs.Items.{Number, Says, SaysFlags, SaysCalled, SaysPlainNumber, SaysMinusNumber}
 use Rattle.dj_source.specs.Lines.{FitsBits}

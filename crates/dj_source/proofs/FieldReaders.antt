@@ -11,11 +11,12 @@ use Rattle.dj_names.specs.DescReading.{field_read, method_read, type_read, dims_
 use Rattle.dj_names.proofs.TestLaws.{unqualified_name_test-decides, method_name_test-decides, class_name_test-decides, field_descriptor_test-decides, method_descriptor_test-decides, array_descriptor_test-decides}
 use Rattle.dj_ops.specs.Instructions.{IsArrayType}
 use Rattle.dj_pool.specs.Pool.{IsClassText}
-use Rattle.dj_source.specs.Words.{Token, Word, Quoted, LineEnd}
+use Rattle.dj_tokens.specs.Words.{Token, Word, Quoted, LineEnd}
 use Rattle.dj_source.specs.Items.{Item, Exactly, Flags, Number, Text, Ended, SaysFlags, SaysPlainNumber}
-use Rattle.dj_source.specs.Mnemonics.{base_word}
+use Rattle.dj_tokens.specs.Mnemonics.{base_word}
 use Rattle.dj_source.specs.Lines.{Label, FrameType, Simple, IsFrameType, type_item, catch_item, called}
-use Rattle.dj_source.specs.Reading.{one, any_size, word_of, string_of, end_of, exactly, flags_of, number_of, name_of, class_text_test, caught_of, type_of, base_of}
+use Rattle.dj_tokens.specs.WordReading.{class_text_test}
+use Rattle.dj_source.specs.Reading.{one, any_size, word_of, string_of, end_of, exactly, flags_of, number_of, name_of, caught_of, type_of, base_of}
 use Rattle.dj_source.specs.LineReading.{line_end, flags, number, name, label, string, keyword, frame_type, base, caught}
 use Rattle.dj_source.proofs.Readers.{Lang, IsReader}
 use Rattle.dj_source.proofs.Choices.{single, IsTold, IsInhabited, one_reads}

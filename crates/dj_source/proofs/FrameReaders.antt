@@ -3,10 +3,11 @@ use Rattle.std.proofs.Common.{◌≡◌, ℕ, zero, suc, ◌≤◌, Bool, true, 
 use Rattle.std.specs.Prelude.{⊤}
 use Rattle.std.specs.List.{AllByRecursion}
 use Rattle.dj_bytes.proofs.Options.{some_is}
-use Rattle.dj_source.specs.Words.{Token, Word, Quoted, Bad, LineEnd, Placed}
+use Rattle.dj_tokens.specs.Words.{Token, Word, Quoted, Bad, LineEnd, Placed}
 use Rattle.dj_source.specs.Items.{Item, Exactly, Ended, Says}
 use Rattle.dj_source.specs.Lines.{FrameType, Simple, Object, New, IsFrameType, type_item, Frame, Same, Stack1, Chop, Append, Full, frame_items, IsFrame, IsSizedFrame}
-use Rattle.dj_source.specs.Reading.{Read, Got, Wrong, read_map, exactly, row_of, type_of, is_between, ◌&◌}
+use Rattle.dj_tokens.specs.WordReading.{row_of}
+use Rattle.dj_source.specs.Reading.{Read, Got, Wrong, read_map, exactly, type_of, is_between, ◌&◌}
 use Rattle.dj_source.specs.LineReading.{line_end, number, frame_type, types_from, types_until, types_up_to, is_end, is_slash, FrameStart, SameWord, StackWord, ChopWord, AppendWord, FullWord, frame_start, frame_after, frame}
 use Rattle.dj_source.proofs.Readers.{Lang, Said, Started, ReadFrom, IsReader, GotFrom, both, sequence_reads, IsMade, IsSeenAs, seen_read, mapped_reads}
 use Rattle.dj_source.proofs.Choices.{after_first, HasFirst, IsChoice, IsTold, kind_read, none_begun, nothing_left, choose_reads, place}

@@ -7,10 +7,10 @@ use Rattle.dj_names.specs.Tests.{class_name_test, unqualified_name_test, method_
 use Rattle.dj_ops.specs.Forms.{form_of}
 use Rattle.dj_source.specs.declared.error.AsmError.{AsmError}
 use Rattle.dj_source.specs.declared.error.AsmError.TheVariants as asm_errors
-use Rattle.dj_source.specs.Words.{tokens_after, word_units, string_units}
+use Rattle.dj_tokens.specs.Words.{tokens_after, word_units, string_units}
 use Rattle.dj_source.specs.Lines.{Line, Class, Super, Abstract, Method, Stack, Locals, Beside, Does, End, Plain, Jump, Labelled}
-use Rattle.dj_source.specs.Mnemonics.{mnemonics}
-use Rattle.dj_source.specs.Reading.{row_of}
+use Rattle.dj_tokens.specs.Mnemonics.{mnemonics}
+use Rattle.dj_tokens.specs.WordReading.{row_of}
 use Rattle.dj_source.specs.Labels.{LabelFault}
 use Rattle.dj_source.specs.LineReading.{lines_read, targets, pairs_after, types_until, types_up_to}
 use Rattle.dj_source.specs.LabelReading.{Mark, marks_from, marks_of, mislabelled_from, mislabelled_in, sections_of, mislabelled_after, first_mislabelled, text_fault}

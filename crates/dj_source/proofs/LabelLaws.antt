@@ -10,7 +10,7 @@ use Rattle.std.proofs.lemmas.Slice.Eq.{bytes_eq-Decides}
 use Rattle.dj_bytes.proofs.Options.{some_is}
 use Rattle.dj_source.specs.Lines.{Label, Labelled, Catch, Line, Beside}
 use Rattle.dj_source.specs.Labels.{Use, AtInstruction, Range, is_instruction, instruction_count, IsLabelAt, IsInstructionLabel, IsRange, IsMet, IsDoubled, uses_of}
-use Rattle.dj_source.specs.Reading.{row_of}
+use Rattle.dj_tokens.specs.WordReading.{row_of}
 use Rattle.dj_source.specs.LabelReading.{Mark, Marks, defined_by, with_mark, number_after, marks_from, marks_of, is_below, is_in_order, is_met, is_before, is_again, is_mislabelled, mislabelled_from, mislabelled_in}
 
 -- ---- what the rows of a table say
@@ -36,7 +36,7 @@ label_is : (a b : Label) → labelled a ≡ labelled b → a ≡ b
 label_is a b e = cc
 
 -- a line that defines the label, or not
-same_line : (label : Label) (line : Line) → (line ≡ labelled label) ⊎ (line ≢ labelled label)
+pub same_line : (label : Label) (line : Line) → (line ≡ labelled label) ⊎ (line ≢ labelled label)
 same_line label (Beside (Labelled defined)) =
     elim (cases_Bool (bytes_eq defined label)) [
       | inl t ↦ inl (ap labelled ((bytes_eq-Decides defined label).0 t))
@@ -54,7 +54,7 @@ first_or_none (line ∷ lines) label = by (same_line label line) (first_or_none 
   by (inr n) (inr none) = inr (n, none)
 
 -- a row of another line
-row_past : (label : Label) (line : Line) (place number : ℕ) (marks : Marks) → line ≢ labelled label → row_of (with_mark (defined_by line) place number marks) label ≡ row_of marks label
+pub row_past : (label : Label) (line : Line) (place number : ℕ) (marks : Marks) → line ≢ labelled label → row_of (with_mark (defined_by line) place number marks) label ≡ row_of marks label
 row_past label (Beside (Labelled defined)) place number marks n =
     elim (cases_Bool (bytes_eq defined label)) [
       | inl t ↦ absurd (n (ap labelled ((bytes_eq-Decides defined label).0 t)))
@@ -63,7 +63,7 @@ row_past label (Beside (Labelled defined)) place number marks n =
 row_past label (Beside (Catch class from to handler)) place number marks n = refl
 row_past label line place number marks n = refl
 
-row_here : (label : Label) (place number : ℕ) (marks : Marks) → row_of ((label, mark place number) ∷ marks) label ≡ Some (mark place number)
+pub row_here : (label : Label) (place number : ℕ) (marks : Marks) → row_of ((label, mark place number) ∷ marks) label ≡ Some (mark place number)
 row_here label place number marks = ap (λ b. cond b (Some (mark place number)) (row_of marks label)) ((bytes_eq-Decides label label).1 refl)
 
 no_row : (label : Label) (place number : ℕ) (lines : List Line) → AreOthers label lines → row_of (marks_from place number lines) label ≡ None
@@ -79,7 +79,7 @@ after_is : (b : Bool) (number more : ℕ) → cond b (suc number) number + more 
 after_is true number more = omega arith
 after_is false number more = omega arith
 
-number_more : (line : Line) (number : ℕ) (lines : List Line) → number_after line number + instruction_count lines ≡ number + instruction_count (line ∷ lines)
+pub number_more : (line : Line) (number : ℕ) (lines : List Line) → number_after line number + instruction_count lines ≡ number + instruction_count (line ∷ lines)
 number_more line number lines = after_is (is_instruction line) number (instruction_count lines) ∙ ap (λ n. number + n) (sym (counted line lines))
 
 same_mark : {p q m n : ℕ} → p ≡ q → m ≡ n → Some (mark p m) ≡ Some (mark q n)

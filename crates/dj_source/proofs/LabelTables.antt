@@ -21,7 +21,7 @@ use Rattle.dj_source.specs.declared.label_table.Mark as the_mark
 use Rattle.dj_source.specs.Lines.{Label, Line}
 use Rattle.dj_source.specs.LineViews.{line_view}
 use Rattle.dj_source.specs.LabelReading.{Mark, Marks, defined_by, with_mark, number_after, marks_from}
-use Rattle.dj_source.specs.Reading.{row_of}
+use Rattle.dj_tokens.specs.WordReading.{row_of}
 use Rattle.dj_source.specs.LabelViews.{label_of_mark, mark_view, mark_row, is_label_before, marked}
 use denote.Ref.{Bor}
 use denote.Param.Members.{Mut}

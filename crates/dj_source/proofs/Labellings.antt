@@ -6,7 +6,7 @@ use Rattle.dj_source.specs.declared.syntax.Line as the_line
 use Rattle.dj_source.specs.Lines.{Label, Line}
 use Rattle.dj_source.specs.Labels.{Use, AtInstruction, Range, instruction_count, uses_of}
 use Rattle.dj_source.specs.LineViews.{line_view}
-use Rattle.dj_source.specs.Reading.{row_of}
+use Rattle.dj_tokens.specs.WordReading.{row_of}
 use Rattle.dj_source.specs.LineReading.{or_else}
 use Rattle.dj_source.specs.LabelReading.{Marks, defined_by, marks_of, is_below, is_in_order, is_before, is_met, is_again, is_mislabelled, mislabelled_from, mislabelled_in, sections_of, section_size, mislabelled_after}
 use Rattle.dj_source.proofs.Sections.{section_step}
@@ -86,7 +86,7 @@ module _ (lines : List the_line.Line) (before size : ℕ) (some : before < lengt
   first_count : length (map line_view (take size (drop before lines))) ≡ size
   first_count = length-map (take size (drop before lines)) line_view ∙ length-take-le size (drop before lines) within
 
-  cut : sections_of (map line_view (drop before lines)) ≡ map line_view (take size (drop before lines)) ∷ sections_of (map line_view (drop (before + size) lines))
+  pub cut : sections_of (map line_view (drop before lines)) ≡ map line_view (take size (drop before lines)) ∷ sections_of (map line_view (drop (before + size) lines))
   unfolding left
   cut =
       section_at left left_some

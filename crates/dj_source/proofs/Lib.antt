@@ -1,4 +1,3 @@
-mod WordFacts
 mod LineFacts
 mod FaultFacts
 mod SourceFacts
@@ -6,12 +5,7 @@ mod OrderLaws
 mod OrderSources
 mod Beginnings
 pub mod FaultLaws
-mod UnitLaws
-mod LineLaws
 mod ReadingFacts
-mod TableLaws
-mod BareTexts
-mod QuotedLaws
 mod ReaderLaws
 mod Readers
 mod Choices
@@ -27,13 +21,11 @@ mod ValueReaders
 mod OperationReaders
 mod Operations
 mod TypeLists
-mod LabelWords
 mod SwitchLists
 mod PairLists
 mod Directives
 mod LineOrder
 mod LineReaders
-mod TokenLaws
 mod ItemLaws
 mod TextReading
 pub mod TextLaws
@@ -41,11 +33,13 @@ pub mod OneSource
 pub mod NumberLaws
 mod BodyFacts
 mod TextFacts
-mod DigitLaws
 pub mod UnreadLaws
 mod LabelLaws
-mod Sections
+pub mod LabelNumbers
+pub mod Sections
 pub mod LabelTextLaws
 mod LabelFacts
 mod LabelTables
-mod Labellings
+pub mod Labellings
+pub mod ReadingLaws
+mod FirstFaultFacts

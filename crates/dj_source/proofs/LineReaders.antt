@@ -8,12 +8,13 @@ use Rattle.dj_names.specs.Names.{IsUnqualifiedName, IsMethodName, IsClassName}
 use Rattle.dj_names.specs.Descriptors.{IsFieldDescriptor, IsMethodDescriptor}
 use Rattle.dj_names.specs.Tests.{unqualified_name_test, method_name_test, field_descriptor_test, method_descriptor_test}
 use Rattle.dj_ops.specs.Forms.{form_of}
-use Rattle.dj_source.specs.Words.{Token, Word}
+use Rattle.dj_tokens.specs.Words.{Token, Word}
 use Rattle.dj_source.specs.Items.{Says}
 use Rattle.dj_source.specs.Lines.{Label, Value, Frame, Operation, Labelled, Catch, Line, Class, Version, Super, Implements, Field, Abstract, Method, Stack, Locals, Beside, Framed, Does, End, IsLine, IsSized, FitsBits}
 use Rattle.dj_source.specs.Sources.{line_items}
 use Rattle.dj_source.specs.Order.{State, AtClass, AtVersion, AtSuper, AtInterfaces, AtFields, AtMethods, AtStack, AtLocals, InBody, InFrame, after}
-use Rattle.dj_source.specs.Reading.{◌&◌, word_of, tested}
+use Rattle.dj_tokens.specs.WordReading.{tested}
+use Rattle.dj_source.specs.Reading.{◌&◌, word_of}
 use Rattle.dj_source.specs.LineReading.{LineStart, ClassLine, VersionLine, SuperLine, ImplementsLine, FieldLine, AbstractLine, MethodLine, StackLine, LocalsLine, CatchLine, FrameLine, EndLine, LabelLine, OperationLine, start_in, may_begin, line_start, line_after, line, line_end, flags, number, name, label, caught, value, frame, class_name, fits_16, operation}
 use Rattle.dj_source.proofs.Readers.{Lang, Started, IsReader, both, sequence_reads, IsMade, mapped_reads}
 use Rattle.dj_source.proofs.Choices.{after_first, IsChoice, IsTold, choose_reads, kind_started, place}

@@ -2,25 +2,18 @@
 use Rattle.std.proofs.Common.{◌≡◌, ℕ, suc, ◌+◌, Bool, true, false, cond, List, [], ◌∷◌, ◌++◌, length, map, Option, Some, None, Ok, Err, filter, refl, sym, ap, ◌∙◌, arith}
 use Rattle.std.specs.List.{flat_map, AllByRecursion, enumerate_from}
 use Rattle.std.specs.Str.Lines.{lines}
-use Rattle.dj_source.specs.Words.{Token, LineEnd, Placed, tokens_after, line_tokens, end_line}
+use Rattle.dj_tokens.specs.Words.{Token, LineEnd, Placed, tokens_after, line_tokens, end_line}
 use Rattle.dj_source.specs.Lines.{Line}
 use Rattle.dj_source.specs.Sources.{Source, lines_of, IsTextOf}
 use Rattle.dj_source.specs.Labels.{ends_line, line_numbers}
 use Rattle.dj_source.specs.Order.{State, AtClass, is_final, after}
 use Rattle.dj_source.specs.Reading.{Read, Got, Wrong, Large}
 use Rattle.dj_source.specs.LineReading.{AreRead, missing, line, with_line, lines_from, lines_read}
-use Rattle.dj_source.proofs.TokenLaws.{NoEnd, ended_at, tokens_plain}
+use Rattle.dj_source.specs.Unread.{number_if, numbers_with_words}
+use Rattle.dj_tokens.proofs.TokenLaws.{NoEnd, ended_at, tokens_plain}
 use Rattle.dj_source.proofs.TextLaws.{lines_are_read}
 
 -- ---- the numbers of lines with words
-
--- the number of a line, if it has tokens
-abbrev pub number_if : ℕ → List Placed → List ℕ
-number_if n [] = []
-number_if n (here ∷ rest) = n ∷ []
-
-abbrev pub numbers_with_words : List (ℕ × List ℕ) → List ℕ
-numbers_with_words all = flat_map (λ (l : ℕ × List ℕ). number_if l.0 (line_tokens l)) all
 
 abbrev is_line_end : Token → Bool
 is_line_end LineEnd = true

@@ -11,7 +11,8 @@ use Rattle.dj_ops.specs.Instructions.{IsPushed}
 use Rattle.dj_pool.specs.Pool.{IsClassText}
 use Rattle.dj_source.specs.Items.{Item, Ended}
 use Rattle.dj_source.specs.Lines.{Label, Literal, IsLiteralName, Operation, Plain, Push, Local, Increment, Load, LoadLong, Jump, Table, Lookup, Member, Dynamic, ClassOf, Array, Multi, operation_items, IsSizedOperation, FitsBits, slot_bits, FitsIncrement}
-use Rattle.dj_source.specs.Reading.{◌&◌, is_signed, is_between, class_text_test}
+use Rattle.dj_tokens.specs.WordReading.{class_text_test}
+use Rattle.dj_source.specs.Reading.{◌&◌, is_signed, is_between}
 use Rattle.dj_source.specs.LineReading.{line_end, number, name, label, keyword, base, fits_16, slot_fits, increment_fits, literal, targets, Pairs, pairs_after, interface_end, plain, push, slot, increment, load, load_long, jump, table, lookup, field_use, open_method_use, method_use, dynamic, class_of, array, multi}
 use Rattle.dj_source.proofs.Readers.{Lang, IsReader, both, sequence_reads, IsMade, mapped_reads}
 use Rattle.dj_source.proofs.WordLaws.{bits_decide, signed_8, signed_16, signed_32}

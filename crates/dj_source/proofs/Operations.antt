@@ -6,11 +6,12 @@ use Rattle.dj_bytes.specs.Options.{◌>>=◌}
 use Rattle.dj_names.specs.Types.{Name}
 use Rattle.dj_ops.specs.Forms.{Form, Bare, SignedByte, SignedShort, ShortLiteral, LongLiteral, Slot, SlotAndByte, ShortOffset, LongOffset, MemberIndex, InterfaceIndex, DynamicIndex, ClassIndex, ArrayType, MultiIndex, TableSwitch, LookupSwitch, WidePrefix, Reserved, form_of}
 use Rattle.dj_pool.specs.Pool.{IsClassText}
-use Rattle.dj_source.specs.Words.{Token, Word, LineEnd}
+use Rattle.dj_tokens.specs.Words.{Token, Word, LineEnd}
 use Rattle.dj_source.specs.Items.{Says}
-use Rattle.dj_source.specs.Mnemonics.{mnemonics}
+use Rattle.dj_tokens.specs.Mnemonics.{mnemonics}
 use Rattle.dj_source.specs.Lines.{Operation, Plain, Push, Local, Increment, Load, LoadLong, Jump, Table, Lookup, Member, Dynamic, ClassOf, Array, Multi, op_item, IsOperation, IsMethodUse, IsLiteralName}
-use Rattle.dj_source.specs.Reading.{◌&◌, opcode_of, tested}
+use Rattle.dj_tokens.specs.WordReading.{tested}
+use Rattle.dj_source.specs.Reading.{◌&◌, opcode_of}
 use Rattle.dj_source.specs.LineReading.{line_end, number, slot_fits, increment_fits, slot, increment, may_be_wide, wide_start, wide_after, wide, operation_by, operation}
 use Rattle.dj_source.proofs.Readers.{Lang, Started, IsReader, IsMade, mapped_reads}
 use Rattle.dj_source.proofs.Choices.{after_first, HasFirst, IsChoice, choose_reads, place}

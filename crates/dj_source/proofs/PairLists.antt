@@ -5,9 +5,10 @@ use Rattle.std.proofs.lemmas.Bool.{cases_Bool}
 use Rattle.dj_bytes.specs.Options.{◌>>=◌}
 use Rattle.dj_source.specs.declared.reader.Stop.{Stop}
 use Rattle.dj_source.specs.declared.reader.Stop.TheVariants as stops
-use Rattle.dj_source.specs.Words.{Word, Placed}
+use Rattle.dj_tokens.specs.Words.{Word, Placed}
 use Rattle.dj_source.specs.Lines.{Label}
-use Rattle.dj_source.specs.Reading.{Read, Got, Wrong, Large, read_map, said_by, any_size, word_of, number_in, number_of, is_signed}
+use Rattle.dj_tokens.specs.WordReading.{number_in}
+use Rattle.dj_source.specs.Reading.{Read, Got, Wrong, Large, read_map, said_by, any_size, word_of, number_of, is_signed}
 use Rattle.dj_source.specs.LineReading.{Pairs, DefaultMatch, MatchOf, default_after, number, label, pairs_after, matches_from, match_in, target_from}
 use Rattle.dj_source.specs.Stops.{Stops, IsNoWord}
 use Rattle.dj_source.proofs.TypeLists.{stop_map, wrong_any, got_never}

@@ -1,7 +1,7 @@
 -- What is read of a few texts, at plain values.
 use Rattle.std.proofs.Common.{◌≡◌, ℕ, List, [], ◌∷◌, ◌++◌, Ok, Err, codes, refl}
 use Rattle.dj_source.specs.declared.error.AsmError.TheVariants as asm_errors
-use Rattle.dj_source.specs.Words.{tokens_after, word_units}
+use Rattle.dj_tokens.specs.Words.{tokens_after, word_units}
 use Rattle.dj_source.specs.Lines.{Class, Super}
 use Rattle.dj_source.specs.LineReading.{text_read, lines_read}
 use Rattle.dj_names.specs.Tests.{class_name_test, unqualified_name_test, field_descriptor_test}

@@ -3,7 +3,7 @@ use Rattle.std.proofs.Common.{◌≡◌, ◌⊎◌, ℕ, List, [], ◌∷◌, �
 use Rattle.std.specs.List.{flat_map, AllByRecursion, AllZip, enumerate_from}
 use Rattle.std.specs.Str.Lines.{lines}
 use Rattle.dj_source.specs.declared.error.AsmError.{AsmError}
-use Rattle.dj_source.specs.Words.{Token, Placed, line_tokens, tokens_of, end_line}
+use Rattle.dj_tokens.specs.Words.{Token, Placed, line_tokens, tokens_of, end_line}
 use Rattle.dj_source.specs.Items.{Item, Says}
 use Rattle.dj_source.specs.Lines.{Line, IsLine, IsSized}
 use Rattle.dj_source.specs.Sources.{Source, IsSource, IsSizedSource, Reads, line_items, lines_of, token_of, IsTextOf}
@@ -15,7 +15,7 @@ use Rattle.dj_source.proofs.OrderLaws.{lines_follow}
 use Rattle.dj_source.proofs.OrderSources.{source_of}
 use Rattle.dj_source.proofs.Readers.{Said, Started, Allowed}
 use Rattle.dj_source.proofs.Choices.{place}
-use Rattle.dj_source.proofs.TokenLaws.{IsRowOrNone, line_row}
+use Rattle.dj_tokens.proofs.TokenLaws.{IsRowOrNone, line_row}
 use Rattle.dj_source.proofs.TextReading.{rest_lang, Stops, IsWrong, IsLarge, IsShort, AreLines, IsRead, joined, rows_read}
 
 -- ---- tokens with their places, and without

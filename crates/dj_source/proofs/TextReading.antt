@@ -4,7 +4,7 @@ use Rattle.std.specs.List.{flat_map, AllByRecursion, AllZip}
 use Rattle.std.proofs.lemmas.List.{append-nil}
 use Rattle.dj_source.specs.declared.error.AsmError.{AsmError}
 use Rattle.dj_source.specs.declared.error.AsmError.TheVariants as asm_errors
-use Rattle.dj_source.specs.Words.{Token, Placed}
+use Rattle.dj_tokens.specs.Words.{Token, Placed}
 use Rattle.dj_source.specs.Items.{Item, Says}
 use Rattle.dj_source.specs.Lines.{Line, items_of, IsLine, IsSized}
 use Rattle.dj_source.specs.Sources.{line_items}
@@ -15,7 +15,7 @@ use Rattle.dj_source.proofs.Beginnings.{closing, closing_final, closing_lines, c
 use Rattle.dj_source.proofs.Readers.{Lang, Said, Started, Allowed, GotFrom, WrongFrom, LargeFrom, ReadFrom, split, said_append}
 use Rattle.dj_source.proofs.Choices.{place}
 use Rattle.dj_source.proofs.LineReaders.{lines_lang, line_reads}
-use Rattle.dj_source.proofs.TokenLaws.{IsRow, IsRowOrNone, at_end}
+use Rattle.dj_tokens.proofs.TokenLaws.{IsRow, IsRowOrNone, at_end}
 use Rattle.dj_source.proofs.ItemLaws.{line_is_over, no_line_said, last_said}
 
 -- ---- the lines from a state on

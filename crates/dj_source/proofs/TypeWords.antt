@@ -9,11 +9,12 @@ use Rattle.dj_names.specs.Types.{Name}
 use Rattle.dj_names.specs.ModifiedUtf8.{units_text}
 use Rattle.dj_ops.specs.Instructions.{IsArrayType}
 use Rattle.dj_pool.specs.Pool.{IsClassText}
-use Rattle.dj_source.specs.Words.{Token, Word}
+use Rattle.dj_tokens.specs.Words.{Token, Word}
 use Rattle.dj_source.specs.Items.{Exactly, Says}
-use Rattle.dj_source.specs.Mnemonics.{base_words, base_word}
+use Rattle.dj_tokens.specs.Mnemonics.{base_words, base_word}
 use Rattle.dj_source.specs.Lines.{FrameType, Simple, Object, New, IsFrameType, IsSimpleType, type_item, catch_item}
-use Rattle.dj_source.specs.Reading.{tested, place_from, is_some_label, is_simple_type, long_type, type_in, type_of, class_text_test, caught_in, caught_of, base_of}
+use Rattle.dj_tokens.specs.WordReading.{tested, place_from, is_some_label, class_text_test}
+use Rattle.dj_source.specs.Reading.{is_simple_type, long_type, type_in, type_of, caught_in, caught_of, base_of}
 use Rattle.dj_source.proofs.Choices.{IsTold}
 use Rattle.dj_source.proofs.WordLaws.{IsWordTold, word_told, place_sound, place_whole, apart, class_text_decides}
 

@@ -1,16 +1,18 @@
 -- The lines that are left of a text, one after the other.
-use Rattle.std.proofs.Common.{◌≡◌, ◌≢◌, ℕ, ◌+◌, List, [], ◌∷◌, length, map, Some, None, Ok, Err, refl, sym, ap, ◌∙◌, arith, if◌then◌else◌}
+use Rattle.std.proofs.Common.{◌≡◌, ◌≢◌, ℕ, ◌+◌, ◌<◌, List, [], ◌∷◌, ◌++◌, length, map, Some, None, Ok, Err, refl, sym, ap, ◌∙◌, subst, arith, if◌then◌else◌}
 use Rattle.std.specs.List.{enumerate_from}
 use Rattle.std.specs.Str.Lines.{lines}
 use Rattle.dj_source.specs.declared.reader.Stop.{Stop}
 use Rattle.dj_source.specs.declared.reader.Stop.TheVariants as stops
-use Rattle.dj_source.specs.Words.{Placed, line_tokens}
-use Rattle.dj_source.specs.Order.{State, AtClass, after, is_final}
+use Rattle.dj_source.specs.declared.unread.Row.TheVariants as rows
+use Rattle.dj_source.specs.declared.syntax.Line.{Line as TheLine}
+use Rattle.dj_tokens.specs.Words.{Placed, line_tokens}
+use Rattle.dj_source.specs.Order.{State, after, is_final}
 use Rattle.dj_source.specs.Lines.{Line}
 use Rattle.dj_source.specs.Reading.{Read, Got, Wrong, Large}
-use Rattle.dj_source.specs.LineReading.{AreRead, missing, line, with_line, lines_from, lines_read, text_read}
+use Rattle.dj_source.specs.LineReading.{AreRead, missing, line, with_line, lines_from, lines_read}
 use Rattle.dj_source.specs.Stops.{Stops}
-use Rattle.dj_source.specs.Unread.{UnreadLines, end_number, read_left, read_after, stop_fault, GivesLine}
+use Rattle.dj_source.specs.Unread.{UnreadLines, end_number, read_left, number_if, numbers_with_words, numbers_left, read_after, stop_fault, GivesLine, LeavesRow}
 
 abbrev unread : State → ℕ → List ℕ → UnreadLines
 unread state number rest = record { state = state; number = number; rest = rest }
@@ -103,6 +105,35 @@ stopped_line u new (stops.Wrong line column) read is = stopped u (stops.Wrong li
 stopped_line u new (stops.Large line) read is = stopped u (stops.Large line) read is (λ e. absurd cc)
 stopped_line u new stops.Missing read is = stopped u stops.Missing read is (λ e. absurd cc)
 
--- all lines of a text
-pub whole : (text : List ℕ) → read_left (unread AtClass 1 text) ≡ text_read text
-whole text = refl
+-- ---- the numbers that are left, and the bytes
+
+-- of a first line and those after it
+numbers_first : (number : ℕ) (rest bytes more : List ℕ) → lines rest ≡ bytes ∷ lines more
+    → numbers_with_words (enumerate_from number (lines rest)) ≡ number_if number (line_tokens (number, bytes)) ++ numbers_with_words (enumerate_from (number + 1) (lines more))
+numbers_first number rest bytes more cut = ap (λ all. numbers_with_words (enumerate_from number all)) cut
+
+-- those that are left are these
+same_left : (new : UnreadLines) (number : ℕ) (more : List ℕ) → new.number ≡ number → new.rest ≡ more → numbers_with_words (enumerate_from number (lines more)) ≡ numbers_left new
+same_left new number more n r =
+    ap (λ k. numbers_with_words (enumerate_from k (lines more))) (sym n) ∙ ap (λ bytes. numbers_with_words (enumerate_from new.number (lines bytes))) (sym r)
+
+pub said_leaves : (old new : UnreadLines) (bytes more : List ℕ) (here : Placed) (tokens : List Placed) (line : TheLine) → lines old.rest ≡ bytes ∷ lines more
+    → line_tokens (old.number, bytes) ≡ here ∷ tokens → length more < length old.rest → new.number ≡ old.number + 1 → new.rest ≡ more → LeavesRow old new (Ok (rows.Said old.number line))
+said_leaves old new bytes more here tokens line cut some fewer n r = (
+  numbers_first old.number old.rest bytes more cut
+      ∙ ap (λ ts. number_if old.number ts ++ numbers_with_words (enumerate_from (old.number + 1) (lines more))) some
+      ∙ ap (λ ns. old.number ∷ ns) (same_left new (old.number + 1) more n r),
+  subst (λ bytes. length bytes < length old.rest) (sym r) fewer,
+)
+
+pub blank_leaves : (old new : UnreadLines) (bytes more : List ℕ) → lines old.rest ≡ bytes ∷ lines more → line_tokens (old.number, bytes) ≡ [] → length more < length old.rest
+    → new.number ≡ old.number + 1 → new.rest ≡ more → LeavesRow old new (Ok rows.Blank)
+blank_leaves old new bytes more cut none fewer n r = (
+  numbers_first old.number old.rest bytes more cut
+      ∙ ap (λ ts. number_if old.number ts ++ numbers_with_words (enumerate_from (old.number + 1) (lines more))) none
+      ∙ same_left new (old.number + 1) more n r,
+  subst (λ bytes. length bytes < length old.rest) (sym r) fewer,
+)
+
+pub none_leaves : (old new : UnreadLines) → lines old.rest ≡ [] → LeavesRow old new (Ok rows.End)
+none_leaves old new none = ap (λ all. numbers_with_words (enumerate_from old.number all)) none

@@ -5,10 +5,11 @@ use Rattle.std.specs.Int.{w32, w64}
 use Rattle.dj_bytes.proofs.Options.{some_is}
 use Rattle.dj_names.specs.Types.{Name}
 use Rattle.dj_pool.specs.Pool.{IsClassText}
-use Rattle.dj_source.specs.Words.{Token, Word, Quoted, Bad, LineEnd}
+use Rattle.dj_tokens.specs.Words.{Token, Word, Quoted, Bad, LineEnd}
 use Rattle.dj_source.specs.Items.{Item, Exactly, Ended, Says}
 use Rattle.dj_source.specs.Lines.{Value, IntValue, LongValue, StringValue, value_items, IsSizedValue, Literal, IntLiteral, StringLiteral, ClassLiteral, literal_items, IsLiteralName, IsSizedLiteral, interface_items}
-use Rattle.dj_source.specs.Reading.{row_of, is_signed, class_text_test, ◌&◌}
+use Rattle.dj_tokens.specs.WordReading.{row_of, class_text_test}
+use Rattle.dj_source.specs.Reading.{is_signed, ◌&◌}
 use Rattle.dj_source.specs.LineReading.{line_end, number, string, name, ValueStart, NoValue, IntWord, LongWord, StringWord, value_start, value_after, value, LiteralStart, IntLiteralWord, StringLiteralWord, ClassLiteralWord, literal_start, literal_after, literal, interface_start, interface_after, interface_end}
 use Rattle.dj_source.proofs.Readers.{Lang, Started, IsReader, both, sequence_reads, IsMade, mapped_reads, got_reads}
 use Rattle.dj_source.proofs.Choices.{after_first, HasFirst, IsChoice, IsTold, choose_reads, place}

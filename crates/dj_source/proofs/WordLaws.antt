@@ -14,10 +14,11 @@ use Rattle.dj_names.specs.ModifiedUtf8.{units_text}
 use Rattle.dj_names.specs.Tests.{class_name_test, array_descriptor_test}
 use Rattle.dj_names.proofs.TestLaws.{class_name_test-decides, array_descriptor_test-decides}
 use Rattle.dj_pool.specs.Pool.{IsClassText}
-use Rattle.dj_source.specs.Words.{Token, Word, Quoted, Bad, LineEnd}
+use Rattle.dj_tokens.specs.Words.{Token, Word, Quoted, Bad, LineEnd}
 use Rattle.dj_source.specs.Items.{Item, Exactly, Flags, Number, Text, Ended, Says, SaysFlags, SaysPlainNumber, SaysMinusNumber, SaysCalled}
 use Rattle.dj_source.specs.Lines.{FitsBits, called}
-use Rattle.dj_source.specs.Reading.{word_of, string_of, end_of, tested, row_of, place_from, exactly, is_numeral, flags_of, number_in, number_of, is_between, is_signed, class_text_test, name_of}
+use Rattle.dj_tokens.specs.WordReading.{tested, row_of, place_from, is_numeral, number_in, class_text_test}
+use Rattle.dj_source.specs.Reading.{word_of, string_of, end_of, exactly, flags_of, number_of, is_between, is_signed, name_of}
 use Rattle.dj_source.proofs.Choices.{IsTold}
 
 -- ---- words

@@ -2,7 +2,7 @@
 use Rattle.std.specs.Prelude.{◌≡◌, ℕ, ◌⊎◌, List, [], ◌∷◌, ◌++◌, map}
 use Rattle.dj_source.specs.declared.error.AsmError.{AsmError}
 use Rattle.dj_source.specs.declared.error.AsmError.TheVariants as asm_errors
-use Rattle.dj_source.specs.Words.{Token, Placed, tokens_of, end_line}
+use Rattle.dj_tokens.specs.Words.{Token, Placed, tokens_of, end_line}
 use Rattle.dj_source.specs.Sources.{Source, IsSource, IsSizedSource, Reads, token_of, IsTextOf}
 
 -- such a source begins with these tokens

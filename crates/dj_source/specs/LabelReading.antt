@@ -7,7 +7,7 @@ use Rattle.dj_source.specs.declared.error.AsmError.{AsmError}
 use Rattle.dj_source.specs.declared.error.AsmError.TheVariants as asm_errors
 use Rattle.dj_source.specs.Lines.{Label, Labelled, Line, Abstract, Method, Beside}
 use Rattle.dj_source.specs.Labels.{Use, AtInstruction, Range, is_instruction, instruction_count, uses_of, line_numbers}
-use Rattle.dj_source.specs.Reading.{row_of}
+use Rattle.dj_tokens.specs.WordReading.{row_of}
 use Rattle.dj_source.specs.LineReading.{AreRead, or_else, text_read}
 
 -- ---- the first pass: the labels of a method

@@ -1,9 +1,10 @@
 -- Labels of a body, and the first line that names one wrongly. A label is the number of instructions before it.
-use Rattle.std.specs.Prelude.{◌≡◌, ◌≢◌, ℕ, ◌+◌, ◌<◌, ◌⊎◌, Bool, true, false, List, [], ◌∷◌, ◌++◌, length, map, Contains, Some, slice_get}
-use Rattle.std.specs.List.{flat_map, filter, AllByRecursion, count_by}
+use Rattle.std.specs.Prelude.{◌≡◌, ◌≢◌, ℕ, ◌+◌, ◌<◌, ◌⊎◌, Bool, true, false, not, List, [], ◌∷◌, ◌++◌, length, take, map, Contains, Some, slice_get}
+use Rattle.std.specs.List.{flat_map, filter, prefix_len, AllByRecursion, count_by}
+use Rattle.dj_names.specs.Types.{same_name}
 use Rattle.dj_source.specs.declared.error.AsmError.{AsmError}
 use Rattle.dj_source.specs.declared.error.AsmError.TheVariants as asm_errors
-use Rattle.dj_source.specs.Words.{Token, LineEnd, Placed, tokens_of}
+use Rattle.dj_tokens.specs.Words.{Token, LineEnd, Placed, tokens_of}
 use Rattle.dj_source.specs.Lines.{Label, FrameType, Simple, Object, New, Frame, Same, Stack1, Chop, Append, Full, Operation, Jump, Table, Lookup, Labelled, Catch, Line, Beside, Framed, Does}
 use Rattle.dj_source.specs.Sources.{Source, MethodSource, head_lines, method_lines, IsTextOf}
 
@@ -23,6 +24,14 @@ pub record IsLabelAt (body : List Line) (label : Label) (number : ℕ) : Type 0 
   pub parts : body ≡ front ++ Beside (Labelled label) ∷ rest
   pub first : AllByRecursion (λ line. line ≢ Beside (Labelled label)) front
   pub number_is : number ≡ instruction_count front
+
+abbrev pub marks : Label → Line → Bool
+marks label (Beside (Labelled other)) = same_name other label
+marks label line = false
+
+-- the number of instructions before the first line that defines the label
+unfoldable pub label_number : List Line → Label → ℕ
+label_number body label = instruction_count (take (prefix_len (λ line. not (marks label line)) body) body)
 
 -- ---- what a line asks of labels
 

@@ -9,11 +9,12 @@ use Rattle.dj_names.specs.Tests.{unqualified_name_test, method_name_test, class_
 use Rattle.dj_ops.specs.Forms.{Form, Bare, SignedByte, SignedShort, ShortLiteral, LongLiteral, Slot, SlotAndByte, ShortOffset, LongOffset, MemberIndex, InterfaceIndex, DynamicIndex, ClassIndex, ArrayType, MultiIndex, TableSwitch, LookupSwitch, WidePrefix, Reserved, form_of}
 use Rattle.dj_source.specs.declared.error.AsmError.{AsmError}
 use Rattle.dj_source.specs.declared.error.AsmError.TheVariants as asm_errors
-use Rattle.dj_source.specs.Words.{Token, LineEnd, Placed, line_tokens, end_line}
+use Rattle.dj_tokens.specs.Words.{Token, LineEnd, Placed, line_tokens, end_line}
 use Rattle.dj_source.specs.Lines.{Label, Value, IntValue, LongValue, StringValue, Literal, IntLiteral, StringLiteral, ClassLiteral, FrameType, Frame, Same, Stack1, Chop, Append, Full, Operation, Plain, Push, Local, Increment, Load, LoadLong, Jump, Table, Lookup, Member, Dynamic, ClassOf, Array, Multi, Labelled, Catch, Line, Class, Version, Super, Implements, Field, Abstract, Method, Stack, Locals, Beside, Framed, Does, End}
-use Rattle.dj_source.specs.Mnemonics.{mnemonics}
+use Rattle.dj_tokens.specs.Mnemonics.{mnemonics}
 use Rattle.dj_source.specs.Order.{State, AtClass, AtVersion, AtSuper, AtInterfaces, AtFields, AtMethods, AtStack, AtLocals, InBody, InFrame, after, is_final}
-use Rattle.dj_source.specs.Reading.{Read, Got, Wrong, Large, Reader, read_map, mapped, ◌&◌, got, one, any_size, choose, word_of, string_of, end_of, tested, row_of, place_from, exactly, label_in, opcode_of, base_of, flags_of, number_in, number_of, is_between, is_signed, class_text_test, name_of, caught_of, type_of}
+use Rattle.dj_tokens.specs.WordReading.{tested, row_of, place_from, label_in, number_in, class_text_test}
+use Rattle.dj_source.specs.Reading.{Read, Got, Wrong, Large, Reader, read_map, mapped, ◌&◌, got, one, any_size, choose, word_of, string_of, end_of, exactly, opcode_of, base_of, flags_of, number_of, is_between, is_signed, name_of, caught_of, type_of}
 
 -- ---- fields of a line
 

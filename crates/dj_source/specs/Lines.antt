@@ -9,7 +9,7 @@ use Rattle.dj_ops.specs.Forms.{Bare, SignedByte, SignedShort, Slot, ShortOffset,
 use Rattle.dj_ops.specs.Instructions.{IsPushed, IsArrayType}
 use Rattle.dj_pool.specs.Pool.{IsClassText}
 use Rattle.dj_source.specs.Items.{Item, Exactly, Flags, Number, Called, Text}
-use Rattle.dj_source.specs.Mnemonics.{mnemonic, base_word}
+use Rattle.dj_tokens.specs.Mnemonics.{mnemonic, base_word}
 
 abbrev pub Label : Type 0
 Label = List ℕ

@@ -1,17 +1,15 @@
 -- The readers' vocabulary: reading as functions on the tokens at hand. Clauses of the crate's own readers cite it, and no public one;
 -- proofs/TextLaws says that what is read of a text is its source or its fault.
-use Rattle.std.specs.Prelude.{ℕ, suc, ◌^◌, ◌==◌, ◌&&◌, ◌||◌, Bool, true, false, ⊤, ℤ, pos, negsuc, neg_ℤ, List, [], ◌∷◌, length, take, drop, Option, Some, None, nat_lt, nat_le, if◌then◌else◌, bytes_eq, codes}
-use Rattle.std.specs.List.{list_all}
+use Rattle.std.specs.Prelude.{ℕ, ◌^◌, ◌&&◌, ◌||◌, Bool, true, false, ⊤, ℤ, pos, negsuc, List, [], ◌∷◌, length, take, drop, Option, Some, None, nat_lt, nat_le, if◌then◌else◌, bytes_eq, codes}
 use Rattle.std.specs.Option.{option_map}
-use Rattle.std.specs.Char.{is_digit}
 use Rattle.std.specs.Str.Parse.{digits_value}
 use Rattle.dj_bytes.specs.Options.{◌>>=◌}
 use Rattle.dj_names.specs.Types.{Name}
 use Rattle.dj_names.specs.ModifiedUtf8.{units_text}
-use Rattle.dj_names.specs.Tests.{class_name_test, array_descriptor_test}
-use Rattle.dj_source.specs.Words.{Token, Word, Quoted, LineEnd, Placed}
-use Rattle.dj_source.specs.Lines.{FrameType, Simple, Object, New, Label}
-use Rattle.dj_source.specs.Mnemonics.{mnemonics, base_words}
+use Rattle.dj_tokens.specs.Words.{Token, Word, Quoted, LineEnd, Placed}
+use Rattle.dj_tokens.specs.Mnemonics.{mnemonics, base_words}
+use Rattle.dj_tokens.specs.WordReading.{tested, row_of, place_from, is_some_label, is_numeral, number_in, class_text_test}
+use Rattle.dj_source.specs.Lines.{FrameType, Simple, Object, New}
 
 -- ---- steps
 
@@ -83,19 +81,6 @@ abbrev pub end_of : Token → Option ⊤
 end_of LineEnd = Some tt
 end_of token = None
 
-abbrev pub tested : {A : Type 0} → (A → Bool) → A → Option A
-tested test a = if test a then Some a else None
-
--- what the table has at the word
-abbrev pub row_of : {K : Type 0} → List (List ℕ × K) → List ℕ → Option K
-row_of [] word = None
-row_of (row ∷ rows) word = if bytes_eq row.0 word then Some row.1 else row_of rows word
-
--- the place of a word in a list, counted from n
-abbrev pub place_from : ℕ → List (List ℕ) → List ℕ → Option ℕ
-place_from n [] word = None
-place_from n (w ∷ ws) word = if bytes_eq w word then Some n else place_from (suc n) ws word
-
 -- the opcode of the token's word
 abbrev pub opcode_of : Token → Option ℕ
 opcode_of token = word_of token >>= place_from 0 mnemonics
@@ -108,32 +93,10 @@ base_of token = word_of token >>= place_from 4 base_words
 abbrev pub exactly : List ℕ → Token → Option ⊤
 exactly word token = word_of token >>= row_of ((word, tt) ∷ [])
 
--- before a colon that ends the word
-abbrev pub before_colon : List ℕ → Option (List ℕ)
-before_colon [] = None
-before_colon (b ∷ []) = if b == 58 then Some [] else None
-before_colon (b ∷ c ∷ bs) = option_map (λ label. b ∷ label) (before_colon (c ∷ bs))
-
-abbrev pub is_some_label : Label → Bool
-is_some_label label = nat_le 1 (length label)
-
--- the label that the word defines
-abbrev pub label_in : List ℕ → Option Label
-label_in word = before_colon word >>= tested is_some_label
-
 -- ---- numbers
-
-abbrev pub is_numeral : ℕ → List ℕ → Bool
-is_numeral radix digits = nat_le 1 (length digits) && list_all (λ b. is_digit b radix) digits
 
 abbrev pub flags_of : Token → Option ℕ
 flags_of token = word_of token >>= λ word. if is_numeral 16 word && nat_le (length word) 4 then Some (digits_value 16 word) else None
-
-abbrev pub number_in : List ℕ → Option ℤ
-number_in [] = None
-number_in (b ∷ bs) =
-    if b == 45 then (if is_numeral 10 bs then Some (neg_ℤ (pos (digits_value 10 bs))) else None)
-    else (if is_numeral 10 (b ∷ bs) then Some (pos (digits_value 10 (b ∷ bs))) else None)
 
 abbrev pub number_of : Token → Option ℤ
 number_of token = word_of token >>= number_in
@@ -149,9 +112,6 @@ is_signed bits (pos n) = nat_lt n (2 ^ bits)
 is_signed bits (negsuc n) = nat_lt n (2 ^ bits)
 
 -- ---- names
-
-abbrev pub class_text_test : List ℕ → Bool
-class_text_test text = class_name_test text || array_descriptor_test text
 
 -- a text that passes
 abbrev pub name_of : (List ℕ → Bool) → Token → Option Name

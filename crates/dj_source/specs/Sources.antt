@@ -2,7 +2,7 @@
 use Rattle.std.specs.Prelude.{ℕ, ℤ, List, [], ◌∷◌, ◌++◌, map, Option, Some, None}
 use Rattle.std.specs.List.{flat_map, AllByRecursion, AllZip}
 use Rattle.dj_names.specs.Types.{Name}
-use Rattle.dj_source.specs.Words.{Token, Placed, tokens_of}
+use Rattle.dj_tokens.specs.Words.{Token, Placed, tokens_of}
 use Rattle.dj_source.specs.Items.{Item, Ended, Says}
 use Rattle.dj_source.specs.Lines.{Value, Frame, Operation, Aside, Line, Class, Version, Super, Implements, Field, Abstract, Method, Stack, Locals, Beside, Framed, Does, End, items_of, IsLine, IsSized}
 

@@ -5,9 +5,9 @@ use Rattle.dj_source.specs.declared.reader.Stop.TheVariants as stops
 use Rattle.dj_source.specs.declared.reader.NumberField.{NumberField}
 use Rattle.dj_source.specs.declared.reader.NumberField.TheVariants as fields
 use Rattle.dj_source.specs.declared.reader.Spot as the_spot
-use Rattle.dj_source.specs.Words.{Word, Placed}
+use Rattle.dj_tokens.specs.Words.{Word, Placed}
 use Rattle.dj_source.specs.Reading.{Read, Got, Wrong, Large, word_of, is_between, is_signed}
-use Rattle.dj_source.specs.Views.{units_of, left_of}
+use Rattle.dj_tokens.specs.Views.{units_of, left_of}
 
 abbrev pub wrong_stop : List Placed → Stop
 wrong_stop [] = stops.Missing

@@ -9,8 +9,8 @@ use Rattle.dj_source.specs.declared.syntax.SimpleType.TheVariants as simples
 use Rattle.dj_source.specs.declared.syntax.FrameType as the_type
 use Rattle.dj_source.specs.declared.syntax.FrameType.TheVariants as types
 use Rattle.dj_source.specs.Lines.{Value, IntValue, LongValue, StringValue, Literal, IntLiteral, StringLiteral, ClassLiteral, FrameType, Simple, Object, New}
-use Rattle.dj_source.specs.Views.{units_of, string_units_of}
-use Rattle.dj_source.specs.Texts.{text_view}
+use Rattle.dj_tokens.specs.Views.{units_of, string_units_of}
+use Rattle.dj_tokens.specs.Texts.{text_view}
 
 abbrev pub value_view : the_value.Value → Value
 value_view (values.Int n) = IntValue n

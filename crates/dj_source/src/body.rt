@@ -1,6 +1,6 @@
 ghost use Rattle.std.specs.Prelude.{◌≡◌};
 ghost use Rattle.dj_source.specs.LineReading.{line_after, CatchLine, FrameLine, LabelLine, OperationLine};
-ghost use Rattle.dj_source.specs.Views.{units_of, left_of};
+ghost use Rattle.dj_tokens.specs.Views.{units_of, left_of};
 ghost use Rattle.dj_source.specs.Stops.{GivesRead};
 ghost use Rattle.dj_source.specs.LineViews.{line_view};
 
@@ -9,8 +9,7 @@ use crate::frame_type::caught;
 use crate::operation::operation;
 use crate::reader::{Stop, label, line_end};
 use crate::syntax::Line;
-use crate::token::Word;
-use crate::tokens::LineTokens;
+use dj_tokens::{LineTokens, Word};
 use std::alloc::Global;
 
 /// After `.catch`.

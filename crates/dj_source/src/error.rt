@@ -1,3 +1,6 @@
+ghost use Rattle.std.specs.Prelude.{◌≡◌};
+
+use dj_names::NoMemory;
 use thiserror::Error;
 
 /// Why a text means no class file. Lines and columns count from 1.
@@ -26,4 +29,14 @@ pub enum AsmError {
     /// There is not enough memory.
     #[error("not enough memory")]
     Memory,
+}
+
+impl From<NoMemory> for AsmError {
+    ghost use Rattle.dj_source.specs.declared.error.AsmError.TheVariants.{Memory};
+
+    ghost from_gives = { λ _ e. e ≡ Memory };
+
+    fn from(_error: NoMemory) -> AsmError {
+        AsmError::Memory
+    }
 }

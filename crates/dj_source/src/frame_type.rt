@@ -1,23 +1,22 @@
 ghost use Rattle.std.specs.Prelude.{◌≡◌, ◌++◌, true, false, MatchOption, IfOk, codes};
 ghost use Rattle.std.specs.Option.{option_map};
 ghost use Rattle.dj_names.specs.ModifiedUtf8.{units_text};
-ghost use Rattle.dj_source.specs.Words.{word_units};
+ghost use Rattle.dj_tokens.specs.Words.{word_units};
 ghost use Rattle.dj_source.specs.Lines.{Object, New};
-ghost use Rattle.dj_source.specs.Reading.{tested, class_text_test, is_some_label, is_simple_type, type_in};
+ghost use Rattle.dj_tokens.specs.WordReading.{tested, class_text_test, is_some_label};
+ghost use Rattle.dj_source.specs.Reading.{is_simple_type, type_in};
 ghost use Rattle.dj_source.specs.LineReading.{frame_type, caught};
-ghost use Rattle.dj_source.specs.Views.{left_of};
-ghost use Rattle.dj_source.specs.Texts.{text_view};
+ghost use Rattle.dj_tokens.specs.Views.{left_of};
+ghost use Rattle.dj_tokens.specs.Texts.{text_view};
 ghost use Rattle.dj_source.specs.TypeViews.{simple_word, type_view};
 ghost use Rattle.dj_source.specs.Stops.{GivesRead};
 
 use crate::reader::{Stop, word_at};
-use crate::spelling::{after_prefix, row_at, spells};
 use crate::syntax::{FrameType, SimpleType};
-use crate::text::{NameKind, Text, is_of_kind, text_of};
-use crate::token::Word;
-use crate::tokens::LineTokens;
-use crate::unit::unit_at;
 use dj_names::NoMemory;
+use dj_tokens::{
+    LineTokens, NameKind, Text, Word, after_prefix, is_of_kind, row_at, spells, text_of, unit_at,
+};
 use std::alloc::Global;
 
 static SIMPLE_TYPES: [(&'static [u8], SimpleType); 7] = [

@@ -34,7 +34,7 @@ impl<'t> FrameTypes<'t> {
     }
 
     /// The types.
-    pub(crate) fn as_slice(&self) -> &[FrameType<'t>]
+    pub fn as_slice(&self) -> &[FrameType<'t>]
         ensures { map type_view result.now ≡ self.now }
     {
         &self.items

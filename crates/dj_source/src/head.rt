@@ -1,6 +1,6 @@
 ghost use Rattle.std.specs.Prelude.{◌≡◌};
 ghost use Rattle.dj_source.specs.LineReading.{line_after, ClassLine, VersionLine, SuperLine, ImplementsLine, FieldLine, AbstractLine, MethodLine, StackLine, LocalsLine, EndLine};
-ghost use Rattle.dj_source.specs.Views.{left_of};
+ghost use Rattle.dj_tokens.specs.Views.{left_of};
 ghost use Rattle.dj_source.specs.Stops.{GivesRead};
 ghost use Rattle.dj_source.specs.LineViews.{line_view};
 
@@ -8,8 +8,7 @@ use crate::constant::value;
 use crate::fields::number_u16;
 use crate::reader::{Stop, flags, line_end, name};
 use crate::syntax::Line;
-use crate::text::NameKind;
-use crate::tokens::LineTokens;
+use dj_tokens::{LineTokens, NameKind};
 use std::alloc::Global;
 
 /// After `.class`.

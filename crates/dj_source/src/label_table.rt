@@ -2,18 +2,17 @@ ghost use Rattle.std.specs.Prelude.{◌≡◌, ◌+◌, ◌<◌, ◌≤◌, ◌^
 ghost use Rattle.std.specs.Cmp.Lexicographic.{slice_cmp};
 ghost use Rattle.std.specs.Ordering.{nat_cmp, is_lt};
 ghost use Rattle.std.specs.List.Sorted.{IsSortedBy, IsStableBy, IsPartitionPoint};
-ghost use Rattle.dj_source.specs.Words.{word_units};
-ghost use Rattle.dj_source.specs.Views.{units_of};
+ghost use Rattle.dj_tokens.specs.Words.{word_units};
+ghost use Rattle.dj_tokens.specs.Views.{units_of};
 ghost use Rattle.dj_source.specs.Labels.{is_instruction};
-ghost use Rattle.dj_source.specs.Reading.{row_of};
+ghost use Rattle.dj_tokens.specs.WordReading.{row_of};
 ghost use Rattle.dj_source.specs.LabelReading.{defined_by, number_after, marks_of};
 ghost use Rattle.dj_source.specs.LabelViews.{label_of_mark, mark_view, mark_row, is_label_before, marked};
 ghost use Rattle.dj_source.specs.LineViews.{line_view};
 
 use crate::syntax::Line;
-use crate::token::Word;
-use crate::unit::unit_at;
 use dj_names::NoMemory;
+use dj_tokens::{Word, unit_at};
 use std::alloc::Global;
 use std::cmp::Ordering;
 use std::marker::Model;
@@ -204,7 +203,7 @@ fn sort_by_label(marks: &mut Vec<Mark>, lines: &[Line<'_>]) -> Result<(), NoMemo
 }
 
 /// The word of the label that the line at a mark defines.
-#[tactic(auto, unfolding(crate::specs::Words::word_units))]
+#[tactic(auto, unfolding(dj_tokens::specs::Words::word_units))]
 fn label_at<'t>(lines: &[Line<'t>], mark: Mark) -> &'t [u8]
     ensures { word_units 0 result.now ≡ label_of_mark lines.now mark }
 {

@@ -1,6 +1,6 @@
 ghost use Rattle.std.specs.Prelude.{◌≡◌, ◌<◌, ◌≤◌, ◌^◌, length, map, IfOk, IfSome};
 ghost use Rattle.std.specs.List.{list_all, flat_map};
-ghost use Rattle.dj_source.specs.Views.{units_of};
+ghost use Rattle.dj_tokens.specs.Views.{units_of};
 ghost use Rattle.dj_source.specs.TypeViews.{type_view};
 ghost use Rattle.dj_source.specs.PairViews.{pair_view};
 ghost use Rattle.dj_source.specs.OperationViews.{operation_view};
@@ -11,8 +11,8 @@ ghost use Rattle.dj_source.specs.LabelReading.{defined_by, is_met, is_again, is_
 use crate::label_table::{LabelTable, defined_label, is_instruction};
 use crate::syntax::{Frame, FrameType, Line, Operation};
 use crate::targets::Pair;
-use crate::token::Word;
 use dj_names::NoMemory;
+use dj_tokens::Word;
 use std::alloc::Global;
 
 /// How many lines stand before the first that names a label wrongly.
@@ -36,8 +36,8 @@ pub(crate) fn first_mislabelled(
     Ok(None)
 }
 
-/// How many lines there are up to the next method.
-fn section_size(lines: &[Line<'_>]) -> usize
+/// How many lines there are up to the next method: of all lines of a text those before the methods, and from the first line of a method on its own.
+pub fn section_size(lines: &[Line<'_>]) -> usize
     requires { 0 < length lines.now }
     ensures size { result ≡ section_size (map line_view lines.now) }
     ensures some { 0 < result }
@@ -83,8 +83,9 @@ fn mislabelled_in(alloc: Global, lines: &[Line<'_>]) -> Result<Option<usize>, No
 }
 
 /// How many of the lines are instructions.
-fn instruction_count(lines: &[Line<'_>]) -> usize
-    ensures { result ≡ instruction_count (map line_view lines.now) }
+pub(crate) fn instruction_count(lines: &[Line<'_>]) -> usize
+    ensures count { result ≡ instruction_count (map line_view lines.now) }
+    ensures within { result ≤ length lines.now }
 {
     lines.iter().filter(|line| is_instruction(line)).count()
 }

@@ -2,13 +2,12 @@ ghost use Rattle.std.specs.Prelude.{◌≡◌};
 ghost use Rattle.dj_ops.specs.Forms.{form_of};
 ghost use Rattle.dj_source.specs.LineReading.{may_be_wide, wide, wide_after, operation, operation_by, wrong};
 ghost use Rattle.dj_source.specs.Lines.{Operation as LineOperation};
-ghost use Rattle.dj_source.specs.Views.{left_of};
+ghost use Rattle.dj_tokens.specs.Views.{left_of};
 ghost use Rattle.dj_source.specs.OperationViews.{operation_view};
 ghost use Rattle.dj_source.specs.FormViews.{form_view};
 ghost use Rattle.dj_source.specs.Stops.{GivesRead, Stops};
 
 use crate::form::{Form, form_of};
-use crate::mnemonic::opcode_of;
 use crate::operand::{
     array, class_of, dynamic, grown, jump, load, load_long, local, member, multi, plain, push_byte,
     push_short,
@@ -16,7 +15,7 @@ use crate::operand::{
 use crate::reader::{Stop, word_at};
 use crate::switch::{lookup, table};
 use crate::syntax::Operation;
-use crate::tokens::LineTokens;
+use dj_tokens::{LineTokens, opcode_of};
 use std::alloc::Global;
 
 /// An instruction after its word, to the line's end.

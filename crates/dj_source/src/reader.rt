@@ -1,17 +1,15 @@
 ghost use Rattle.std.specs.Prelude.{◌≡◌, ◌≤ℤ◌, ⊤, pos, IfOk};
 ghost use Rattle.dj_source.specs.Reading.{one, any_size};
 ghost use Rattle.dj_source.specs.LineReading.{line_end, flags, number, label, string, keyword, name, base};
-ghost use Rattle.dj_source.specs.Views.{units_of, string_units_of, left_of};
-ghost use Rattle.dj_source.specs.Texts.{text_view, test_of};
+ghost use Rattle.dj_tokens.specs.Views.{units_of, string_units_of, left_of};
+ghost use Rattle.dj_tokens.specs.Texts.{text_view, test_of};
 ghost use Rattle.dj_source.specs.Stops.{GivesRead, IsSpot, field_fits, lowest, highest};
 
-use crate::number::Number;
-use crate::spelling::spells;
-use crate::text::{NameKind, Text, is_of_kind, text_of};
-use crate::token::{Placed, Quoted, Token, Word};
-use crate::tokens::LineTokens;
-use crate::{mnemonic, number};
 use dj_names::NoMemory;
+use dj_tokens::{
+    LineTokens, NameKind, Number, Placed, Quoted, Text, Token, Word, base_of, flags_of, is_of_kind,
+    number_of, spells, text_of,
+};
 use std::alloc::Global;
 
 /// Why a line is not read.
@@ -121,7 +119,7 @@ pub(crate) fn flags<'t>(at: LineTokens<'t>) -> Result<(u16, LineTokens<'t>), Sto
     ensures { GivesRead (λ x. x.0) (λ x. left_of x.1) result (flags (left_of at.entry)) }
 {
     let spot = word_at(at)?;
-    match number::flags_of(spot.word.bytes) {
+    match flags_of(spot.word.bytes) {
         Some(flags) => Ok((flags, spot.rest)),
         None => Err(Stop::Wrong {
             line: spot.line,
@@ -167,7 +165,7 @@ pub(crate) fn number<'t>(
 {
     let spot = word_at(at)?;
     let (low, high) = bounds(field);
-    match number::number_of(spot.word.bytes, low, high) {
+    match number_of(spot.word.bytes, low, high) {
         Number::Value(value) => Ok((value, spot.rest)),
         Number::Outside => Err(Stop::Large { line: spot.line }),
         Number::NoNumber => Err(Stop::Wrong {
@@ -221,7 +219,7 @@ pub(crate) fn base<'t>(at: LineTokens<'t>) -> Result<(u8, LineTokens<'t>), Stop>
     ensures { GivesRead (λ x. x.0) (λ x. left_of x.1) result (base (left_of at.entry)) }
 {
     let spot = word_at(at)?;
-    match mnemonic::base_of(spot.word.bytes) {
+    match base_of(spot.word.bytes) {
         Some(base) => Ok((base, spot.rest)),
         None => Err(Stop::Wrong {
             line: spot.line,

@@ -1,9 +1,9 @@
 ghost use Rattle.std.specs.Prelude.{◌≡◌};
 ghost use Rattle.std.specs.Option.{option_map};
-ghost use Rattle.dj_source.specs.Words.{word_units};
-ghost use Rattle.dj_source.specs.Reading.{row_of};
+ghost use Rattle.dj_tokens.specs.Words.{word_units};
+ghost use Rattle.dj_tokens.specs.WordReading.{row_of};
 ghost use Rattle.dj_source.specs.LineReading.{directives, start_in, line_after};
-ghost use Rattle.dj_source.specs.Views.{left_of};
+ghost use Rattle.dj_tokens.specs.Views.{left_of};
 ghost use Rattle.dj_source.specs.LineViews.{line_view};
 ghost use Rattle.dj_source.specs.LineStarts.{directive_view, start_view};
 ghost use Rattle.dj_source.specs.Stops.{GivesRead};
@@ -13,13 +13,9 @@ use crate::head::{
     abstract_line, class_line, end_line, field_line, implements_line, locals_line, method_line,
     stack_line, super_line, version_line,
 };
-use crate::label::label_of;
-use crate::mnemonic::opcode_of;
 use crate::reader::Stop;
-use crate::spelling::row_at;
 use crate::syntax::Line;
-use crate::token::Word;
-use crate::tokens::LineTokens;
+use dj_tokens::{LineTokens, Word, label_of, opcode_of, row_at};
 use std::alloc::Global;
 
 /// A line that a word with a dot before it begins.

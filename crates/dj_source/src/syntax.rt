@@ -1,8 +1,7 @@
 //! What lines mean.
 use crate::frame_types::FrameTypes;
 use crate::targets::{Labels, Pairs};
-use crate::text::Text;
-use crate::token::{Quoted, Word};
+use dj_tokens::{Quoted, Text, Word};
 
 /// The constant of a field.
 #[derive(Clone, Copy)]

@@ -1,7 +1,7 @@
 ghost use Rattle.std.specs.Prelude.{◌≡◌, [], ◌∷◌, ◌++◌, map, OnOk};
 
-use crate::token::Word;
 use dj_names::NoMemory;
+use dj_tokens::Word;
 use std::alloc::Global;
 use std::marker::Model;
 
@@ -14,7 +14,7 @@ pub struct Labels<'t> {
 impl<'t> Model for Labels<'t> {
     ghost use Rattle.std.specs.Prelude.{List, map};
     ghost use Rattle.dj_source.specs.Lines.{Label};
-    ghost use Rattle.dj_source.specs.Views.{units_of};
+    ghost use Rattle.dj_tokens.specs.Views.{units_of};
 
     ghost Value = { List Label };
 
@@ -22,7 +22,7 @@ impl<'t> Model for Labels<'t> {
 }
 
 impl<'t> Labels<'t> {
-    ghost use Rattle.dj_source.specs.Views.{units_of};
+    ghost use Rattle.dj_tokens.specs.Views.{units_of};
 
     /// No labels.
     pub(crate) fn new(alloc: Global) -> Labels<'t>
@@ -34,7 +34,7 @@ impl<'t> Labels<'t> {
     }
 
     /// The labels' words.
-    pub(crate) fn as_slice(&self) -> &[Word<'t>]
+    pub fn as_slice(&self) -> &[Word<'t>]
         ensures { map units_of result.now ≡ self.now }
     {
         &self.items
@@ -72,7 +72,7 @@ impl<'t> Model for Pairs<'t> {
 }
 
 impl<'t> Pairs<'t> {
-    ghost use Rattle.dj_source.specs.Views.{units_of};
+    ghost use Rattle.dj_tokens.specs.Views.{units_of};
     ghost use Rattle.dj_source.specs.PairViews.{pair_view};
 
     /// No pairs.
@@ -85,7 +85,7 @@ impl<'t> Pairs<'t> {
     }
 
     /// The pairs.
-    pub(crate) fn as_slice(&self) -> &[Pair<'t>]
+    pub fn as_slice(&self) -> &[Pair<'t>]
         ensures { map pair_view result.now ≡ self.now }
     {
         &self.items

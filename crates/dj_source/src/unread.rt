@@ -1,28 +1,25 @@
 ghost use Rattle.std.specs.Prelude.{◌≡◌, ◌+◌, ◌^◌, ◌<◌, ◌≤◌, ◌∷◌, [], length, List};
 ghost use Rattle.std.specs.Str.Lines.{lines};
-ghost use Rattle.dj_source.specs.Order.{AtClass};
-ghost use Rattle.dj_source.specs.LineReading.{line, missing, text_read};
-ghost use Rattle.dj_source.specs.Words.{Placed as PlacedToken};
+ghost use Rattle.dj_source.specs.LineReading.{line, missing};
+ghost use Rattle.dj_tokens.specs.Words.{Placed as PlacedToken};
 ghost use Rattle.dj_source.specs.Reading.{Got};
 ghost use Rattle.dj_source.specs.LineViews.{line_view};
-ghost use Rattle.dj_source.specs.Views.{placed_view, left_of};
+ghost use Rattle.dj_tokens.specs.Views.{placed_view, left_of};
 ghost use Rattle.dj_source.specs.StateViews.{state_view};
-ghost use Rattle.dj_source.specs.Unread.{UnreadLines, read_left, read_after, end_number, stop_fault, GivesLine, GivesRow};
+ghost use Rattle.dj_source.specs.Unread.{UnreadLines, all_left, read_after, end_number, stop_fault, GivesLine, GivesRow, LeavesRow};
 
 use crate::error::AsmError;
-use crate::line::{line_at, lines_after};
 use crate::one_line::line;
 use crate::reader::Stop;
 use crate::state::{State, after, is_final};
 use crate::syntax::Line;
-use crate::token::Placed;
-use crate::tokens::LineTokens;
+use dj_tokens::{LineTokens, Placed, line_at, lines_after};
 use std::alloc::Global;
 use std::marker::Model;
 
 /// A line of a text, as it is read.
 #[derive(Drop)]
-pub enum Row<'t> {
+pub(crate) enum Row<'t> {
     /// Its number and what it says.
     Said(u32, Line<'t>),
     /// It has no words.
@@ -33,7 +30,7 @@ pub enum Row<'t> {
 
 /// The lines that are left to read of a text.
 #[derive(Drop)]
-pub struct Unread<'t> {
+pub(crate) struct Unread<'t> {
     state: State,
     number: u32,
     rest: &'t [u8],
@@ -52,9 +49,9 @@ impl<'t> Model for Unread<'t> {
 
 impl<'t> Unread<'t> {
     /// All lines of a text.
-    pub fn new(text: &'t [u8]) -> Unread<'t>
+    pub(crate) fn new(text: &'t [u8]) -> Unread<'t>
         requires { length text.now ≤ 4294967294 }
-        ensures { read_left result ≡ text_read text.now }
+        ensures { result ≡ all_left text.now }
     {
         Unread {
             state: State::Class,
@@ -64,9 +61,10 @@ impl<'t> Unread<'t> {
     }
 
     /// Reads the next line, and answers the first fault of a text's words where they have one that ends here.
-    #[tactic(auto, using(crate::proofs::UnreadLaws::blank, crate::proofs::UnreadLaws::worded))]
-    pub fn row(&mut self, alloc: Global) -> Result<Row<'t>, AsmError>
-        ensures { GivesRow self.old self.new result }
+    #[tactic(auto, using(crate::proofs::UnreadLaws::blank, crate::proofs::UnreadLaws::worded, crate::proofs::UnreadLaws::said_leaves, crate::proofs::UnreadLaws::blank_leaves))]
+    pub(crate) fn row(&mut self, alloc: Global) -> Result<Row<'t>, AsmError>
+        ensures row { GivesRow self.old self.new result }
+        ensures left { LeavesRow self.old self.new result }
     {
         match line_at(self.rest) {
             Some((bytes, after)) => {
@@ -90,7 +88,9 @@ impl<'t> Unread<'t> {
         first: Placed<'t>,
         at: LineTokens<'t>,
     ) -> Result<Line<'t>, AsmError>
-        ensures { GivesLine (read_after self.old (line self.old.state (placed_view first.entry ∷ left_of at.entry))) self.new result }
+        ensures line { GivesLine (read_after self.old (line self.old.state (placed_view first.entry ∷ left_of at.entry))) self.new result }
+        ensures number { self.new.number ≡ self.old.number }
+        ensures rest { self.new.rest ≡ self.old.rest }
     {
         match line(alloc, self.state, first, at) {
             Ok((line, _)) => self.went_on(line),
@@ -101,7 +101,9 @@ impl<'t> Unread<'t> {
     // A line that was read, after which the state is another.
     #[tactic(auto, using(crate::proofs::UnreadLaws::got_next, crate::proofs::UnreadLaws::got_last))]
     fn went_on(&mut self, line: Line<'t>) -> Result<Line<'t>, AsmError>
-        ensures { (rest : List PlacedToken) → GivesLine (read_after self.old (Got (line_view line.entry) rest)) self.new result }
+        ensures line { (rest : List PlacedToken) → GivesLine (read_after self.old (Got (line_view line.entry) rest)) self.new result }
+        ensures number { self.new.number ≡ self.old.number }
+        ensures rest { self.new.rest ≡ self.old.rest }
     {
         match after(self.state, &line) {
             Some(state) => {
@@ -135,10 +137,11 @@ impl<'t> Unread<'t> {
     }
 
     // Where no line is left.
-    #[tactic(auto, using(crate::proofs::UnreadLaws::ended))]
+    #[tactic(auto, using(crate::proofs::UnreadLaws::ended, crate::proofs::UnreadLaws::none_leaves))]
     fn end(&self) -> Result<Row<'t>, AsmError>
         requires { lines self.now.rest ≡ [] }
-        ensures { GivesRow self.now self.now result }
+        ensures row { GivesRow self.now self.now result }
+        ensures left { LeavesRow self.now self.now result }
     {
         if is_final(self.state) {
             Ok(Row::End)

@@ -42,7 +42,11 @@ fn put_attribute_list(out: &mut Vec<u8>, attributes: &[Attribute<'_>]) -> Result
     Ok(())
 }
 
-fn put_attributes(out: &mut Vec<u8>, attributes: &[Attribute<'_>]) -> Result<(), WriteError>
+/// Appends a count of attributes, and these.
+pub(crate) fn put_attributes(
+    out: &mut Vec<u8>,
+    attributes: &[Attribute<'_>],
+) -> Result<(), WriteError>
     ensures { OnOk result (out.new.items ≡ out.old.items ++ table_bytes attribute_bytes (map attribute_of attributes.now)) }
 {
     put_length2(out, attributes.len())?;

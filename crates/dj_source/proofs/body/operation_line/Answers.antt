@@ -1,7 +1,7 @@
 use Rattle.std.proofs.lemmas.Result.{err_from_is_err_and}
 use Rattle.dj_source.specs.Lines.{Operation, Does}
 use Rattle.dj_source.specs.LineReading.{operation}
-use Rattle.dj_source.specs.Views.{left_of}
+use Rattle.dj_tokens.specs.Views.{left_of}
 use Rattle.dj_source.proofs.TypeLists.{stop_map}
 use Rattle.dj_source.proofs.body.operation_line.Goals as goal
 

@@ -2,7 +2,7 @@ use Rattle.std.proofs.Common.{List, subst}
 use Rattle.std.proofs.lemmas.Result.{err_from_is_err_and}
 use Rattle.dj_source.specs.Lines.{FrameType}
 use Rattle.dj_source.specs.Reading.{Read}
-use Rattle.dj_source.specs.Views.{left_of}
+use Rattle.dj_tokens.specs.Views.{left_of}
 use Rattle.dj_source.specs.TypeViews.{type_view}
 use Rattle.dj_source.specs.Stops.{GivesRead}
 use Rattle.dj_source.proofs.TypeLists.{up_to_end, up_to_more, up_to_stop}

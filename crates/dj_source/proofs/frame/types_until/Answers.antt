@@ -3,7 +3,7 @@ use Rattle.std.proofs.lemmas.Result.{err_from_is_err_and}
 use Rattle.dj_source.specs.Lines.{FrameType}
 use Rattle.dj_source.specs.Reading.{read_map}
 use Rattle.dj_source.specs.LineReading.{types_until}
-use Rattle.dj_source.specs.Views.{left_of}
+use Rattle.dj_tokens.specs.Views.{left_of}
 use Rattle.dj_source.specs.TypeViews.{type_view}
 use Rattle.dj_source.specs.StartViews.{ends_types}
 use Rattle.dj_source.proofs.TypeLists.{until_end, until_more, until_stop}

@@ -1,7 +1,7 @@
 use Rattle.std.proofs.Common.{◌≡◌, ◌++◌, length}
 use Rattle.dj_source.specs.Reading.{read_map}
 use Rattle.dj_source.specs.LineReading.{types_until}
-use Rattle.dj_source.specs.Views.{left_of}
+use Rattle.dj_tokens.specs.Views.{left_of}
 use Rattle.dj_source.specs.StartViews.{ends_types}
 use Rattle.dj_source.proofs.frame.types_until.Given as goal
 

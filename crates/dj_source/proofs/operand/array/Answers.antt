@@ -3,7 +3,7 @@ use Rattle.std.specs.Bool.{⊤}
 use Rattle.dj_source.specs.Lines.{Array}
 use Rattle.dj_source.specs.Reading.{read_then}
 use Rattle.dj_source.specs.LineReading.{base, line_end}
-use Rattle.dj_source.specs.Views.{left_of}
+use Rattle.dj_tokens.specs.Views.{left_of}
 use Rattle.dj_source.proofs.TypeLists.{stop_map, then_stops}
 use Rattle.dj_source.proofs.operand.array.Goals as goal
 

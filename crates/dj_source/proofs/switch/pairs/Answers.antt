@@ -5,7 +5,7 @@ use Rattle.std.proofs.lemmas.Result.{err_from_is_err_and}
 use Rattle.dj_source.specs.Lines.{Label}
 use Rattle.dj_source.specs.Reading.{read_map}
 use Rattle.dj_source.specs.LineReading.{Pairs, pairs_after}
-use Rattle.dj_source.specs.Views.{units_of, left_of}
+use Rattle.dj_tokens.specs.Views.{units_of, left_of}
 use Rattle.dj_source.proofs.PairLists.{pairs_end, pairs_end_stop, pairs_stop, pairs_key_stop, pairs_target_stop, pairs_more, pair_shorter}
 use Rattle.dj_source.proofs.switch.pairs.Goals as goal
 

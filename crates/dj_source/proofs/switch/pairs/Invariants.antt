@@ -1,7 +1,7 @@
 use Rattle.std.proofs.Common.{◌≡◌, ◌++◌, None, length}
 use Rattle.dj_source.specs.Reading.{read_map}
 use Rattle.dj_source.specs.LineReading.{Pairs, pairs_after}
-use Rattle.dj_source.specs.Views.{left_of}
+use Rattle.dj_tokens.specs.Views.{left_of}
 use Rattle.dj_source.proofs.switch.pairs.Given as goal
 
 -- what is left follows

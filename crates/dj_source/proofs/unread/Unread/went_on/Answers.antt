@@ -8,8 +8,8 @@ use Rattle.dj_source.specs.Unread.{UnreadLines, read_after, GivesLine}
 use Rattle.dj_source.proofs.UnreadLaws.{got_last}
 use Rattle.dj_source.proofs.unread.Unread.went_on.Goals as goal
 
-pub returns : goal.returns
-returns c = λ rest.
+pub returns-clause-line : goal.returns-clause-line
+returns-clause-line c = λ rest.
     let last : after c.args.self.now.state (line_view c.args.line) ≡ None =
     subst (λ (u : UnreadLines). after u.state (line_view c.args.line) ≡ None) c.self.view_is (sym c.after.ensures ∙ ap (option_map state_view) c.in-None.is) in
     subst (λ e. GivesLine (read_after c.args.self.now (Got (line_view c.args.line) rest)) c.args.self.now (Err e)) (sym c.missing.ensures)

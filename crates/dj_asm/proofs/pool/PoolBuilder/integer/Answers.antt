@@ -1,6 +1,0 @@
-use Rattle.std.proofs.Common.{refl}
-use Rattle.dj_asm.specs.Entries.{Integer}
-use Rattle.dj_asm.proofs.pool.PoolBuilder.integer.Goals as goal
-
-pub add-requires : goal.add-requires
-add-requires c = (Integer _, record { no_text = tt; constant = refl; named = tt })

@@ -1,6 +1,0 @@
-use Rattle.std.proofs.Common.{refl}
-use Rattle.dj_asm.specs.Entries.{Long}
-use Rattle.dj_asm.proofs.pool.PoolBuilder.long.Goals as goal
-
-pub add-requires : goal.add-requires
-add-requires c = (Long _, record { no_text = tt; constant = refl; named = tt })

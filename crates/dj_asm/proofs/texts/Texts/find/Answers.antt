@@ -1,7 +1,0 @@
-use Rattle.std.proofs.Common.{subst}
-use Rattle.dj_asm.specs.Pooling.{IsFound}
-use Rattle.dj_asm.proofs.TextNumbers.{found}
-use Rattle.dj_asm.proofs.texts.Texts.find.Goals as goal
-
-pub returns : goal.returns
-returns c = subst (λ l. IsFound l c.args.text.now c.get_index_of.result) c.self.view_is (found c.self.inside.texts.keys (λ text. text.items) c.args.text.now c.get_index_of.result c.get_index_of.ensures.index)

@@ -1,0 +1,12 @@
+use Rattle.std.proofs.Common.{◌∷◌, [], sym, subst}
+use Rattle.dj_entries.specs.Entries.{Utf8}
+use Rattle.dj_entries.specs.Needs.{code_name}
+use Rattle.dj_entries.specs.PoolNeeds.{PutsNeeds}
+use Rattle.dj_entries.proofs.NeedSteps.{needs_then}
+use Rattle.dj_entries.proofs.lines.need_method.Goals as goal
+
+pub returns : goal.returns
+returns c =
+    subst (λ r. PutsNeeds c.args.pool.now (Utf8 c.args.name.now ∷ (Utf8 c.args.desc.now ∷ (code_name ∷ []))) c.need_text.new.pool r) (sym c.both.ensures)
+    (needs_then c.args.pool.now (Utf8 c.args.name.now ∷ (Utf8 c.args.desc.now ∷ [])) c.need_names.new.pool (code_name ∷ []) c.need_text.new.pool
+    c.in_ok-names.names c.in_ok-code.code c.in_ok-names.ensures c.in_ok-code.ensures)

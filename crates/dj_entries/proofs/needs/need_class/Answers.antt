@@ -1,0 +1,10 @@
+use Rattle.std.proofs.Common.{◌∷◌, [], sym, subst}
+use Rattle.dj_entries.specs.Entries as entries
+use Rattle.dj_entries.specs.PoolNeeds.{PutsNeeds}
+use Rattle.dj_entries.proofs.NeedSteps.{class_need}
+use Rattle.dj_entries.proofs.needs.need_class.Goals as goal
+
+pub returns : goal.returns
+returns c =
+    subst (λ r. PutsNeeds c.args.pool.now (entries.Class c.args.name.now ∷ []) c.class.new.self r) (sym c.has_room.ensures)
+    (class_need c.args.pool.now c.class.new.self c.args.name.now c.in_ok-index.index c.is_short.result c.in_ok-index.ensures c.is_short.ensures)

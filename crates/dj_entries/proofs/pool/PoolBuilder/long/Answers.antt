@@ -1,0 +1,6 @@
+use Rattle.std.proofs.Common.{refl}
+use Rattle.dj_entries.specs.Entries.{Long}
+use Rattle.dj_entries.proofs.pool.PoolBuilder.long.Goals as goal
+
+pub add-requires : goal.add-requires
+add-requires c = (Long _, record { no_text = tt; constant = refl; named = tt })

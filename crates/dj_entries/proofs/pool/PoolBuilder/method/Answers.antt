@@ -1,0 +1,14 @@
+use Rattle.std.proofs.Common.{Some, refl, subst}
+use Rattle.dj_entries.specs.declared.key.Key.TheVariants as keys
+use Rattle.dj_entries.specs.Entries.{Method}
+use Rattle.dj_entries.specs.Pooling.{member_parts}
+use Rattle.dj_entries.proofs.PoolChains.{PutsMember, method_key, last_ends}
+use Rattle.dj_entries.proofs.pool.PoolBuilder.method.Goals as goal
+
+pub returns : goal.returns
+returns c =
+    let put : PutsMember c.args.self.now c.args.class.now c.args.name.now c.args.desc.now c.member.new.self (Some (c.in-Some.class_index, c.in-Some.names_index)) =
+    subst (λ r. PutsMember c.args.self.now c.args.class.now c.args.name.now c.args.desc.now c.member.new.self r) c.in-Some.is c.in_ok-class_index.ensures in
+    last_ends c.add.result c.args.self.now (member_parts c.args.class.now c.args.name.now c.args.desc.now) c.member.new.self
+    (keys.Method c.in-Some.class_index c.in-Some.names_index) (Method c.args.class.now c.args.name.now c.args.desc.now) c.add.new.self refl put.0
+    (method_key c.args.self.now c.member.new.self c.args.class.now c.args.name.now c.args.desc.now c.in-Some.class_index c.in-Some.names_index put) c.add.ensures

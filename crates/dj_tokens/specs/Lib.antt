@@ -1,0 +1,10 @@
+pub mod Words
+pub mod Mnemonics
+pub mod WordReading
+pub mod Views
+pub mod Strings
+pub mod Tables
+pub mod Numbers
+pub mod NumberViews
+pub mod Texts
+pub mod Colons
