@@ -64,7 +64,7 @@ const REFUSED: [(&[u8], ClassError); 11] = [
 ];
 
 // A body, and the stack, the locals, the code, the rows and the attributes.
-const READ: [(&[u8], &str); 5] = [
+pub(crate) const READ: [(&[u8], &str); 5] = [
     (
         b"\0\x02\0\x03\0\0\0\x02*\xb0\0\x02\0\0\0\x01\0\x01\0\0\0\0\0\x02\0\0\0\x07\0\x02\0\x09\0\0\0\x02ab\0\0\0\0\0\0",
         "2 3 [42, 176] [CatchRow { start: 0, end: 1, handler: 1, catch_type: 0 }, CatchRow { start: 0, end: 2, handler: 0, catch_type: 7 }] [Attribute { name: 9, body: [97, 98] }, Attribute { name: 0, body: [] }]",

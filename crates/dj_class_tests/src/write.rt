@@ -1,7 +1,8 @@
 use crate::class::READ_1;
-use dj_class::read_class;
+use crate::code::READ;
+use dj_class::{read_class, read_code};
 use dj_pool::{Pool, read_pool};
-use dj_write::{write_class, write_pool};
+use dj_write::{write_class, write_code, write_pool};
 use std::alloc::Global;
 
 // Pools from their count on.
@@ -18,6 +19,20 @@ fn is_written_back(alloc: Global, file: &[u8]) -> bool {
     match read_class(alloc, file) {
         Ok(view) => match write_class(alloc, &view) {
             Ok(bytes) => bytes.as_slice() == file,
+            Err(_) => false,
+        },
+        Err(_) => false,
+    }
+}
+
+// The same of the body of a Code attribute.
+fn is_code_written_back(alloc: Global, body: &[u8]) -> bool {
+    if body.len() > 9_999 {
+        return false;
+    }
+    match read_code(alloc, body) {
+        Ok(view) => match write_code(alloc, &view) {
+            Ok(bytes) => bytes.as_slice() == body,
             Err(_) => false,
         },
         Err(_) => false,
@@ -53,6 +68,13 @@ fn written_back_1(rt: HostRuntime) {
 fn pools_written_back(rt: HostRuntime) {
     for bytes in &POOLS {
         assert!(rt; is_pool_written_back(rt.alloc(), bytes));
+    }
+}
+
+#[test]
+fn codes_written_back(rt: HostRuntime) {
+    for (body, _) in &READ {
+        assert!(rt; is_code_written_back(rt.alloc(), body));
     }
 }
 

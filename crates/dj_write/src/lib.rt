@@ -12,4 +12,4 @@ pub use code::write_code;
 pub use error::WriteError;
 pub use laws::{file_of_view, view_of_file};
 pub use pool::write_pool;
-pub use write::write_class;
+pub use write::{write_class, write_class_with};

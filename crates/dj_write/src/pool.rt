@@ -109,11 +109,10 @@ fn put_entries(out: &mut Vec<u8>, entries: &[Entry<'_>]) -> Result<(), WriteErro
     Ok(())
 }
 
-/// Appends the bytes of a pool: the count, and each constant.
-pub(crate) fn put_pool(out: &mut Vec<u8>, pool: &Pool<'_>) -> Result<(), WriteError>
-    ensures { OnOk result (out.new.items ≡ out.old.items ++ pool_bytes pool.now) }
+/// Appends the bytes of a pool of these constants: the count, and each constant.
+pub(crate) fn put_pool(out: &mut Vec<u8>, entries: &[Entry<'_>]) -> Result<(), WriteError>
+    ensures { OnOk result (out.new.items ≡ out.old.items ++ pool_bytes (map constant_of entries.now)) }
 {
-    let entries = pool.as_slice();
     put_length2(out, entries.len() + 1)?;
     put_entries(out, entries)
 }
@@ -123,6 +122,6 @@ pub fn write_pool(alloc: Global, pool: &Pool<'_>) -> Result<Bytes, WriteError>
     ensures { IfOk result (λ bytes. bytes ≡ pool_bytes pool.now) }
 {
     let mut out = Vec::new(alloc);
-    put_pool(&mut out, pool)?;
+    put_pool(&mut out, pool.as_slice())?;
     Ok(Bytes::from(out))
 }

@@ -5,12 +5,15 @@ ghost use Rattle.dj_class.specs.ClassFile.{attribute_bytes, member_bytes, header
 ghost use Rattle.dj_class.specs.Parts.{attribute_of};
 ghost use Rattle.dj_class.specs.Members.{member_of};
 ghost use Rattle.dj_class.specs.Views.{class_of};
+ghost use Rattle.dj_pool.specs.Views.{constant_of};
+ghost use Rattle.dj_write.specs.Parts.{with_pool};
 
 use crate::error::WriteError;
 use crate::pool::put_pool;
 use crate::put::{put_bytes, put_length2, put_length4, put_u2, put_u4};
 use dj_class::{Attribute, ClassView, MemberView};
 use dj_names::Bytes;
+use dj_pool::Entry;
 use std::alloc::Global;
 
 // The magic number of class files (JVMS 4.1).
@@ -105,11 +108,15 @@ fn put_heading(out: &mut Vec<u8>, view: &ClassView<'_>) -> Result<(), WriteError
     put_indexes(out, view.interfaces.as_slice())
 }
 
-fn put_class(out: &mut Vec<u8>, view: &ClassView<'_>) -> Result<(), WriteError>
-    ensures { OnOk result (out.new.items ≡ out.old.items ++ class_bytes (class_of view.now)) }
+fn put_class(
+    out: &mut Vec<u8>,
+    entries: &[Entry<'_>],
+    view: &ClassView<'_>,
+) -> Result<(), WriteError>
+    ensures { OnOk result (out.new.items ≡ out.old.items ++ class_bytes (with_pool (map constant_of entries.now) (class_of view.now))) }
 {
     put_header(out, view.minor, view.major)?;
-    put_pool(out, &view.pool)?;
+    put_pool(out, entries)?;
     put_heading(out, view)?;
     put_members(out, view.fields.as_slice())?;
     put_members(out, view.methods.as_slice())?;
@@ -121,6 +128,19 @@ pub fn write_class(alloc: Global, view: &ClassView<'_>) -> Result<Bytes, WriteEr
     ensures { IfOk result (λ bytes. bytes ≡ class_bytes (class_of view.now)) }
 {
     let mut out = Vec::new(alloc);
-    put_class(&mut out, view)?;
+    put_class(&mut out, view.pool.as_slice(), view)?;
+    Ok(Bytes::from(out))
+}
+
+/// The bytes of a class file (JVMS 4.1 to 4.7) with these constants, each at its index less one, in place of the view's.
+pub fn write_class_with(
+    alloc: Global,
+    entries: &[Entry<'_>],
+    view: &ClassView<'_>,
+) -> Result<Bytes, WriteError>
+    ensures { IfOk result (λ bytes. bytes ≡ class_bytes (with_pool (map constant_of entries.now) (class_of view.now))) }
+{
+    let mut out = Vec::new(alloc);
+    put_class(&mut out, entries, view)?;
     Ok(Bytes::from(out))
 }

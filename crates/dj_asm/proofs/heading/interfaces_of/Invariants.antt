@@ -1,0 +1,9 @@
+use Rattle.std.proofs.Common.{◌≡◌, map, take}
+use Rattle.std.specs.List.{flat_map}
+use Rattle.dj_source.specs.LineViews.{line_view}
+use Rattle.dj_entries.specs.Pooling.{found_index}
+use Rattle.dj_asm.specs.Filing.{interface_indexes}
+use Rattle.dj_asm.proofs.heading.interfaces_of.Given as goal
+
+abbrev pub invariant-loop-line : goal.invariant-loop-line
+invariant-loop-line l = l.indexes ≡ flat_map (interface_indexes (found_index l.pool)) (map line_view (take l.line-index l.lines))

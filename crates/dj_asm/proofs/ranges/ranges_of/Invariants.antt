@@ -1,0 +1,10 @@
+use Rattle.std.proofs.Common.{◌≡◌, map, take}
+use Rattle.std.specs.List.{flat_map}
+use Rattle.dj_source.specs.LineViews.{line_view}
+use Rattle.dj_entries.specs.Pooling.{found_index}
+use Rattle.dj_asm.specs.Codes.{ranges_in}
+use Rattle.dj_asm.specs.Files.{places_of}
+use Rattle.dj_asm.proofs.ranges.ranges_of.Given as goal
+
+abbrev pub invariant-loop-line : goal.invariant-loop-line
+invariant-loop-line l = l.ranges ≡ flat_map (ranges_in (places_of (found_index l.pool) l.labels)) (map line_view (take l.line-index l.lines))

@@ -1,0 +1,42 @@
+-- What the assembler's passes make of a source: the code's own words. No public clause cites them.
+use Rattle.std.specs.Prelude.{◌≡◌, ℕ, ◌<◌, List, [], map, Option, Some, None}
+use Rattle.dj_class.specs.ClassFile.{ClassFile, class_bytes}
+use Rattle.dj_source.specs.Lines.{Line}
+use Rattle.dj_source.specs.Sources.{Source, lines_of, IsSizedSource}
+use Rattle.dj_source.specs.Labels.{IsMislabelled}
+use Rattle.dj_entries.specs.Entries.{Entry}
+use Rattle.dj_entries.specs.Needs.{needs_of, needed_entry, entries_of}
+use Rattle.dj_asm.specs.Files.{IsFileOf}
+use Rattle.dj_entries.specs.Room.{IsPastPool, NoLine}
+use Rattle.dj_asm.specs.Large.{IsTooLarge}
+use Rattle.dj_entries.specs.Pooling.{all_kept}
+
+-- ---- what is too large
+
+-- a source with these lines, whose labels are right, and its pool
+pub record IsJudged (s : Source) (lines : List Line) (kept : List Entry) : Type 0 where
+  pub allowed : IsSizedSource s
+  pub labelled : NoLine (IsMislabelled s)
+  pub lines_are : lines ≡ lines_of s
+  pub kept_is : kept ≡ all_kept [] (map needed_entry (needs_of s))
+
+-- the first line that is too large, but for lines whose entries have no room
+abbrev pub IsFirstBeside : Source → Option ℕ → Type 0
+IsFirstBeside s (Some place) = IsTooLarge s place × ((earlier : ℕ) → earlier < place → IsTooLarge s earlier → IsPastPool s earlier)
+IsFirstBeside s None = (place : ℕ) → IsTooLarge s place → IsPastPool s place
+
+-- ---- files
+
+-- a source with these lines that means a file, and its pool
+pub record IsFitting (s : Source) (lines : List Line) (kept : List Entry) : Type 0 where
+  pub allowed : IsSizedSource s
+  pub labelled : NoLine (IsMislabelled s)
+  pub fits : NoLine (IsTooLarge s)
+  pub lines_are : lines ≡ lines_of s
+  pub kept_is : kept ≡ entries_of s
+
+-- the source's class file
+pub record AreFileBytes (s : Source) (bytes : List ℕ) : Type 0 where
+  pub file : ClassFile
+  pub is_file : IsFileOf s file
+  pub spelled : bytes ≡ class_bytes file
