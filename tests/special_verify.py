@@ -9,7 +9,7 @@ sys.dont_write_bytecode = True
 import harness
 from class_files import ABSTRACT, INTERFACE, PUBLIC, STATIC, Pool, class_file, code, straight, u1, u2, u4
 from harness import Outcome
-from listing import PLAIN, instructions
+from instructions import PLAIN, instructions
 from special_base import (
     MEBIBYTES_4,
     cut,

@@ -12,7 +12,7 @@ from class_files import (
     string,
     u1,
 )
-from listing import instructions
+from instructions import instructions
 from pool_cases import LONG, accepted, whole_pool, with_pool
 
 PAIR = "\U00010437"  # a character outside the basic plane: two units, six bytes in a class file and four in a path

@@ -2,6 +2,8 @@
 #![tactic(auto)]
 
 #[cfg(test)]
+mod assembled;
+#[cfg(test)]
 mod frames_move;
 #[cfg(test)]
 mod frames_read;

@@ -18,7 +18,7 @@ const COSTS: Costs = Costs {
 };
 
 // Reports that hold no bytes of their own.
-const PLAIN: [(Report, &[u8], u8); 7] = [
+const PLAIN: [(Report, &[u8], u8); 10] = [
     (Report::Accepted(1), b"ACCEPTED 1\n", 0),
     (Report::Accepted(4_096), b"ACCEPTED 4096\n", 0),
     (Report::Limited(Limit::FileCount), b"LIMIT files 4096\n", 7),
@@ -26,6 +26,16 @@ const PLAIN: [(Report, &[u8], u8); 7] = [
     (Report::Limited(Limit::Total), b"LIMIT total 67108864\n", 7),
     (Report::Limited(Limit::Input), b"LIMIT input 1048576\n", 7),
     (Report::Usage, b"USAGE\n", 64),
+    (
+        Report::Syntax {
+            line: 1,
+            column: 10,
+        },
+        b"ASM SYNTAX 1 10\n",
+        68,
+    ),
+    (Report::Label { line: 7 }, b"ASM LABEL 7\n", 68),
+    (Report::Large { line: 12 }, b"ASM LARGE 12\n", 68),
 ];
 
 #[test]

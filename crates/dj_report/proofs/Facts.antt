@@ -1,16 +1,12 @@
 -- The texts and statuses of reports, the escapes of bytes and the order of lines, at plain values.
 use Rattle.std.proofs.Common.{◌≡◌, ℕ, List, [], ◌∷◌, ◌++◌, map, Option, Some, None, codes, refl}
-use Rattle.std.specs.declared.cmp.Ordering.{Ordering}
 use Rattle.std.specs.declared.cmp.Ordering.TheVariants as orderings
 use Rattle.std.specs.Fmt.{digits}
 use Rattle.dj_names.specs.declared.run.Charge.TheVariants as charges
 use Rattle.dj_names.specs.declared.run.Costs.{Costs}
-use Rattle.dj_names.specs.declared.run.Message.TheVariants as messages
-use Rattle.dj_names.specs.declared.run.Outcome.{Outcome}
 use Rattle.dj_names.specs.declared.run.Outcome.TheVariants as outcomes
 use Rattle.dj_report.specs.declared.report.Limit.TheVariants as limits
 use Rattle.dj_report.specs.declared.report.Violation.{Violation}
-use Rattle.dj_report.specs.declared.report.Report.{Report}
 use Rattle.dj_report.specs.declared.report.Report.TheVariants as reports
 use Rattle.dj_report.specs.Parts.{escaped}
 use Rattle.dj_report.specs.Outcomes.{outcome_text, outcome_status, costs_text, run_text}
@@ -31,6 +27,15 @@ limited = refl
 
 usage : report_text reports.Usage ≡ codes "USAGE" ++ 10 ∷ []
 usage = refl
+
+-- the faults of an assembler's text tell the line before the column
+asm-texts : map report_text (reports.Syntax 1 10 ∷ reports.Label 7 ∷ reports.Large 12 ∷ []) ≡ (codes "ASM SYNTAX 1 10" ++ 10 ∷ []) ∷ (codes "ASM LABEL 7" ++ 10 ∷ []) ∷ (codes "ASM LARGE 12" ++ 10 ∷ []) ∷ []
+unfolding digits
+asm-texts = refl
+
+-- a file is written as it is, and no line feed after it
+written : report_text (reports.Written (202 ∷ 254 ∷ 0 ∷ [])) ≡ 202 ∷ 254 ∷ 0 ∷ []
+written = refl
 
 -- ---- lines
 
@@ -77,7 +82,7 @@ run-text = refl
 outcome-statuses : map outcome_status (outcomes.OkNull ∷ outcomes.Stopped charges.Jump ∷ outcomes.TooDeep ∷ outcomes.Link ∷ outcomes.OutOfSteps 9 ∷ outcomes.HeapFull 5 16 ∷ []) ≡ 0 ∷ 3 ∷ 4 ∷ 6 ∷ 8 ∷ 9 ∷ []
 outcome-statuses = refl
 
-report-statuses : map report_status (reports.Accepted 1 ∷ reports.Limited limits.File ∷ reports.Costed outcomes.TooDeep costs ∷ reports.Usage ∷ []) ≡ 0 ∷ 7 ∷ 4 ∷ 64 ∷ []
+report-statuses : map report_status (reports.Accepted 1 ∷ reports.Limited limits.File ∷ reports.Costed outcomes.TooDeep costs ∷ reports.Usage ∷ reports.Syntax 1 10 ∷ reports.Label 7 ∷ reports.Large 12 ∷ reports.Written [] ∷ []) ≡ 0 ∷ 7 ∷ 4 ∷ 64 ∷ 68 ∷ 68 ∷ 68 ∷ 0 ∷ []
 report-statuses = refl
 
 -- ---- the order

@@ -1,4 +1,4 @@
--- The bytes and the status of a report: lines of ASCII, each ended by a line feed.
+-- The bytes and the status of a report: lines of ASCII, each ended by a line feed, or the bytes of a file and nothing else.
 use Rattle.std.specs.Prelude.{ℕ, ◌==◌, List, [], ◌∷◌, ◌++◌, length, Option, Some, None, codes, if◌then◌else◌}
 use Rattle.std.specs.List.{flat_map}
 use Rattle.std.specs.Fmt.{decimal}
@@ -43,15 +43,29 @@ limit_text limits.File = codes "file 4194304"
 limit_text limits.Total = codes "total 67108864"
 limit_text limits.Input = codes "input 1048576"
 
+-- how many violations, and a line for each
+abbrev pub violations_text : List Violation → List ℕ
+violations_text violations = line (codes "REJECTED " ++ decimal (length violations)) ++ flat_map violation_text violations
+
+-- the faults of an assembler's text: where a word stands, or which line it is
+abbrev pub syntax_text : ℕ → ℕ → List ℕ
+syntax_text at column = line (codes "ASM SYNTAX " ++ decimal at ++ codes " " ++ decimal column)
+
+abbrev pub line_fault_text : List ℕ → ℕ → List ℕ
+line_fault_text fault at = line (codes "ASM " ++ fault ++ codes " " ++ decimal at)
+
 abbrev pub report_text : Report → List ℕ
 report_text (reports.Accepted files) = line (codes "ACCEPTED " ++ decimal files)
-report_text (reports.Rejected violations) =
-    line (codes "REJECTED " ++ decimal (length violations)) ++ flat_map violation_text violations
+report_text (reports.Rejected violations) = violations_text violations
 report_text (reports.Limited limit) = line (codes "LIMIT " ++ limit_text limit)
 report_text (reports.Later path) = line (codes "LATER " ++ escaped path)
 report_text (reports.Absent path) = line (codes "ABSENT " ++ escaped path)
 report_text (reports.Costed outcome costs) = run_text outcome costs
 report_text reports.Usage = line (codes "USAGE")
+report_text (reports.Syntax at column) = syntax_text at column
+report_text (reports.Label at) = line_fault_text (codes "LABEL") at
+report_text (reports.Large at) = line_fault_text (codes "LARGE") at
+report_text (reports.Written bytes) = bytes
 
 -- the status with which the program ends after it wrote the report
 abbrev pub report_status : Report → ℕ
@@ -62,3 +76,7 @@ report_status (reports.Later path) = 75
 report_status (reports.Absent path) = 65
 report_status (reports.Costed outcome costs) = outcome_status outcome
 report_status reports.Usage = 64
+report_status (reports.Syntax at column) = 68
+report_status (reports.Label at) = 68
+report_status (reports.Large at) = 68
+report_status (reports.Written bytes) = 0

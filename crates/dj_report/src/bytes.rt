@@ -38,7 +38,7 @@ impl<T: Drop> From<AllocFailed<T>> for ReportError {
     }
 }
 
-/// The report's lines.
+/// The report's lines, or the bytes that are written.
 pub fn bytes_of(alloc: Global, report: &Report) -> Result<Bytes, ReportError>
     ensures { IfOk result (λ bytes. bytes ≡ report_text report.now) }
 {
@@ -59,5 +59,7 @@ pub fn status_of(report: &Report) -> u8
         Report::Absent(_) => 65,
         Report::Costed { outcome, .. } => status_of_outcome(outcome),
         Report::Usage => 64,
+        Report::Syntax { .. } | Report::Label { .. } | Report::Large { .. } => 68,
+        Report::Written(_) => 0,
     }
 }

@@ -1,7 +1,7 @@
 // Each function appends a part of a report's text.
 ghost use Rattle.std.specs.Prelude.{◌≡◌, ◌++◌, OnOk};
 ghost use Rattle.std.specs.List.{flat_map};
-ghost use Rattle.dj_report.specs.Text.{rule_name, member_text, number_text, violation_text, limit_text, report_text};
+ghost use Rattle.dj_report.specs.Text.{rule_name, member_text, number_text, violation_text, violations_text, limit_text, syntax_text, line_fault_text, report_text};
 
 use crate::bytes::ReportError;
 use crate::outcome::put_run;
@@ -71,6 +71,15 @@ fn put_violations(out: &mut Vec<u8>, violations: &[Violation]) -> Result<(), Rep
     Ok(())
 }
 
+fn put_rejected(out: &mut Vec<u8>, violations: &[Violation]) -> Result<(), ReportError>
+    ensures { OnOk result (out.new.items ≡ out.old.items ++ violations_text violations.now) }
+{
+    out.extend_from_slice(b"REJECTED ")?;
+    put_decimal(out, violations.len() as u64)?;
+    out.push(b'\n')?;
+    put_violations(out, violations)
+}
+
 fn limit_text_of(limit: Limit) -> &'static str
     ensures { result.now ≡ limit_text limit }
 {
@@ -82,7 +91,29 @@ fn limit_text_of(limit: Limit) -> &'static str
     }
 }
 
-/// Appends the report's lines.
+fn put_syntax(out: &mut Vec<u8>, line: u32, column: u32) -> Result<(), ReportError>
+    ensures { OnOk result (out.new.items ≡ out.old.items ++ syntax_text line column) }
+{
+    out.extend_from_slice(b"ASM SYNTAX ")?;
+    put_decimal(out, u64::from(line))?;
+    out.push(b' ')?;
+    put_decimal(out, u64::from(column))?;
+    out.push(b'\n')?;
+    Ok(())
+}
+
+fn put_line_fault(out: &mut Vec<u8>, fault: &str, line: u32) -> Result<(), ReportError>
+    ensures { OnOk result (out.new.items ≡ out.old.items ++ line_fault_text fault.now line) }
+{
+    out.extend_from_slice(b"ASM ")?;
+    out.extend_from_slice(fault.as_bytes())?;
+    out.push(b' ')?;
+    put_decimal(out, u64::from(line))?;
+    out.push(b'\n')?;
+    Ok(())
+}
+
+/// Appends the report's lines, or the bytes that are written.
 pub fn put_report(out: &mut Vec<u8>, report: &Report) -> Result<(), ReportError>
     ensures { OnOk result (out.new.items ≡ out.old.items ++ report_text report.now) }
 {
@@ -92,13 +123,7 @@ pub fn put_report(out: &mut Vec<u8>, report: &Report) -> Result<(), ReportError>
             put_decimal(out, u64::from(*files))?;
             out.push(b'\n')?;
         }
-        Report::Rejected(violations) => {
-            let violations = violations.as_slice();
-            out.extend_from_slice(b"REJECTED ")?;
-            put_decimal(out, violations.len() as u64)?;
-            out.push(b'\n')?;
-            put_violations(out, violations)?;
-        }
+        Report::Rejected(violations) => put_rejected(out, violations.as_slice())?,
         Report::Limited(limit) => {
             out.extend_from_slice(b"LIMIT ")?;
             out.extend_from_slice(limit_text_of(*limit).as_bytes())?;
@@ -115,9 +140,11 @@ pub fn put_report(out: &mut Vec<u8>, report: &Report) -> Result<(), ReportError>
             out.push(b'\n')?;
         }
         Report::Costed { outcome, costs } => put_run(out, outcome, costs)?,
-        Report::Usage => {
-            out.extend_from_slice(b"USAGE\n")?;
-        }
+        Report::Usage => out.extend_from_slice(b"USAGE\n")?,
+        Report::Syntax { line, column } => put_syntax(out, *line, *column)?,
+        Report::Label { line } => put_line_fault(out, "LABEL", *line)?,
+        Report::Large { line } => put_line_fault(out, "LARGE", *line)?,
+        Report::Written(bytes) => out.extend_from_slice(bytes.as_slice())?,
     }
     Ok(())
 }

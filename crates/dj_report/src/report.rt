@@ -1,6 +1,6 @@
 ghost use Rattle.std.specs.Prelude.{◌≡◌, [], ◌∷◌, ◌++◌, OnOk, OnErr};
 
-use dj_names::{Costs, Name, NoMemory, Outcome};
+use dj_names::{Bytes, Costs, Name, NoMemory, Outcome};
 use std::alloc::Global;
 use std::marker::Model;
 
@@ -118,6 +118,14 @@ pub enum Report {
     Costed { outcome: Outcome, costs: Costs },
     /// The words are those of no job.
     Usage,
+    /// In this line of an assembler's text, at this column, stands what may not stand there.
+    Syntax { line: u32, column: u32 },
+    /// This line of an assembler's text has a label that is unknown, defined again or of no use there.
+    Label { line: u32 },
+    /// This line of an assembler's text asks for what doesn't fit.
+    Large { line: u32 },
+    /// The bytes of a file, and nothing else.
+    Written(Bytes),
 }
 
 /// A class file under its path within the folder.

@@ -1,6 +1,7 @@
--- The commands that aren't done yet.
-use Rattle.std.proofs.Common.{◌≡◌, Bool, true, false, List, [], ◌∷◌, Option, Some, None, refl, cond, codes, ℕ}
+-- The job of `assemble`, and the commands that aren't done yet.
+use Rattle.std.proofs.Common.{◌≡◌, Bool, true, false, List, [], ◌∷◌, Option, Some, None, refl, ap, cond, codes, ℕ}
 use Rattle.std.specs.Prelude.{option_and_then}
+use Rattle.std.proofs.lemmas.Slice.Eq.{bytes_eq-Decides}
 use Rattle.dj_bytes.specs.Options.{◌>>=◌}
 use Rattle.dj_words.specs.Words.{Word, Job, Sample, is_word, number_between, rewrite_job, assemble_job, sample_job}
 use Rattle.dj_words.specs.DoneJobs.{DoneJob, done}
@@ -8,6 +9,10 @@ use Rattle.dj_words.specs.WordsApp.{Values, has_no_value, steps_in, raw_in, job_
 
 abbrev cut : Option Job → Option DoneJob
 cut job = option_and_then done job
+
+pub job_of_assemble : (name : Word) (operands : List Word) (v : Values) → is_word name (codes "assemble") ≡ true
+    → job_of_values name operands v ≡ cond (has_no_value v) (assemble_job operands []) None
+job_of_assemble name operands v is = ap (λ n. job_of_values n operands v) ((bytes_eq-Decides name (codes "assemble")).0 is)
 
 rewrite_undone : (b : Bool) (operands : List Word) → cut (cond b (rewrite_job operands []) None) ≡ None
 rewrite_undone false operands = refl
@@ -23,12 +28,6 @@ raw_undone (a ∷ b ∷ []) s = refl
 raw_undone (a ∷ b ∷ c ∷ []) None = refl
 raw_undone (a ∷ b ∷ c ∷ []) (Some s) = refl
 raw_undone (a ∷ b ∷ c ∷ d ∷ rest) s = refl
-
-assemble_undone : (b : Bool) (operands : List Word) → cut (cond b (assemble_job operands []) None) ≡ None
-assemble_undone false operands = refl
-assemble_undone true [] = refl
-assemble_undone true (a ∷ []) = refl
-assemble_undone true (a ∷ b ∷ rest) = refl
 
 two_numbers : (seed count : Option ℕ) → cut (seed >>= λ s. count >>= λ c. Some (Sample s c)) ≡ None
 two_numbers None count = refl
@@ -46,9 +45,8 @@ either : (b : Bool) (x y : Option Job) (z : Option DoneJob) → cut x ≡ z → 
 either true x y z e f = e
 either false x y z e f = f
 
-pub job_of_others : (name : Word) (operands : List Word) (v : Values) → is_word name (codes "check") ≡ false → is_word name (codes "verify") ≡ false → cut (job_of_values name operands v) ≡ None
-job_of_others name operands v other another =
-    rw (other, another) (either (is_word name (codes "rewrite")) _ _ None (rewrite_undone (has_no_value v) operands)
+pub job_of_others : (name : Word) (operands : List Word) (v : Values) → is_word name (codes "check") ≡ false → is_word name (codes "verify") ≡ false → is_word name (codes "assemble") ≡ false → cut (job_of_values name operands v) ≡ None
+job_of_others name operands v no_check no_verify no_assemble =
+    rw (no_check, no_verify, no_assemble) (either (is_word name (codes "rewrite")) _ _ None (rewrite_undone (has_no_value v) operands)
     (either (is_word name (codes "raw")) _ _ None (raw_undone operands (steps_in v))
-    (either (is_word name (codes "assemble")) _ _ None (assemble_undone (has_no_value v) operands)
-    (either (is_word name (codes "sample")) _ None None (sample_undone (has_no_value v) operands) refl))))
+    (either (is_word name (codes "sample")) _ None None (sample_undone (has_no_value v) operands) refl)))

@@ -164,7 +164,7 @@ fives = refl
 
 -- ---- what is done so far
 
-done_so_far : map (λ line. done_job_of (words_in line)) (codes "check c" ∷ codes "verify c A in --jump=5" ∷ codes "raw 1 1 1" ∷ codes "--steps 5 raw c A in" ∷ codes "rewrite 1 1" ∷ codes "assemble t" ∷ codes "sample 1 1" ∷ codes "show 1 1" ∷ codes "check" ∷ [])
-    ≡ Some (done.Check (codes "c")) ∷ Some (done.Verify (codes "c") (codes "A") (codes "in") (record { alloc = 67108864; invoke = 1000000; jump = 5; throw = 1000000 })) ∷ None ∷ None ∷ None ∷ None ∷ None ∷ None ∷ None ∷ []
+done_so_far : map (λ line. done_job_of (words_in line)) (codes "check c" ∷ codes "verify c A in --jump=5" ∷ codes "raw 1 1 1" ∷ codes "--steps 5 raw c A in" ∷ codes "rewrite 1 1" ∷ codes "assemble t/" ∷ codes "assemble" ∷ codes "assemble t u" ∷ codes "assemble t --jump 5" ∷ codes "sample 1 1" ∷ codes "show 1 1" ∷ codes "check" ∷ [])
+    ≡ Some (done.OnFolder (done.Check (codes "c"))) ∷ Some (done.OnFolder (done.Verify (codes "c") (codes "A") (codes "in") (record { alloc = 67108864; invoke = 1000000; jump = 5; throw = 1000000 }))) ∷ None ∷ None ∷ None ∷ Some (done.Assemble (codes "t/")) ∷ None ∷ None ∷ None ∷ None ∷ None ∷ None ∷ []
 unfolding done_job_of
 done_so_far = refl

@@ -5,15 +5,22 @@ use Rattle.dj_names.specs.declared.run.Thresholds.{Thresholds}
 use Rattle.dj_words.specs.Words.{Word, Job, job_of}
 use Rattle.dj_words.specs.Words as words
 
-pub data DoneJob : Type 0 where
+-- a job on the class files of a folder
+pub data FolderJob : Type 0 where
   -- check FOLDER
-  Check : Word → DoneJob
+  Check : Word → FolderJob
   -- verify FOLDER ENTRY INPUT
-  Verify : Word → Word → Word → Thresholds → DoneJob
+  Verify : Word → Word → Word → Thresholds → FolderJob
+
+pub data DoneJob : Type 0 where
+  OnFolder : FolderJob → DoneJob
+  -- assemble FILE
+  Assemble : Word → DoneJob
 
 abbrev pub done : Job → Option DoneJob
-done (words.Check folder) = Some (Check folder)
-done (words.Verify folder entry input most) = Some (Verify folder entry input most)
+done (words.Check folder) = Some (OnFolder (Check folder))
+done (words.Verify folder entry input most) = Some (OnFolder (Verify folder entry input most))
+done (words.Assemble file) = Some (Assemble file)
 done _ = None
 
 unfoldable pub done_job_of : List Word → Option DoneJob

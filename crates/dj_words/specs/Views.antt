@@ -2,16 +2,22 @@
 use Rattle.std.specs.Prelude.{List, Option, map, option_map}
 use Rattle.std.specs.Borrow.{Bor}
 use Rattle.dj_words.specs.Words.{Word}
-use Rattle.dj_words.specs.DoneJobs.{DoneJob, Check, Verify}
+use Rattle.dj_words.specs.DoneJobs.{DoneJob, FolderJob, Check, Verify, OnFolder, Assemble}
 use Rattle.dj_words.specs.WordsApp.{Values}
 use Rattle.dj_words.specs.declared.command.Command.{Command}
 use Rattle.dj_words.specs.declared.command.Command.TheVariants as commands
+use Rattle.dj_words.specs.declared.command.FolderCommand.{FolderCommand}
+use Rattle.dj_words.specs.declared.command.FolderCommand.TheVariants as folder_commands
 use Rattle.dj_words.specs.declared.options.Options.{Options}
 
 -- the job that a command does
+abbrev pub folder_job_view : FolderCommand → FolderJob
+folder_job_view (folder_commands.Check folder) = Check folder.now
+folder_job_view (folder_commands.Verify folder entry input thresholds) = Verify folder.now entry.now input.now thresholds
+
 abbrev pub job_view : Command → DoneJob
-job_view (commands.Check folder) = Check folder.now
-job_view (commands.Verify folder entry input thresholds) = Verify folder.now entry.now input.now thresholds
+job_view (commands.OnFolder command) = OnFolder (folder_job_view command)
+job_view (commands.Assemble file) = Assemble file.now
 
 abbrev pub texts : List (Bor Word) → List Word
 texts words = map (λ word. word.now) words

@@ -2,7 +2,7 @@
 
 ghost use Rattle.std.specs.Prelude.{◌≡◌, [], None, IfOk, map, string_bytes, option_map, option_and_then, if◌then◌else◌};
 ghost use Rattle.clap.specs.Words.{found_of, rows_of};
-ghost use Rattle.dj_words.specs.Words.{without_slash, check_job};
+ghost use Rattle.dj_words.specs.Words.{without_slash, check_job, assemble_job};
 ghost use Rattle.dj_words.specs.DoneJobs.{done, done_job_of};
 ghost use Rattle.dj_words.specs.WordsApp.{has_no_value, thresholds_in, verify_in, job_of_values, job_in};
 ghost use Rattle.dj_words.specs.Views.{job_view, texts, values_view};
@@ -13,9 +13,9 @@ use clap::ArgMatches;
 use dj_names::Thresholds;
 use std::alloc::{AllocError, Global};
 
-/// What the words of a command line ask for.
+/// What is done with the class files of a folder.
 #[derive(Clone, Copy)]
-pub enum Command<'a> {
+pub enum FolderCommand<'a> {
     /// Check the class files of the folder.
     Check {
         folder: &'a str,
@@ -27,6 +27,15 @@ pub enum Command<'a> {
         input: &'a str,
         thresholds: Thresholds,
     },
+}
+
+/// What the words of a command line ask for.
+#[derive(Clone, Copy)]
+pub enum Command<'a> {
+    /// A job on the class files of a folder.
+    OnFolder(FolderCommand<'a>),
+    /// Make the class file that the text in the file of this path means.
+    Assemble { file: &'a str },
 }
 
 /// The folder without one slash at its end.
@@ -44,9 +53,9 @@ fn check_command<'a>(operands: &[&'a str], options: Options<'a>) -> Option<Comma
     ensures { option_map job_view result ≡ option_and_then done (if has_no_value (values_view options.entry) then check_job (texts operands.now) [] else None) }
 {
     match operands {
-        [folder] if options.are_none() => Some(Command::Check {
+        [folder] if options.are_none() => Some(Command::OnFolder(FolderCommand::Check {
             folder: without_slash(folder),
-        }),
+        })),
         _ => None,
     }
 }
@@ -55,12 +64,21 @@ fn verify_command<'a>(operands: &[&'a str], options: Options<'a>) -> Option<Comm
     ensures { option_map job_view result ≡ option_and_then done (verify_in (texts operands.now) (thresholds_in (values_view options.entry))) }
 {
     match operands {
-        [folder, entry, input] => Some(Command::Verify {
+        [folder, entry, input] => Some(Command::OnFolder(FolderCommand::Verify {
             folder: without_slash(folder),
             entry,
             input,
             thresholds: options.thresholds()?,
-        }),
+        })),
+        _ => None,
+    }
+}
+
+fn assemble_command<'a>(operands: &[&'a str], options: Options<'a>) -> Option<Command<'a>>
+    ensures { option_map job_view result ≡ option_and_then done (if has_no_value (values_view options.entry) then assemble_job (texts operands.now) [] else None) }
+{
+    match operands {
+        [file] if options.are_none() => Some(Command::Assemble { file }),
         _ => None,
     }
 }
@@ -73,6 +91,8 @@ fn command_named<'a>(name: &str, operands: &[&'a str], options: Options<'a>) -> 
         check_command(operands, options)
     } else if name == "verify" {
         verify_command(operands, options)
+    } else if name == "assemble" {
+        assemble_command(operands, options)
     } else {
         None
     }

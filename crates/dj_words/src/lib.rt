@@ -6,4 +6,4 @@ mod line;
 mod number;
 mod options;
 
-pub use command::{Command, command_of};
+pub use command::{Command, FolderCommand, command_of};

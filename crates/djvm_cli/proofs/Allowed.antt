@@ -8,7 +8,7 @@ use Rattle.dj_sandbox.specs.Limits.{IsWithinMost}
 use Rattle.dj_words.specs.Words.{Word, Given, Job, Setting, Verify, Sample, Raw, Line, is_word, is_numeral, decimal_value, without_slash, number_between, number_given, number_of, has_only, given_thresholds, thresholds_of, steps_of, alloc_setting, invoke_setting, jump_setting, throw_setting, steps_setting, check_job, verify_job, rewrite_job, raw_job, assemble_job, sample_job, command_job, line_job, line_of, job_of}
 use Rattle.dj_words.specs.Words as words
 use Rattle.dj_words.specs.DoneJobs.{DoneJob, done, done_job_of}
-use Rattle.djvm_cli.specs.Jobs.{IsAllowed}
+use Rattle.djvm_cli.specs.Jobs.{IsAllowedJob}
 
 -- ---- numbers
 
@@ -132,7 +132,7 @@ job_fits (Some l) = line_fits l.plain l.options
 
 abbrev AllowsSome : Option DoneJob → Type 0
 AllowsSome None = Unit {0}
-AllowsSome (Some job) = IsAllowed job
+AllowsSome (Some job) = IsAllowedJob job
 
 done_allows : (job : Option Job) → Fits job → AllowsSome (job >>= done)
 done_allows None p = tt
@@ -143,6 +143,6 @@ done_allows (Some (words.Raw folder entry input steps)) p = tt
 done_allows (Some (words.Assemble file)) p = tt
 done_allows (Some (words.Sample seed count)) p = tt
 
-pub done_job_allowed : (line : List Word) (job : DoneJob) → Some job ≡ done_job_of line → IsAllowed job
+pub done_job_allowed : (line : List Word) (job : DoneJob) → Some job ≡ done_job_of line → IsAllowedJob job
 unfolding done_job_of
 done_job_allowed line job is = subst AllowsSome (sym is) (done_allows (job_of line) (job_fits (line_of line)))

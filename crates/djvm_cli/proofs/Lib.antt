@@ -5,5 +5,6 @@ pub mod Reporting
 pub mod Same
 pub mod SomeLimits
 pub mod SomeReport
+pub mod TextReports
 mod Facts
 mod LimitFacts

@@ -1,6 +1,6 @@
 -- On which side of each limit a report lies, the first of the stages that decides, and how a call ends, at plain values.
 use Rattle.std.proofs.Common.{◌≡◌, ◌≢◌, ℕ, ◌<◌, ◌≤◌, List, [], ◌∷◌, length, Option, Some, None, inl, inr, refl, sym, subst, arith}
-use Rattle.std.specs.Prelude.{codes}
+use Rattle.std.specs.Prelude.{codes, unwrap_or}
 use Rattle.std.specs.Io.KnownBytes.{Appends}
 use Rattle.dj_edge.specs.Held.{File, Held, class_files, bytes_at}
 use Rattle.dj_edge.specs.Counts.{Rose}
@@ -11,8 +11,10 @@ use Rattle.dj_report.specs.Text.{report_text}
 use Rattle.dj_report.specs.declared.report.Violation.{Violation}
 use Rattle.dj_rules.specs.Violations.{AreViolations}
 use Rattle.dj_sandbox.specs.Limits.{AreWithin, IsFirstPast, IsTooLong, IsTooMuch, total_bytes}
-use Rattle.dj_words.specs.DoneJobs.{Check, Verify, done_job_of}
-use Rattle.djvm_cli.specs.Report.{CountsFiles, ReadsInput, FindsInput, ReadsFiles, IsReport, files_within}
+use Rattle.dj_source.specs.declared.error.AsmError.TheVariants as asm_errors
+use Rattle.dj_asm.specs.Texts.{IsTextOfBytes, TextFault}
+use Rattle.dj_words.specs.DoneJobs.{Check, Verify, OnFolder, done_job_of}
+use Rattle.djvm_cli.specs.Report.{CountsFiles, ReadsInput, ReadsText, FindsInput, ReadsFiles, Assembles, IsReport, files_within}
 use Rattle.djvm_cli.specs.Ends.{ReadEnds, OutOfMemory, WritesFront, IsReportStatus, TellsUsage}
 use Rattle.djvm_cli.proofs.Same.{same_front}
 
@@ -53,6 +55,27 @@ input-not_absent path h = h
 
 input-of_check : (held : Held) (report : Report) → FindsInput (Check (codes "c")) held (Some report) → ⊥
 input-of_check held report h = h
+
+-- ---- a text
+
+text-within : (path text : List ℕ) → length text ≡ 4194304 → ReadsText path (Some text) None
+text-within path text is = omega arith
+
+text-not_past : (path text : List ℕ) (report : Report) → length text ≡ 4194304 → ReadsText path (Some text) (Some report) → ⊥
+text-not_past path text report is h = omega (arith, h.1)
+
+text-past : (path text : List ℕ) → length text ≡ 4194305 → ReadsText path (Some text) (Some (reports.Limited limits.File))
+text-past path text is = (refl, omega arith)
+
+text-not_within : (path text : List ℕ) → length text ≡ 4194305 → ReadsText path (Some text) None → ⊥
+text-not_within path text is h = omega (arith, h)
+
+text-absent : (path : List ℕ) → ReadsText path None (Some (reports.Absent path))
+text-absent path = refl
+
+-- a text that was read is always decided
+text-decided : (text : List ℕ) → Assembles text None → ⊥
+text-decided text h = h
 
 -- ---- one file, and two together
 
@@ -122,6 +145,35 @@ order-judged : (held : Held) (violations : List Violation) → length (class_fil
 unfolding check_words done_job_of
 order-judged held violations few within are some = inr (few, inr (tt, inr (within, inl (violations, refl, are, some))))
 
+assemble_words : List (List ℕ)
+assemble_words = codes "assemble" ∷ codes "t" ∷ []
+
+order-text_absent : (held : Held) → bytes_at held (codes "t") ≡ None → IsReport assemble_words held (reports.Absent (codes "t"))
+unfolding assemble_words done_job_of
+order-text_absent held absent =
+    let P : Option (List ℕ) → Type 0 = λ found. ReadsText (codes "t") found (Some (reports.Absent (codes "t"))) in
+    inl (subst P (sym absent) refl)
+
+order-text_long : (held : Held) (text : List ℕ) → bytes_at held (codes "t") ≡ Some text → length text ≡ 4194305 → IsReport assemble_words held (reports.Limited limits.File)
+unfolding assemble_words done_job_of
+order-text_long held text there long =
+    let P : Option (List ℕ) → Type 0 = λ found. ReadsText (codes "t") found (Some (reports.Limited limits.File)) in
+    inl (subst P (sym there) (refl, omega arith))
+
+order-text_means : (held : Held) (text bytes : List ℕ) → bytes_at held (codes "t") ≡ Some text → length text ≡ 4194304 → IsTextOfBytes text bytes → IsReport assemble_words held (reports.Written bytes)
+unfolding assemble_words done_job_of
+order-text_means held text bytes there short means =
+    let P : Option (List ℕ) → Type 0 = λ found. ReadsText (codes "t") found None in
+    let Q : Option (List ℕ) → Type 0 = λ found. Assembles (unwrap_or found []) (Some (reports.Written bytes)) in
+    inr (subst P (sym there) (omega arith), inl (subst Q (sym there) (inl (bytes, refl, means))))
+
+order-text_fault : (held : Held) (text : List ℕ) → bytes_at held (codes "t") ≡ Some text → length text ≡ 4194304 → TextFault text (asm_errors.Syntax 1 10) → IsReport assemble_words held (reports.Syntax 1 10)
+unfolding assemble_words done_job_of
+order-text_fault held text there short fault =
+    let P : Option (List ℕ) → Type 0 = λ found. ReadsText (codes "t") found None in
+    let Q : Option (List ℕ) → Type 0 = λ found. Assembles (unwrap_or found []) (Some (reports.Syntax 1 10)) in
+    inr (subst P (sym there) (omega arith), inl (subst Q (sym there) (inr (asm_errors.Syntax 1 10, refl, fault))))
+
 order-words : (held : Held) → IsReport (codes "check" ∷ []) held reports.Usage
 unfolding done_job_of
 order-words held = inl refl
@@ -147,7 +199,7 @@ memory-front words held report old new right (inl broken) = same_front words hel
 memory-front words held report old new right (inr nothing) = front-none old new (report_text report) nothing
 
 -- only a store that tells what it holds has a report with the status 65
-absent-untold : IsReportStatus (Some (Verify [] [] [] (record { alloc = 0; invoke = 0; jump = 0; throw = 0 }))) None 65 → ⊥
+absent-untold : IsReportStatus (Some (OnFolder (Verify [] [] [] (record { alloc = 0; invoke = 0; jump = 0; throw = 0 })))) None 65 → ⊥
 absent-untold h = let held = h.1 refl in absurd cc
 
 -- words of no job have the status 64 and no other

@@ -26,9 +26,9 @@ use Rattle.djvm_cli.specs.declared.load.Loaded.TheVariants as loads
 use Rattle.djvm_cli.specs.declared.load.Input.{Input}
 use Rattle.djvm_cli.specs.declared.load.Input.TheVariants as inputs
 use Rattle.djvm_cli.specs.Inputs.{IsJobInput}
-use Rattle.dj_words.specs.DoneJobs.{DoneJob}
+use Rattle.dj_words.specs.DoneJobs.{FolderJob}
 use Rattle.djvm_cli.specs.Jobs.{folder_of}
-use Rattle.djvm_cli.specs.Report.{input_asks, CountsFiles, FindsInput, ReadsFiles, judging, stages, input_of, within_folder, files_within}
+use Rattle.djvm_cli.specs.Report.{input_asks, CountsFiles, FindsInput, ReadsFiles, judging, folder_stages, input_of, within_folder, files_within}
 use Rattle.djvm_cli.specs.Steps.{files_at, IsListed, AreClassPaths, AreRead, IsLoaded}
 use Rattle.djvm_cli.specs.Views.{source_view}
 
@@ -122,7 +122,7 @@ sources_few paths sources loaded folder within is read few same =
 -- ---- what was asked
 
 -- the folder, and then a front of what the input asks
-pub asks_input : (job : DoneJob) (folder : List ℕ) (held : Option Held) (list : List String) (old mid new : List (List ℕ)) → folder ≡ folder_of job → IfSome held (AreTheirs folder list)
+pub asks_input : (job : FolderJob) (folder : List ℕ) (held : Option Held) (list : List String) (old mid new : List (List ℕ)) → folder ≡ folder_of job → IfSome held (AreTheirs folder list)
     → mid ≡ old ++ folder ∷ [] → GrowsByFront mid new (input_asks job)
     → IfSome held (λ h. GrowsByFront old new (folder_of job ∷ (input_asks job ++ class_paths (folder_of job) h)))
 asks_input job folder held list old mid new same theirs is grows =
@@ -133,7 +133,7 @@ asks_input job folder held list old mid new same theirs is grows =
     theirs
 
 -- the folder, what the input asks, and then a front of the paths
-pub asks_files : (job : DoneJob) (folder : List ℕ) (held : Option Held) (list : List String) (old mid next new : List (List ℕ)) → folder ≡ folder_of job → IfSome held (AreTheirs folder list)
+pub asks_files : (job : FolderJob) (folder : List ℕ) (held : Option Held) (list : List String) (old mid next new : List (List ℕ)) → folder ≡ folder_of job → IfSome held (AreTheirs folder list)
     → mid ≡ old ++ folder ∷ [] → next ≡ mid ++ input_asks job → GrowsByFront next new (map string_bytes list)
     → IfSome held (λ h. GrowsByFront old new (folder_of job ∷ (input_asks job ++ class_paths (folder_of job) h)))
 asks_files job folder held list old mid next new same theirs is then_is grows =
@@ -146,7 +146,7 @@ asks_files job folder held list old mid next new same theirs is then_is grows =
 
 -- ---- stage by stage, where the store tells what it holds
 
-module _ (job : DoneJob) (held : Option Held) where
+module _ (job : FolderJob) (held : Option Held) where
   abbrev pub Counted : Type 0
   Counted = IfSome held (λ h. CountsFiles (class_files (folder_of job) h) None)
 
@@ -154,12 +154,12 @@ module _ (job : DoneJob) (held : Option Held) where
   Found = IfSome held (λ h. FindsInput job h None)
 
   abbrev pub Decides : Report → Type 0
-  Decides report = IfSome held (λ h. IsDecided (stages (Some job) h) report)
+  Decides report = IfSome held (λ h. IsDecided (folder_stages job h) report)
 
   pub too_many : (folder : List ℕ) (listing : Listing) → folder ≡ folder_of job → listing ≡ listings.TooMany → IfSome held (λ h. IsListed folder h listing)
       → Decides (reports.Limited limits.FileCount)
   too_many folder listing same is told =
-      told_so held (λ h. IsListed folder h listing) (λ h. IsDecided (stages (Some job) h) (reports.Limited limits.FileCount))
+      told_so held (λ h. IsListed folder h listing) (λ h. IsDecided (folder_stages job h) (reports.Limited limits.FileCount))
       (λ h listed. inl (refl, subst (λ f. IsListed f h listings.TooMany) same (subst (IsListed folder h) is listed))) told
 
   pub counted : (folder : List ℕ) (list : List String) → folder ≡ folder_of job → length list ≤ 4096 → IfSome held (AreTheirs folder list) → Counted
@@ -173,12 +173,12 @@ module _ (job : DoneJob) (held : Option Held) where
 
     pub absent : (path : List ℕ) → Counted → input ≡ inputs.Absent path → Decides (reports.Absent path)
     absent path few is =
-        both_told held (λ h. CountsFiles (class_files (folder_of job) h) None) (λ h. IsJobInput job h (inputs.Absent path)) (λ h. IsDecided (stages (Some job) h) (reports.Absent path))
+        both_told held (λ h. CountsFiles (class_files (folder_of job) h) None) (λ h. IsJobInput job h (inputs.Absent path)) (λ h. IsDecided (folder_stages job h) (reports.Absent path))
         (λ h on here. inr (on, inl here)) few (input_told (inputs.Absent path) is)
 
     pub too_long : Counted → input ≡ inputs.TooLong → Decides (reports.Limited limits.Input)
     too_long few is =
-        both_told held (λ h. CountsFiles (class_files (folder_of job) h) None) (λ h. IsJobInput job h inputs.TooLong) (λ h. IsDecided (stages (Some job) h) (reports.Limited limits.Input))
+        both_told held (λ h. CountsFiles (class_files (folder_of job) h) None) (λ h. IsJobInput job h inputs.TooLong) (λ h. IsDecided (folder_stages job h) (reports.Limited limits.Input))
         (λ h on here. inr (on, inl here)) few (input_told inputs.TooLong is)
 
     pub found : (bytes : Vec ℕ) → input ≡ inputs.Bytes bytes → IfSome held (λ h. FindsInput job h None × (bytes.items ≡ input_of job h))
@@ -197,7 +197,7 @@ module _ (job : DoneJob) (held : Option Held) where
     pub passed : (limit : Limit) → Counted → Found → loaded ≡ loads.Passed limit → Decides (reports.Limited limit)
     passed limit few there is =
         both_told held (λ h. CountsFiles (class_files (folder_of job) h) None × FindsInput job h None) (λ h. IsLoaded (class_files (folder_of job) h) (loads.Passed limit))
-        (λ h. IsDecided (stages (Some job) h) (reports.Limited limit))
+        (λ h. IsDecided (folder_stages job h) (reports.Limited limit))
         (λ h on past. inr (on.0, inr (on.1, inl (passed_stage limit (class_files (folder_of job) h) past))))
         (both_told held (λ h. CountsFiles (class_files (folder_of job) h) None) (λ h. FindsInput job h None)
         (λ h. CountsFiles (class_files (folder_of job) h) None × FindsInput job h None) (λ h a b. (a, b)) few there)
@@ -213,7 +213,7 @@ module _ (job : DoneJob) (held : Option Held) where
         → IsDecided (judging job (map path_file_view within) bytes.items) report → Decides report
     judged sources within bytes report few there is all cut decided =
         both_told held (λ h. CountsFiles (class_files (folder_of job) h) None × (FindsInput job h None × (bytes.items ≡ input_of job h)))
-        (λ h. IsLoaded (class_files (folder_of job) h) (loads.Files sources)) (λ h. IsDecided (stages (Some job) h) report)
+        (λ h. IsLoaded (class_files (folder_of job) h) (loads.Files sources)) (λ h. IsDecided (folder_stages job h) report)
         (λ h on view. inr (
           on.0,
           inr (

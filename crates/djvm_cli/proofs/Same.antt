@@ -1,21 +1,28 @@
 -- A job has one report: no stage of its work both decides and hands on, and none decides two reports.
-use Rattle.std.proofs.Common.{◌≡◌, ℕ, ◌+◌, ◌≤◌, List, ◌∷◌, ◌++◌, length, Option, Some, None, refl, sym, ap, ◌∙◌, subst, inl, inr, arith}
+use Rattle.std.proofs.Common.{◌≡◌, ℕ, ◌+◌, ◌≤◌, List, [], ◌∷◌, ◌++◌, length, Option, Some, None, unwrap_or, refl, sym, ap, ◌∙◌, subst, inl, inr, arith}
 use Rattle.std.specs.List.{AllByRecursion}
 use Rattle.std.specs.Io.KnownBytes.{Appends}
 use Rattle.std.proofs.lemmas.List.Sums.{sum_by-append, sum_by-cons}
+use Rattle.dj_asm.proofs.OneFault.{one_fault, no_file_where_fault}
+use Rattle.dj_asm.proofs.OneFile.{one_file}
 use Rattle.dj_edge.specs.Held.{File, Held, bytes_at, class_files}
 use Rattle.dj_edge.specs.Counts.{IsFront}
 use Rattle.dj_edge.proofs.Lists.{cut_cases, at_cut}
 use Rattle.dj_report.specs.Stages.{DecidesOne, DecideOne}
 use Rattle.dj_report.proofs.Stages.{one_decided}
 use Rattle.dj_report.specs.declared.report.Report.{Report}
+use Rattle.dj_report.specs.declared.report.Report.TheVariants as reports
+use Rattle.dj_report.specs.declared.report.Limit.{Limit}
+use Rattle.dj_report.specs.declared.report.Limit.TheVariants as limits
 use Rattle.dj_report.specs.Text.{report_text, report_status}
-use Rattle.dj_sandbox.specs.Limits.{most_file_bytes, most_total_bytes, total_bytes, AreWithin, IsFirstPast, IsTooLong, IsTooMuch}
+use Rattle.dj_sandbox.specs.Limits.{most_file_bytes, most_input_bytes, most_total_bytes, total_bytes, AreWithin, IsFirstPast, IsTooLong, IsTooMuch}
 use Rattle.dj_sandbox.specs.Entry.{entry_name}
 use Rattle.dj_sandbox.proofs.OneJudgement.{check_one, run_one}
-use Rattle.dj_words.specs.DoneJobs.{DoneJob, Check, Verify, done_job_of}
+use Rattle.dj_source.specs.declared.error.AsmError.{AsmError}
+use Rattle.dj_source.specs.declared.error.AsmError.TheVariants as asm_errors
+use Rattle.dj_words.specs.DoneJobs.{DoneJob, FolderJob, Check, Verify, OnFolder, Assemble, done_job_of}
 use Rattle.djvm_cli.specs.Jobs.{folder_of}
-use Rattle.djvm_cli.specs.Report.{RefusesWords, CountsFiles, ReadsInput, FindsInput, ReadsFiles, judging, stages, files_within, input_of}
+use Rattle.djvm_cli.specs.Report.{RefusesWords, CountsFiles, ReadsWhole, FindsInput, ReadsFiles, TellsFault, Assembles, judging, folder_stages, text_stages, stages, files_within, input_of}
 use Rattle.djvm_cli.specs.OneReport.{HasOneReport, HasOneEnd, HasOneFront}
 
 -- ---- the limits
@@ -59,20 +66,20 @@ count_one files (Some r) None a b = absurd (omega (arith, a.1, b))
 count_one files None (Some s) a b = absurd (omega (arith, a, b.1))
 count_one files None None a b = refl
 
-input_one : (path : List ℕ) (found : Option (List ℕ)) → DecidesOne (ReadsInput path found)
-input_one path None (Some r) (Some s) a b = ap Some (a ∙ sym b)
-input_one path None (Some r) None a b = absurd b
-input_one path None None s a b = absurd a
-input_one path (Some input) (Some r) (Some s) a b = ap Some (a.0 ∙ sym b.0)
-input_one path (Some input) (Some r) None a b = absurd (omega (arith, a.1, b))
-input_one path (Some input) None (Some s) a b = absurd (omega (arith, a, b.1))
-input_one path (Some input) None None a b = refl
+whole_one : (most : ℕ) (limit : Limit) (path : List ℕ) (found : Option (List ℕ)) → DecidesOne (ReadsWhole most limit path found)
+whole_one most limit path None (Some r) (Some s) a b = ap Some (a ∙ sym b)
+whole_one most limit path None (Some r) None a b = absurd b
+whole_one most limit path None None s a b = absurd a
+whole_one most limit path (Some bytes) (Some r) (Some s) a b = ap Some (a.0 ∙ sym b.0)
+whole_one most limit path (Some bytes) (Some r) None a b = absurd (omega (arith, a.1, b))
+whole_one most limit path (Some bytes) None (Some s) a b = absurd (omega (arith, a, b.1))
+whole_one most limit path (Some bytes) None None a b = refl
 
-job_input_one : (job : DoneJob) (held : Held) → DecidesOne (FindsInput job held)
+job_input_one : (job : FolderJob) (held : Held) → DecidesOne (FindsInput job held)
 job_input_one (Check folder) held (Some r) s a b = absurd a
 job_input_one (Check folder) held None (Some s) a b = absurd b
 job_input_one (Check folder) held None None a b = refl
-job_input_one (Verify folder entry path most) held r s a b = input_one path (bytes_at held path) r s a b
+job_input_one (Verify folder entry path most) held r s a b = whole_one most_input_bytes limits.Input path (bytes_at held path) r s a b
 
 files_one : (files : List File) → DecidesOne (ReadsFiles files)
 files_one files (Some r) (Some s) (inl a) (inl b) = ap Some (a.0 ∙ sym b.0)
@@ -85,15 +92,43 @@ files_one files None (Some s) within (inl b) = absurd (not_long files within b.1
 files_one files None (Some s) within (inr b) = absurd (not_much files within b.1)
 files_one files None None a b = refl
 
-judging_one : (job : DoneJob) (files : List File) (input : List ℕ) → DecideOne (judging job files input)
+judging_one : (job : FolderJob) (files : List File) (input : List ℕ) → DecideOne (judging job files input)
 judging_one (Check folder) files input = check_one files
 judging_one (Verify folder entry path most) files input = run_one files (entry_name entry) input most
 
-stages_one : (job : Option DoneJob) (held : Held) → DecideOne (stages job held)
-stages_one None held = (words_one, tt)
-stages_one (Some job) held =
+folder_stages_one : (job : FolderJob) (held : Held) → DecideOne (folder_stages job held)
+folder_stages_one job held =
     let files = class_files (folder_of job) held in
     (count_one files, (job_input_one job held, (files_one files, judging_one job (files_within (folder_of job) held) (input_of job held))))
+
+-- ---- a text that is assembled
+
+-- a fault has one report
+fault_one : (e : AsmError) (r s : Report) → TellsFault e r → TellsFault e s → r ≡ s
+fault_one (asm_errors.Syntax line column) r s a b = a ∙ sym b
+fault_one (asm_errors.Label line) r s a b = a ∙ sym b
+fault_one (asm_errors.Large line) r s a b = a ∙ sym b
+fault_one asm_errors.Memory r s a b = absurd a
+
+text_one : (text : List ℕ) → DecidesOne (Assembles text)
+text_one text (Some r) (Some s) (inl a) (inl b) = ap Some (a.1 ∙ ap reports.Written (one_file text a.0 b.0 a.2 b.2) ∙ sym b.1)
+text_one text (Some r) (Some s) (inl a) (inr b) = absurd (no_file_where_fault text a.0 b.0 a.2 b.2)
+text_one text (Some r) (Some s) (inr a) (inl b) = absurd (no_file_where_fault text b.0 a.0 b.2 a.2)
+text_one text (Some r) (Some s) (inr a) (inr b) =
+    let same : a.0 ≡ b.0 = one_fault text a.0 b.0 a.2 b.2 in
+    ap Some (fault_one b.0 r s (subst (λ e. TellsFault e r) same a.1) b.1)
+text_one text (Some r) None a b = absurd b
+text_one text None s a b = absurd a
+
+text_stages_one : (path : List ℕ) (held : Held) → DecideOne (text_stages path held)
+text_stages_one path held = (whole_one most_file_bytes limits.File path (bytes_at held path), (text_one (unwrap_or (bytes_at held path) []), tt))
+
+-- ---- a job
+
+stages_one : (job : Option DoneJob) (held : Held) → DecideOne (stages job held)
+stages_one None held = (words_one, tt)
+stages_one (Some (OnFolder job)) held = folder_stages_one job held
+stages_one (Some (Assemble path)) held = text_stages_one path held
 
 pub same_report : HasOneReport
 same_report words held r s a b = one_decided (stages (done_job_of words) held) (stages_one (done_job_of words) held) r s a b

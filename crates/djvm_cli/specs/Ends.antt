@@ -6,10 +6,10 @@ use Rattle.dj_edge.specs.Counts.{Rose, IsFront, GrowsByFront}
 use Rattle.dj_report.specs.declared.report.Report.{Report}
 use Rattle.dj_report.specs.Text.{report_text, report_status}
 use Rattle.dj_sandbox.specs.Statuses.{IsAmong}
-use Rattle.dj_words.specs.DoneJobs.{DoneJob, Check, Verify, done_job_of}
+use Rattle.dj_words.specs.DoneJobs.{DoneJob, Check, Verify, OnFolder, Assemble, done_job_of}
 use Rattle.djvm_cli.specs.Report.{IsReport, asks}
 
--- the store failed or lacks the input, the sink failed, there was no memory
+-- the store failed or lacks a file, the sink failed, there was no memory
 abbrev pub read_fault : ℕ
 read_fault = 65
 
@@ -47,7 +47,7 @@ pub record ReadFault (faults_before faults_now : ℕ) (old new : Option (List �
   pub rose : Rose faults_before faults_now
   pub written : Appends old new []
 
--- the store failed, or it tells what it holds and lacks the input, which is reported
+-- the store failed, or it tells what it holds and lacks the input or the text, which is reported
 abbrev pub ReadEnds : List (List ℕ) → Option Held → ℕ → ℕ → Option (List ℕ) → Option (List ℕ) → Type 0
 ReadEnds words held faults_before faults_now old new =
     ReadFault faults_before faults_now old new ⊎ (IsSome held × Finished words held read_fault old new)
@@ -64,14 +64,15 @@ OutOfMemory words held old new = Broken words held old new ⊎ Appends old new [
 -- the statuses of the reports of a job: ABSENT has 65
 abbrev pub report_statuses : Option DoneJob → List ℕ
 report_statuses None = 64 ∷ []
-report_statuses (Some (Check folder)) = 0 ∷ 2 ∷ 7 ∷ []
-report_statuses (Some (Verify folder entry input most)) = 0 ∷ 1 ∷ 2 ∷ 3 ∷ 7 ∷ 65 ∷ 75 ∷ []
+report_statuses (Some (OnFolder (Check folder))) = 0 ∷ 2 ∷ 7 ∷ []
+report_statuses (Some (OnFolder (Verify folder entry input most))) = 0 ∷ 1 ∷ 2 ∷ 3 ∷ 7 ∷ 65 ∷ 75 ∷ []
+report_statuses (Some (Assemble path)) = 0 ∷ 7 ∷ 65 ∷ 68 ∷ []
 
 -- every status that a call with these words ends with: those of its reports, and those of faults and of want of memory
 abbrev pub IsStatus : List (List ℕ) → ℕ → Type 0
 IsStatus words status = IsAmong status (read_fault ∷ write_fault ∷ no_memory ∷ report_statuses (done_job_of words))
 
--- the status of a report of the job: only a store that tells what it holds has one that the input isn't there
+-- the status of a report of the job: only a store that tells what it holds has one that a file isn't there
 abbrev pub IsReportStatus : Option DoneJob → Option Held → ℕ → Type 0
 IsReportStatus job held status = IsAmong status (report_statuses job) × (status ≡ read_fault → IsSome held)
 

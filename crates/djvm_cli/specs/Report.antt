@@ -1,15 +1,20 @@
--- The report of a job, and what the job asks of the store of files. In this order it is decided: the words, the number of files, the input,
--- the limits on the files, and then what the files are judged and run to be.
+-- The report of a job, and what the job asks of the store of files. In this order it is decided: the words; then of a job on a folder the number
+-- of files, the input, the limits on the files, and what the files are judged and run to be; of a text that is assembled the limit on its file,
+-- and what it means.
 use Rattle.std.specs.Prelude.{◌≡◌, ℕ, ◌+◌, ◌<◌, ◌≤◌, ◌⊎◌, ⊤, List, [], ◌∷◌, ◌++◌, Option, Some, None, length, drop, map, unwrap_or}
+use Rattle.dj_asm.specs.Texts.{IsTextOfBytes, TextFault}
 use Rattle.dj_edge.specs.Held.{File, Held, class_files, bytes_at}
 use Rattle.dj_report.specs.Stages.{Stage, IsDecided}
 use Rattle.dj_report.specs.declared.report.Report.{Report}
 use Rattle.dj_report.specs.declared.report.Report.TheVariants as reports
+use Rattle.dj_report.specs.declared.report.Limit.{Limit}
 use Rattle.dj_report.specs.declared.report.Limit.TheVariants as limits
-use Rattle.dj_sandbox.specs.Limits.{most_files, most_input_bytes, AreWithin, IsFirstPast, IsTooLong, IsTooMuch}
+use Rattle.dj_sandbox.specs.Limits.{most_files, most_file_bytes, most_input_bytes, AreWithin, IsFirstPast, IsTooLong, IsTooMuch}
 use Rattle.dj_sandbox.specs.Entry.{entry_name}
 use Rattle.dj_sandbox.specs.Judging.{check_stages, run_stages}
-use Rattle.dj_words.specs.DoneJobs.{DoneJob, Check, Verify, done_job_of}
+use Rattle.dj_source.specs.declared.error.AsmError.{AsmError}
+use Rattle.dj_source.specs.declared.error.AsmError.TheVariants as asm_errors
+use Rattle.dj_words.specs.DoneJobs.{DoneJob, FolderJob, Check, Verify, OnFolder, Assemble, done_job_of}
 use Rattle.djvm_cli.specs.Jobs.{folder_of}
 
 -- the file under its path within the folder
@@ -30,15 +35,18 @@ abbrev pub CountsFiles : List File → Stage Report
 CountsFiles files (Some report) = (report ≡ reports.Limited limits.FileCount) × (most_files < length files)
 CountsFiles files None = length files ≤ most_files
 
--- the input is there under its path, and is no longer than it may be; or else it is told which of these fails
+-- the file is there under its path, and is no longer than it may be; or else it is told which of these fails
+abbrev pub ReadsWhole : ℕ → Limit → List ℕ → Option (List ℕ) → Stage Report
+ReadsWhole most limit path None (Some report) = report ≡ reports.Absent path
+ReadsWhole most limit path None None = ⊥
+ReadsWhole most limit path (Some bytes) (Some report) = (report ≡ reports.Limited limit) × (most < length bytes)
+ReadsWhole most limit path (Some bytes) None = length bytes ≤ most
+
 abbrev pub ReadsInput : List ℕ → Option (List ℕ) → Stage Report
-ReadsInput path None (Some report) = report ≡ reports.Absent path
-ReadsInput path None None = ⊥
-ReadsInput path (Some input) (Some report) = (report ≡ reports.Limited limits.Input) × (most_input_bytes < length input)
-ReadsInput path (Some input) None = length input ≤ most_input_bytes
+ReadsInput path found answer = ReadsWhole most_input_bytes limits.Input path found answer
 
 -- the input of a run is read; a check has none
-abbrev pub FindsInput : DoneJob → Held → Stage Report
+abbrev pub FindsInput : FolderJob → Held → Stage Report
 FindsInput (Check folder) held (Some report) = ⊥
 FindsInput (Check folder) held None = ⊤
 FindsInput (Verify folder entry path most) held answer = ReadsInput path (bytes_at held path) answer
@@ -51,21 +59,51 @@ ReadsFiles files (Some report) =
 ReadsFiles files None = AreWithin files
 
 -- the bytes that a run is given
-abbrev pub input_of : DoneJob → Held → List ℕ
+abbrev pub input_of : FolderJob → Held → List ℕ
 input_of (Check folder) held = []
 input_of (Verify folder entry path most) held = unwrap_or (bytes_at held path) []
 
 -- how files and an input that were read are judged
-abbrev pub judging : DoneJob → List File → List ℕ → List (Stage Report)
+abbrev pub judging : FolderJob → List File → List ℕ → List (Stage Report)
 judging (Check folder) files input = check_stages files
 judging (Verify folder entry path most) files input = run_stages files (entry_name entry) input most
+
+-- how a job on a folder is worked on, where this is held
+abbrev pub folder_stages : FolderJob → Held → List (Stage Report)
+folder_stages job held =
+    CountsFiles (class_files (folder_of job) held) ∷ FindsInput job held ∷ ReadsFiles (class_files (folder_of job) held)
+    ∷ judging job (files_within (folder_of job) held) (input_of job held)
+
+-- ---- a text that is assembled
+
+abbrev pub ReadsText : List ℕ → Option (List ℕ) → Stage Report
+ReadsText path found answer = ReadsWhole most_file_bytes limits.File path found answer
+
+-- the report of a text's fault
+abbrev pub TellsFault : AsmError → Report → Type 0
+TellsFault (asm_errors.Syntax line column) report = report ≡ reports.Syntax line column
+TellsFault (asm_errors.Label line) report = report ≡ reports.Label line
+TellsFault (asm_errors.Large line) report = report ≡ reports.Large line
+TellsFault asm_errors.Memory report = ⊥
+
+-- the class file that the text means is written; or else the text's first fault is told
+abbrev pub Assembles : List ℕ → Stage Report
+Assembles text (Some report) =
+    ((bytes : List ℕ) × (report ≡ reports.Written bytes) × IsTextOfBytes text bytes)
+    ⊎ ((e : AsmError) × TellsFault e report × TextFault text e)
+Assembles text None = ⊥
+
+-- how the text under the path is worked on, where this is held
+abbrev pub text_stages : List ℕ → Held → List (Stage Report)
+text_stages path held = ReadsText path (bytes_at held path) ∷ Assembles (unwrap_or (bytes_at held path) []) ∷ []
+
+-- ---- a job
 
 -- how a job is worked on, where this is held
 abbrev pub stages : Option DoneJob → Held → List (Stage Report)
 stages None held = RefusesWords ∷ []
-stages (Some job) held =
-    CountsFiles (class_files (folder_of job) held) ∷ FindsInput job held ∷ ReadsFiles (class_files (folder_of job) held)
-    ∷ judging job (files_within (folder_of job) held) (input_of job held)
+stages (Some (OnFolder job)) held = folder_stages job held
+stages (Some (Assemble path)) held = text_stages path held
 
 -- the report of the job that the words ask for, where this is held
 abbrev pub IsReport : List (List ℕ) → Held → Report → Type 0
@@ -77,13 +115,17 @@ abbrev pub class_paths : List ℕ → Held → List (List ℕ)
 class_paths folder held = map (λ file. file.0) (class_files folder held)
 
 -- the path of the input
-abbrev pub input_asks : DoneJob → List (List ℕ)
+abbrev pub input_asks : FolderJob → List (List ℕ)
 input_asks (Check folder) = []
 input_asks (Verify folder entry path most) = path ∷ []
 
+abbrev pub folder_asks : FolderJob → Held → List (List ℕ)
+folder_asks job held = folder_of job ∷ (input_asks job ++ class_paths (folder_of job) held)
+
 abbrev pub job_asks : Option DoneJob → Held → List (List ℕ)
 job_asks None held = []
-job_asks (Some job) held = folder_of job ∷ (input_asks job ++ class_paths (folder_of job) held)
+job_asks (Some (OnFolder job)) held = folder_asks job held
+job_asks (Some (Assemble path)) held = path ∷ []
 
 -- the folders and paths that the job asks of the store, in order
 abbrev pub asks : List (List ℕ) → Held → List (List ℕ)

@@ -6,48 +6,49 @@ ghost use Rattle.dj_report.specs.Text.{report_text, report_status};
 ghost use Rattle.dj_rules.specs.Views.{path_file_view};
 ghost use Rattle.dj_sandbox.specs.Limits.{most_files, most_input_bytes};
 ghost use Rattle.djvm_cli.specs.declared.load.Stop.TheVariants.{Memory};
-ghost use Rattle.dj_words.specs.DoneJobs.{done_job_of};
-ghost use Rattle.djvm_cli.specs.Jobs.{folder_of, IsAllowed};
-ghost use Rattle.djvm_cli.specs.Report.{judging, stages, job_asks};
+ghost use Rattle.dj_words.specs.DoneJobs.{OnFolder, done_job_of};
+ghost use Rattle.djvm_cli.specs.Jobs.{folder_of, IsAllowed, IsAllowedJob};
+ghost use Rattle.djvm_cli.specs.Report.{judging, folder_stages, folder_asks, stages, job_asks};
 ghost use Rattle.djvm_cli.specs.Ends.{IsStatus, IsReportStatus, IsWritten, read_fault, write_fault, no_memory, IsRight, Finished, ReadEnds, WriteFault, OutOfMemory, AsksInOrder, WritesFront, TellsUsage};
 ghost use Rattle.djvm_cli.specs.Steps.{Counted};
-ghost use Rattle.dj_words.specs.Views.{job_view};
+ghost use Rattle.dj_words.specs.Views.{folder_job_view, job_view};
 
+use crate::assembling::report_of_text;
 use crate::cut::cut_folders;
 use crate::load::{Input, Listing, Loaded, Stop, list_paths, read_files, read_job_input};
 use dj_edge::{Files, Host, Sink, SinkError, put_all};
 use dj_report::{Limit, PathFile, Report, bytes_of, status_of};
 use dj_sandbox::{check, entry_name, verify};
-use dj_words::{Command, command_of};
+use dj_words::{Command, FolderCommand, command_of};
 use std::alloc::Global;
 
 /// The folder of the class files.
-fn folder<'a>(command: Command<'a>) -> &'a str
-    ensures { result.now ≡ folder_of (job_view command.entry) }
+fn folder<'a>(command: FolderCommand<'a>) -> &'a str
+    ensures { result.now ≡ folder_of (folder_job_view command.entry) }
 {
     match command {
-        Command::Check { folder } | Command::Verify { folder, .. } => folder,
+        FolderCommand::Check { folder } | FolderCommand::Verify { folder, .. } => folder,
     }
 }
 
 /// Judges files and an input that were read, as the job asks.
 fn judge(
     alloc: Global,
-    command: Command<'_>,
+    command: FolderCommand<'_>,
     files: &[PathFile<'_>],
     input: &[u8],
 ) -> Result<Report, Stop>
     requires few { length files.now ≤ most_files }
     requires short { All (λ file. length file.bytes.now < 2 ^ 32) files.now }
     requires input { length input.now ≤ most_input_bytes }
-    requires allowed { IsAllowed (job_view command) }
-    ensures decided { IfOk result (IsDecided (judging (job_view command.entry) (map path_file_view files.now) input.now)) }
-    ensures status { IfOk result (λ report. IsReportStatus (Some (job_view command.entry)) None (report_status report)) }
+    requires allowed { IsAllowed (folder_job_view command) }
+    ensures decided { IfOk result (IsDecided (judging (folder_job_view command.entry) (map path_file_view files.now) input.now)) }
+    ensures status { IfOk result (λ report. IsReportStatus (Some (OnFolder (folder_job_view command.entry))) None (report_status report)) }
     ensures no_fault { IfErr result (λ stop. stop ≡ Memory) }
 {
     match command {
-        Command::Check { .. } => Ok(check(alloc, files)?),
-        Command::Verify {
+        FolderCommand::Check { .. } => Ok(check(alloc, files)?),
+        FolderCommand::Verify {
             entry,
             thresholds,
             ..
@@ -58,19 +59,19 @@ fn judge(
     }
 }
 
-/// The report of a job. Each step decides it or hands on to the next: the number of files, the input, the limits on the files, and then what
-/// the files are judged to be.
-fn report_of_job<F: Files>(
+/// The report of a job on a folder. Each step decides it or hands on to the next: the number of files, the input, the limits on the files, and
+/// then what the files are judged to be.
+fn report_of_folder<F: Files>(
     alloc: Global,
-    command: Command<'_>,
+    command: FolderCommand<'_>,
     files: &mut F,
 ) -> Result<Report, Stop>
-    requires allowed { IsAllowed (job_view command) }
+    requires allowed { IsAllowed (folder_job_view command) }
     ensures held { F.held files.new ≡ F.held files.old }
     ensures counts { Counted (F.faults files.old) (F.faults files.new) result }
-    ensures asks { IfSome (F.held files.old) (λ h. GrowsByFront (F.asked files.old) (F.asked files.new) (job_asks (Some (job_view command.entry)) h)) }
-    ensures right { IfOk result (λ report. IfSome (F.held files.old) (λ h. IsDecided (stages (Some (job_view command.entry)) h) report)) }
-    ensures status { IfOk result (λ report. IsReportStatus (Some (job_view command.entry)) (F.held files.old) (report_status report)) }
+    ensures asks { IfSome (F.held files.old) (λ h. GrowsByFront (F.asked files.old) (F.asked files.new) (folder_asks (folder_job_view command.entry) h)) }
+    ensures right { IfOk result (λ report. IfSome (F.held files.old) (λ h. IsDecided (folder_stages (folder_job_view command.entry) h) report)) }
+    ensures status { IfOk result (λ report. IsReportStatus (Some (OnFolder (folder_job_view command.entry))) (F.held files.old) (report_status report)) }
 {
     let paths = match list_paths(alloc, files, folder(command))? {
         Listing::Paths(paths) => paths,
@@ -87,6 +88,25 @@ fn report_of_job<F: Files>(
     };
     let within = cut_folders(alloc, folder(command), &sources)?;
     judge(alloc, command, &within, &input)
+}
+
+/// The report of a job.
+fn report_of_job<F: Files>(
+    alloc: Global,
+    command: Command<'_>,
+    files: &mut F,
+) -> Result<Report, Stop>
+    requires allowed { IsAllowedJob (job_view command) }
+    ensures held { F.held files.new ≡ F.held files.old }
+    ensures counts { Counted (F.faults files.old) (F.faults files.new) result }
+    ensures asks { IfSome (F.held files.old) (λ h. GrowsByFront (F.asked files.old) (F.asked files.new) (job_asks (Some (job_view command.entry)) h)) }
+    ensures right { IfOk result (λ report. IfSome (F.held files.old) (λ h. IsDecided (stages (Some (job_view command.entry)) h) report)) }
+    ensures status { IfOk result (λ report. IsReportStatus (Some (job_view command.entry)) (F.held files.old) (report_status report)) }
+{
+    match command {
+        Command::OnFolder(command) => report_of_folder(alloc, command, files),
+        Command::Assemble { file } => report_of_text(alloc, file, files),
+    }
 }
 
 /// The report of the job that the words ask for.

@@ -3,18 +3,18 @@ ghost use Rattle.djvm_cli.specs.declared.load.Stop.TheVariants.{Memory};
 ghost use Rattle.djvm_cli.specs.declared.load.Input.TheVariants.{Absent};
 ghost use Rattle.dj_edge.specs.Held.{bytes_at};
 ghost use Rattle.dj_edge.specs.Counts.{GrowsByFront};
-ghost use Rattle.dj_sandbox.specs.Limits.{most_total_bytes};
+ghost use Rattle.dj_sandbox.specs.Limits.{most_total_bytes, most_input_bytes};
 ghost use Rattle.djvm_cli.specs.Steps.{Counted, IsListed, AreClassPaths, AreRead, IsLoaded, files_at};
 ghost use Rattle.djvm_cli.specs.Inputs.{IsShortInput, IsAbsentWhereTold, IsReadInput, IsJobInput, IsInputOf};
 ghost use Rattle.djvm_cli.specs.Report.{input_asks};
-ghost use Rattle.dj_words.specs.Views.{job_view};
+ghost use Rattle.dj_words.specs.Views.{folder_job_view};
 ghost use Rattle.djvm_cli.specs.Next.{IsNextRead, IsNext};
 
 use dj_edge::{Files, ListError, ReadError};
 use dj_names::Name;
 use dj_report::Limit;
 use dj_rules::RulesError;
-use dj_words::Command;
+use dj_words::FolderCommand;
 use std::alloc::Global;
 
 /// Why a job has no report.
@@ -62,14 +62,14 @@ pub enum Loaded {
     Passed(Limit),
 }
 
-/// What reading the input found.
+/// What reading one file as a whole found.
 #[derive(Drop)]
 pub enum Input {
     /// Its bytes.
     Bytes(Vec<u8>),
     /// There is no file of this path.
     Absent(Name),
-    /// It has more than 1,048,576 bytes.
+    /// It has more bytes than it may have.
     TooLong,
 }
 
@@ -86,7 +86,8 @@ const MOST_FILES: u32 = 4_096;
 
 const MOST_INPUT_BYTES: u64 = 1_048_576;
 
-const MOST_FILE_BYTES: u64 = 4_194_304;
+/// How many bytes a class file, or a text that is assembled, may have.
+pub const MOST_FILE_BYTES: u64 = 4_194_304;
 
 const MOST_TOTAL_BYTES: u64 = 67_108_864;
 
@@ -113,7 +114,7 @@ pub fn list_paths<F: Files>(alloc: Global, files: &mut F, folder: &str) -> Resul
     }
 }
 
-/// The input that isn't there under the path.
+/// The file that isn't there under the path.
 fn absent(alloc: Global, path: &str) -> Result<Input, Stop>
     ensures absent { IfOk result (λ input. input ≡ Absent path.now) }
     ensures no_fault { IfErr result (λ stop. stop ≡ Memory) }
@@ -124,17 +125,22 @@ fn absent(alloc: Global, path: &str) -> Result<Input, Stop>
     }
 }
 
-/// Reads the input of the path.
-pub fn read_input<F: Files>(alloc: Global, files: &mut F, path: &str) -> Result<Input, Stop>
+/// Reads the file of the path, which may have so many bytes.
+pub fn read_whole<F: Files>(
+    alloc: Global,
+    files: &mut F,
+    path: &str,
+    most: u64,
+) -> Result<Input, Stop>
     ensures held { F.held files.new ≡ F.held files.old }
     ensures counts { Counted (F.faults files.old) (F.faults files.new) result }
     ensures asks { GrowsByFront (F.asked files.old) (F.asked files.new) (path.now ∷ []) }
     ensures asked { OnOk result (F.asked files.new ≡ F.asked files.old ++ path.now ∷ []) }
-    ensures short { IfOk result IsShortInput }
+    ensures short { IfOk result (IsShortInput most) }
     ensures absent { IfOk result (IsAbsentWhereTold (F.held files.old)) }
-    ensures told { IfSome (F.held files.old) (λ h. IfOk result (IsReadInput path.now (bytes_at h path.now))) }
+    ensures told { IfSome (F.held files.old) (λ h. IfOk result (IsReadInput most path.now (bytes_at h path.now))) }
 {
-    match files.read(alloc, path, MOST_INPUT_BYTES) {
+    match files.read(alloc, path, most) {
         Ok(bytes) => Ok(Input::Bytes(bytes)),
         Err(ReadError::Absent) => absent(alloc, path),
         Err(ReadError::TooLong) => Ok(Input::TooLong),
@@ -147,19 +153,19 @@ pub fn read_input<F: Files>(alloc: Global, files: &mut F, path: &str) -> Result<
 pub fn read_job_input<F: Files>(
     alloc: Global,
     files: &mut F,
-    command: Command<'_>,
+    command: FolderCommand<'_>,
 ) -> Result<Input, Stop>
     ensures held { F.held files.new ≡ F.held files.old }
     ensures counts { Counted (F.faults files.old) (F.faults files.new) result }
-    ensures asks { GrowsByFront (F.asked files.old) (F.asked files.new) (input_asks (job_view command.entry)) }
-    ensures asked { OnOk result (F.asked files.new ≡ F.asked files.old ++ input_asks (job_view command.entry)) }
-    ensures short { IfOk result IsShortInput }
-    ensures of_job { IfOk result (IsInputOf (job_view command.entry) (F.held files.old)) }
-    ensures told { IfSome (F.held files.old) (λ h. IfOk result (IsJobInput (job_view command.entry) h)) }
+    ensures asks { GrowsByFront (F.asked files.old) (F.asked files.new) (input_asks (folder_job_view command.entry)) }
+    ensures asked { OnOk result (F.asked files.new ≡ F.asked files.old ++ input_asks (folder_job_view command.entry)) }
+    ensures short { IfOk result (IsShortInput most_input_bytes) }
+    ensures of_job { IfOk result (IsInputOf (folder_job_view command.entry) (F.held files.old)) }
+    ensures told { IfSome (F.held files.old) (λ h. IfOk result (IsJobInput (folder_job_view command.entry) h)) }
 {
     match command {
-        Command::Check { .. } => Ok(Input::Bytes(Vec::new(alloc))),
-        Command::Verify { input, .. } => read_input(alloc, files, input),
+        FolderCommand::Check { .. } => Ok(Input::Bytes(Vec::new(alloc))),
+        FolderCommand::Verify { input, .. } => read_whole(alloc, files, input, MOST_INPUT_BYTES),
     }
 }
 

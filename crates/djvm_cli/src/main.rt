@@ -1,6 +1,7 @@
 //! djvm: a deterministic sandbox for Java class files.
 #![tactic(auto)]
 
+mod assembling;
 mod clock_host;
 mod cut;
 mod djvm;

@@ -21,12 +21,21 @@ const NATIVE: &[u8] =
     \x01\0\x03()V\x01\0\x08finalize\x01\0\x04Code\0\x21\0\x02\0\x04\0\0\0\0\0\x02\x01\x01\0\x05\0\x06\0\
     \0\0\x01\0\x07\0\x06\0\x01\0\x08\0\0\0\x0d\0\0\0\x01\0\0\0\x01\xb1\0\0\0\0\0\0";
 
-// A file that was cut and one with two violations in the folder c, a good one in d, and an input.
-const FILES: [(&str, &[u8]); 4] = [
+// The text of the class A, and one that lacks the class's name.
+const TEXT: &[u8] =
+    b".class 21 A\n.super java/lang/Object\n.method 9 verify ([B)[B\n.stack 1\n.locals 1\n\
+    aload_0\nareturn\n.end\n";
+
+const NO_NAME: &[u8] = b".class 21\n";
+
+// A file that was cut and one with two violations in the folder c, a good one in d, an input, and two texts.
+const FILES: [(&str, &[u8]); 6] = [
     ("c/B.class", NATIVE),
     ("c/A.class", CUT),
     ("d/A.class", A),
     ("in", b"\x0a\x0b"),
+    ("t", TEXT),
+    ("u", NO_NAME),
 ];
 
 // The words, the order of listings, the call of the store that fails, how many bytes the sink takes, the status and what is written.
@@ -40,12 +49,18 @@ const VERIFY: &[&str] = &["verify", "d", "A", "in"];
 
 const LACKING: &[&str] = &["verify", "d", "A", "none"];
 
+const NO_TEXT: &[&str] = &["assemble", "none"];
+
+const ASSEMBLE: &[&str] = &["assemble", "t"];
+
+const REFUSED: &[&str] = &["assemble", "u"];
+
 const REJECTED: &[u8] =
     b"REJECTED 3\nA.class - - 1 MALFORMED\nB.class finalize()V - 8 FINALIZER\nB.class n()V - 7 NATIVE\n";
 
 const RETURNED: &[u8] = b"OK 2 0a0b\ncosts alloc 0 invoke 0 jump 0 throw 0\n";
 
-const ENDS: [Row; 14] = [
+const ENDS: [Row; 19] = [
     (CHECK, Order::Given, NONE, 999, 2, REJECTED),
     (CHECK, Order::Reversed, NONE, 999, 2, REJECTED),
     (CHECK, Order::Given, 0, 999, 65, b""),
@@ -60,6 +75,11 @@ const ENDS: [Row; 14] = [
     (VERIFY, Order::Given, 2, 999, 65, b""),
     (VERIFY, Order::Given, NONE, 9, 66, b"OK 2 0a0b"),
     (LACKING, Order::Given, NONE, 999, 65, b"ABSENT none\n"),
+    (NO_TEXT, Order::Given, NONE, 999, 65, b"ABSENT none\n"),
+    (NO_TEXT, Order::Given, 0, 999, 65, b""),
+    (ASSEMBLE, Order::Given, NONE, 999, 0, A),
+    (ASSEMBLE, Order::Given, NONE, 4, 66, b"\xca\xfe\xba\xbe"),
+    (REFUSED, Order::Given, NONE, 999, 68, b"ASM SYNTAX 1 10\n"),
 ];
 
 fn words_of(alloc: Global, words: &[&str]) -> Result<Vec<String>, AllocError> {

@@ -1,7 +1,10 @@
 ghost use Rattle.std.specs.Prelude.{None, []};
 
-use crate::load::{list_paths, read_files, read_input};
+use crate::assembling::report_of_text;
+use crate::load::{list_paths, read_files, read_job_input};
 use dj_edge::{Files, ListError, ReadError};
+use dj_names::Thresholds;
+use dj_words::FolderCommand;
 use std::alloc::Global;
 use std::test::Fail;
 
@@ -27,18 +30,31 @@ impl Files for Limits {
     }
 }
 
-// One path more than a job may have, the most bytes of an input and the most bytes of a class file.
+const VERIFY: FolderCommand<'static> = FolderCommand::Verify {
+    folder: "f",
+    entry: "A",
+    input: "input",
+    thresholds: Thresholds {
+        alloc: 0,
+        invoke: 0,
+        jump: 0,
+        throw: 0,
+    },
+};
+
+// One path more than a job may have, the most bytes of an input, of a class file and of a text.
 #[test]
 fn limits_asked(rt: HostRuntime) -> Result<(), Fail> {
     let alloc = rt.alloc();
     let mut store = Limits(Vec::new(alloc));
     let paths = vec![in alloc; String::from_str(alloc, "f/A.class")?]?;
     let _ = list_paths(alloc, &mut store, "f");
-    let _ = read_input(alloc, &mut store, "input");
+    let _ = read_job_input(alloc, &mut store, VERIFY);
     let _ = read_files(alloc, &mut store, &paths);
+    let _ = report_of_text(alloc, "text", &mut store);
     assert_eq!(rt;
         store.0.as_slice(),
-        [4_097, 1_048_576, 4_194_304].as_slice()
+        [4_097, 1_048_576, 4_194_304, 4_194_304].as_slice()
     );
     Ok(())
 }

@@ -1,0 +1,5 @@
+pub mod SizeFacts
+mod UseFacts
+mod RoomFacts
+mod PastFacts
+mod PartFacts
