@@ -4,4 +4,6 @@
 #[cfg(test)]
 mod heap;
 #[cfg(test)]
+mod library;
+#[cfg(test)]
 mod stack;

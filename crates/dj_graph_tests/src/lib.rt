@@ -1,0 +1,5 @@
+//! Tests of the components of graphs.
+#![tactic(auto)]
+
+#[cfg(test)]
+mod tests;

@@ -1,0 +1,6 @@
+use Rattle.dj_library.specs.Heads.{library_heads}
+use Rattle.dj_hierarchy.proofs.head.library_rows.Goals as goal
+
+pub returns : goal.returns
+unfolding library_heads
+returns c = c.heads.ensures.deterministic

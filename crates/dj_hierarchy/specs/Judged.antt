@@ -1,0 +1,14 @@
+-- What the call that judges heads answers.
+use Rattle.std.specs.Prelude.{◌≡◌, ◌↔◌, ℕ, Bool, IsTrue, List, length, Some, Contains, slice_get}
+use Rattle.dj_library.specs.Heads.{Head}
+use Rattle.dj_hierarchy.specs.Hierarchy.{Stands, ViolatesHierarchy}
+
+-- each mark tells whether the head at its place violates the rule among all the heads and those of the library
+pub record AreJudged (heads : List Head) (marks : List Bool) : Type 0 where
+  pub all : length marks ≡ length heads
+  pub each : (place : ℕ) (head : Head) (mark : Bool) → slice_get heads place ≡ Some head → slice_get marks place ≡ Some mark → IsTrue mark ↔ ViolatesHierarchy (Stands heads) head
+
+-- so many marks, each of which tells whether the head at its place violates the rule among all
+pub record AreMarks (heads : List Head) (count : ℕ) (marks : List Bool) : Type 0 where
+  pub all : length marks ≡ count
+  pub each : (place : ℕ) (head : Head) (mark : Bool) → slice_get heads place ≡ Some head → slice_get marks place ≡ Some mark → IsTrue mark ↔ ViolatesHierarchy (Contains heads) head

@@ -1,0 +1,6 @@
+pub mod Edges
+pub mod Hierarchy
+pub mod Judged
+pub mod Known
+pub mod Names
+pub mod Views

@@ -1,0 +1,5 @@
+//! Tests of the rule HIERARCHY.
+#![tactic(auto)]
+
+#[cfg(test)]
+mod heads;

@@ -1,0 +1,31 @@
+use thiserror::Error;
+
+/// Why there is no library.
+#[derive(Clone, Copy, Debug, PartialEq, Eq, Error)]
+pub enum LibraryError {
+    /// There was no memory.
+    #[error("there was no memory")]
+    Memory,
+}
+
+impl From<dj_names::NoMemory> for LibraryError {
+    ghost use Rattle.std.specs.Prelude.{◌≡◌};
+    ghost use Rattle.dj_library.specs.declared.errors.LibraryError.TheVariants.{Memory};
+
+    ghost from_gives = { λ _ e. e ≡ Memory };
+
+    fn from(_e: dj_names::NoMemory) -> LibraryError {
+        LibraryError::Memory
+    }
+}
+
+impl From<dj_natives::NoMemory> for LibraryError {
+    ghost use Rattle.std.specs.Prelude.{◌≡◌};
+    ghost use Rattle.dj_library.specs.declared.errors.LibraryError.TheVariants.{Memory};
+
+    ghost from_gives = { λ _ e. e ≡ Memory };
+
+    fn from(_e: dj_natives::NoMemory) -> LibraryError {
+        LibraryError::Memory
+    }
+}
