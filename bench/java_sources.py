@@ -1,4 +1,5 @@
-"""Makes Java sources of classes as contracts have them, and compiles them: the class files are those of a real compiler."""
+"""Makes Java sources of classes as contracts have them, and compiles them: the class files are those of a real compiler. They have no
+floats and no lambdas."""
 
 import math
 import os
@@ -6,7 +7,7 @@ import subprocess
 import sys
 
 WORDS = "account amount balance broker check contract issue ledger limit node order party pay price state sum token total".split()
-TYPES = ["int", "long", "String", "boolean", "byte[]", "double", "List<String>", "Map<String, Long>", "Object[]", "int[][]"]
+TYPES = ["int", "long", "String", "boolean", "byte[]", "char", "List<String>", "Map<String, Long>", "Object[]", "int[][]"]
 LEAST, MOST = 2048, 40960
 
 # Roughly so many bytes of a class file come of a class without these methods, of a field, and of a method.
@@ -76,7 +77,7 @@ METHODS = [
         Map<String, Long> %(b)s = new TreeMap<>();
         try {
             for (String %(c)s : %(a)s) {
-                %(b)s.merge(%(c)s, (long) %(c)s.length() * %(number)dL, Long::sum);
+                %(b)s.put(%(c)s, (long) %(c)s.length() * %(number)dL);
             }
         } catch (NullPointerException | ClassCastException missing) {
             %(b)s.put("%(text)s", SCALE);
@@ -87,13 +88,13 @@ METHODS = [
     }
 """,
     """
-    protected double %(name)s(double %(a)s, float %(b)s, Function<String, Double> %(c)s) {
-        double sum = %(a)s * %(number)d.5;
+    protected long %(name)s(long %(a)s, short %(b)s, Function<String, Long> %(c)s) {
+        long sum = %(a)s * %(number)d;
         for (String each : names) {
             sum += %(c)s.apply(each) / %(b)s;
         }
-        Supplier<Double> scaled = () -> %(a)s * SCALE;
-        return sum > 0 ? sum + scaled.get() : Math.abs(sum);
+        long scaled = %(a)s * SCALE;
+        return sum > 0 ? sum + scaled : Math.abs(sum);
     }
 """,
     """

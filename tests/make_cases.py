@@ -1,10 +1,11 @@
 #!/usr/bin/env python3
 """Makes the folders of tests/cases anew.
 
-The class files come from class_files.py, the cases of `djvm verify` from verify_cases.py, and those on constant pools from
-pool_cases.py. The expected output and
+The class files come from class_files.py, the cases of `djvm verify` from verify_cases.py, those on constant pools from
+pool_cases.py, and those on the rules of `djvm check` from rule_cases.py and code_rule_cases.py. The expected output and
 status of each case are those of reference.py, a small reference implementation that was written from the description of
-the commands and not from the program.
+the commands and not from the program. The cases on rules say by hand which lines they have, and nothing is made where
+reference.py tells others.
 
 A case is a folder with `files/`, in which the program is run, `words`, one a line (an empty line is an empty word),
 `stdout` and `status`. An empty `.keep` makes a folder exist; it is no class file.
@@ -17,7 +18,10 @@ import sys
 
 sys.dont_write_bytecode = True
 
+import check_rules
+import code_rule_cases  # It adds its cases to those of rule_cases.
 import pool_cases
+import rule_cases
 import verify_cases
 from class_files import (
     ABSTRACT,
@@ -106,10 +110,14 @@ case(
     "not-looked-at",
     {
         # What other checkers refuse and these rules don't look at.
-        "c/A.class": plain("A", super_name="A", interfaces=["A", "A"], flags=0xFFFF, fields=[("x", "I"), ("x", "I")]),
-        "c/java/lang/Object.class": plain("java/lang/Object", super_name=None),
-        "c/sandbox/A.class": plain("sandbox/A", methods=[("f", "()V", 1), ("f", "()V", 1), ("g", "(F)D", 1, [code(), code()])]),
-        "c/B.class": plain("B", methods=[("f", "()V", ABSTRACT, [code(b"\xff\xca")]), ("g", "()V", 1, [("Code", b"")])]),
+        "c/A.class": plain("A", interfaces=["java/lang/Runnable"] * 2, flags=0xFFFF, fields=[("x", "I", 0xFFFF), ("<init>", "I", 7)]),
+        "c/B.class": plain("B", methods=[("f", "()V", 0xFEFF), ("<init>", "()I", ABSTRACT), ("<clinit>", "(I)V", ABSTRACT)]),
+        "c/C.class": plain(
+            "C",
+            listed=[("SourceFile", b""), ("InnerClasses", b"\xff"), ("BootstrapMethods", b"\1"), ("Signature", bytes(3))],
+            fields=[("y", "I", 0, [("Signature", b""), ("Deprecated", b"x"), ("StackMapTable", b"\1")])],
+            methods=[("f", "()V", ABSTRACT, [("Exceptions", b"\1"), ("Signature", b""), ("ConstantValue", b"")])],
+        ),
     },
 )
 
@@ -189,7 +197,7 @@ case(
         "c/A.class": plain("A", methods=[native("n"), native("n"), native("m"), native("n")]),
         # Two methods whose names and descriptors join to one text.
         "c/B.class": plain("B", methods=[native("f", "()LA(I)LB;"), native("f()LA", "(I)LB;")]),
-        "c/C.class": plain("C", methods=[("finalize", "()V", 1), ("finalize", "()V", 1)]),
+        "c/C.class": plain("C", methods=[("finalize", "()V", 1, [code()]), ("finalize", "()V", 1, [code()])]),
     },
 )
 
@@ -339,7 +347,7 @@ case(
     {
         "c/%s.class" % name: data
         for name, data in {
-            "A": parts(fields=row(1, 0, 5, 6, 0), methods=row(1, 0, 5, 7, 1, 5, 0, 0), interfaces=[2, 2]),
+            "A": parts(fields=row(1, 0, 5, 6, 0), methods=row(1, ABSTRACT, 5, 7, 1, 5, 0, 0), interfaces=[2, 2]),
             "this-0": parts(this_class=0),
             "this-text": parts(this_class=1),
             "this-array": parts(this_class=9),
@@ -486,24 +494,50 @@ def write(path, data):
         file.write(data)
 
 
+def outcome_of(inside, words):
+    """What reference.py writes, run in this folder, and its status."""
+    command = [sys.executable, os.path.join(HERE, "reference.py"), *words]
+    ran = subprocess.run(command, cwd=inside, stdin=subprocess.DEVNULL, stdout=subprocess.PIPE)
+    return ran.stdout, ran.returncode
+
+
+def told_lines(text):
+    """The lines of a report as rule_cases.py writes them."""
+    first, *lines = text.decode().splitlines()
+    found = []
+    for path, member, number, rule, name in map(str.split, lines):
+        assert name == check_rules.RULES[int(rule)]
+        found.append(" ".join(part for part in (path[: -len(".class")], member, number, rule) if part != "-"))
+    assert first.split()[0] == "ACCEPTED" and not found or first == "REJECTED %d" % len(found)
+    return found
+
+
+def make(name, files, words, folders):
+    top = os.path.join(CASES, name)
+    inside = os.path.join(top, "files")
+    os.makedirs(inside)
+    for path, data in files.items():
+        write(os.path.join(inside, path), data)
+    for folder in folders:
+        write(os.path.join(inside, folder, ".keep"), b"")
+    text, status = outcome_of(inside, words)
+    if name in rule_cases.found:
+        told, wanted = told_lines(text), list(rule_cases.found[name][1])
+        if sorted(told) != sorted(wanted):
+            sys.exit("%s: told %s, wanted %s" % (name, sorted(set(told) - set(wanted)), sorted(set(wanted) - set(told))))
+    write(os.path.join(top, "words"), "".join(word + "\n" for word in words).encode())
+    write(os.path.join(top, "stdout"), text)
+    write(os.path.join(top, "status"), b"%d\n" % status)
+
+
 def main():
     for name, made in [*pool_cases.found.items(), *verify_cases.found.items()]:
         case(name, *made)
+    for name, (files, _) in rule_cases.found.items():
+        case(name, files)
     shutil.rmtree(CASES, ignore_errors=True)
-    for name, (files, words, folders) in cases.items():
-        top = os.path.join(CASES, name)
-        inside = os.path.join(top, "files")
-        os.makedirs(inside)
-        for path, data in files.items():
-            write(os.path.join(inside, path), data)
-        for folder in folders:
-            write(os.path.join(inside, folder, ".keep"), b"")
-        ran = subprocess.run(
-            [sys.executable, os.path.join(HERE, "reference.py"), *words], cwd=inside, stdin=subprocess.DEVNULL, stdout=subprocess.PIPE
-        )
-        write(os.path.join(top, "words"), "".join(word + "\n" for word in words).encode())
-        write(os.path.join(top, "stdout"), ran.stdout)
-        write(os.path.join(top, "status"), b"%d\n" % ran.returncode)
+    for name, made in cases.items():
+        make(name, *made)
     print("%d cases" % len(cases))
 
 

@@ -16,6 +16,7 @@ from class_files import (
     Pool,
     class_entry,
     class_file,
+    code,
     entry_of_tag,
     invoke_dynamic,
     member_entry,
@@ -294,7 +295,7 @@ case(
     "rules-beside-constants",
     {
         "A": b"",
-        "B": class_file("B", pool=whole_pool(), methods=[native("n"), ("finalize", "()V", 4)]),
+        "B": class_file("B", pool=whole_pool(), methods=[native("n"), ("finalize", "()V", 4, [code()])]),
         "Z": class_file("Z", pool=whole_pool()),
         "z": class_file("y", pool=whole_pool(), major=9),
     },

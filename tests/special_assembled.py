@@ -16,11 +16,22 @@ from special_base import MEBIBYTES_4, file_limit
 HERE = os.path.dirname(os.path.abspath(__file__))
 TOP = os.path.dirname(HERE)
 
-# Texts, and the class files that they mean byte for byte.
-ASSEMBLED = (
+# Texts, and the class files that they mean byte for byte. Those of examples/rules/source are made into the folders there.
+ASSEMBLED = [
     ("examples/straight/source/Summary.asm", "examples/straight/accepted/Summary.class"),
     ("examples/straight/source/Length.asm", "examples/straight/rejected/Length.class"),
-)
+]
+
+
+def examples_of_rules():
+    """Each class file of examples/rules, and the text of its name there."""
+    top = os.path.join(TOP, "examples", "rules")
+    for inside, _, names in os.walk(top):
+        for name in names:
+            if name.endswith(".class"):
+                path = os.path.relpath(os.path.join(inside, name), TOP)
+                yield "examples/rules/source/%s.asm" % name[: -len(".class")], path
+
 
 # Texts that were written by hand after what javac had made, and that.
 AS_BY_JAVAC = (
@@ -39,7 +50,7 @@ def assembled(program, path):
 
 
 def assembled_as_made(program, results):
-    for text, made in ASSEMBLED:
+    for text, made in [*ASSEMBLED, *sorted(examples_of_rules())]:
         results.add(text, ["assemble", text], harness.difference(Outcome(0, content(made)), assembled(program, text)))
     for text, made in AS_BY_JAVAC:
         outcome = assembled(program, text)

@@ -11,21 +11,20 @@ use Rattle.dj_labels.proofs.Lists.{contains_at}
 use Rattle.dj_report.specs.declared.report.Violation.{Violation}
 use Rattle.dj_report.specs.declared.report.PathFile.{PathFile}
 use Rattle.dj_report.specs.Lines.{Gains, Adds, IsLineAmong, file_line}
-use Rattle.dj_report.specs.Order.{IsInOrder}
-use Rattle.dj_report.proofs.Adding.{adds_same, adds_both, adds_nothing, exactly_found}
+use Rattle.dj_report.proofs.Adding.{adds_same, adds_nothing}
 use Rattle.dj_rules.specs.Violations.{this_name}
 use Rattle.dj_rules.specs.Views.{path_file_view}
 use Rattle.dj_check.specs.declared.doubles.NamedFile.{NamedFile}
 use Rattle.dj_check.specs.Malformed.{IsGood}
 use Rattle.dj_check.specs.Passes.{TellsName}
-use Rattle.dj_check.specs.Rules.{IsAmongLoneLines, HasDouble, IsDuplicateLine, IsEarlyLine, AreEarlyViolations}
+use Rattle.dj_check.specs.Rules.{HasDouble, IsDuplicateLine}
 use Rattle.dj_check.specs.Doubles.{IsText, IsBelow, IsNameAt, IsAgainAt, IsRepeated, IsNamedAmong, IsLineAmongNames, IsRepeatedLine, IsNamedAs, AreNamed}
 use Rattle.dj_check.proofs.Anys.{slice_get_push}
 use Rattle.dj_check.proofs.FileLaws.{refused_not_good}
 
 -- ---- places below a number
 
-none_below : (P : ℕ → Type 0) → IsBelow 0 P → ⊥
+pub none_below : (P : ℕ → Type 0) → IsBelow 0 P → ⊥
 none_below P (i, lt, is) = absurd (omega (arith, lt))
 
 from_more_below : (P : ℕ → Type 0) (i j : ℕ) → j < i + 1 → P j → IsBelow i P ⊎ P i
@@ -34,7 +33,7 @@ from_more_below P i j lt is = elim (cases_eq j i) [
   | inr apart ↦ inl (j, omega (arith, lt, apart), is)
 ]
 
-more_below : (P : ℕ → Type 0) (i : ℕ) → IsBelow (i + 1) P ↔ (IsBelow i P ⊎ P i)
+pub more_below : (P : ℕ → Type 0) (i : ℕ) → IsBelow (i + 1) P ↔ (IsBelow i P ⊎ P i)
 more_below P i = (
   λ (j, lt, is). from_more_below P i j lt is,
   λ any. elim any [ inl old ↦ (old.0, (let lt = old.1 in omega (arith, lt)), old.2) | inr is ↦ (i, omega arith, is) ],
@@ -42,10 +41,10 @@ more_below P i = (
 
 -- ---- names so far
 
-some_is : {X : Type 0} (P : X → Type 0) (o : Option X) (x : X) → o ≡ Some x → P x ↔ IsSomeAnd o P
+pub some_is : {X : Type 0} (P : X → Type 0) (o : Option X) (x : X) → o ≡ Some x → P x ↔ IsSomeAnd o P
 some_is P o x e = ((λ is. subst (λ p. IsSomeAnd p P) (sym e) is), (λ is. subst (λ p. IsSomeAnd p P) e is))
 
-from_some : {X : Type 0} (P : X → Type 0) (o : Option X) → IsSomeAnd o P → (x : X) × (o ≡ Some x) × P x
+pub from_some : {X : Type 0} (P : X → Type 0) (o : Option X) → IsSomeAnd o P → (x : X) × (o ≡ Some x) × P x
 from_some P None is = absurd is
 from_some P (Some x) is = (x, refl, is)
 
@@ -141,20 +140,20 @@ to_name file (Some name) c (d, same, e) good = sym (e ∙ ap this_name (one_clas
 
 -- ---- places of files
 
-from_slice_get_map : {X Y : Type 0} (f : X → Y) (xs : List X) (i : ℕ) (y : Y) → slice_get (map f xs) i ≡ Some y → (x : X) × (slice_get xs i ≡ Some x) × (f x ≡ y)
+pub from_slice_get_map : {X Y : Type 0} (f : X → Y) (xs : List X) (i : ℕ) (y : Y) → slice_get (map f xs) i ≡ Some y → (x : X) × (slice_get xs i ≡ Some x) × (f x ≡ y)
 from_slice_get_map f [] zero y e = absurd cc
 from_slice_get_map f [] (suc i) y e = absurd cc
 from_slice_get_map f (x ∷ xs) zero y e = (x, refl, cc)
 from_slice_get_map f (x ∷ xs) (suc i) y e = from_slice_get_map f xs i y e
 
-to_slice_get_map : {X Y : Type 0} (f : X → Y) (xs : List X) (i : ℕ) (x : X) → slice_get xs i ≡ Some x → slice_get (map f xs) i ≡ Some (f x)
+pub to_slice_get_map : {X Y : Type 0} (f : X → Y) (xs : List X) (i : ℕ) (x : X) → slice_get xs i ≡ Some x → slice_get (map f xs) i ≡ Some (f x)
 to_slice_get_map f [] zero x e = absurd cc
 to_slice_get_map f [] (suc i) x e = absurd cc
 to_slice_get_map f (z ∷ xs) zero x e = let same : z ≡ x = cc in ap (λ w. Some (f w)) same
 to_slice_get_map f (z ∷ xs) (suc i) x e = to_slice_get_map f xs i x e
 
 -- what stands beside, in a list of the same length
-beside : {X Y : Type 0} (xs : List X) (ys : List Y) (i : ℕ) (x : X) → length ys ≡ length xs → slice_get xs i ≡ Some x → (y : Y) × (slice_get ys i ≡ Some y)
+pub beside : {X Y : Type 0} (xs : List X) (ys : List Y) (i : ℕ) (x : X) → length ys ≡ length xs → slice_get xs i ≡ Some x → (y : Y) × (slice_get ys i ≡ Some y)
 beside [] ys zero x same e = absurd cc
 beside [] ys (suc i) x same e = absurd cc
 beside (z ∷ xs) [] i x same e = absurd (omega (arith, same))
@@ -253,14 +252,9 @@ from_duplicate files named are v is =
       ),
     )
 
--- all lines, put in order
-pub all_early_lines : (files : List PathFile) (named : List NamedFile) (start lone found lines : List Violation) → start ≡ [] → Adds (IsAmongLoneLines (map path_file_view files)) start lone → AreNamed files named
-    → Adds (IsLineAmong (IsRepeatedLine named) named) lone found → IsInOrder lines → ((v : Violation) → Contains lines v ↔ Contains found v) → AreEarlyViolations (map path_file_view files) lines
-all_early_lines files named start lone found lines none lone_are are doubles in_order members =
-    let seen = map path_file_view files in
-    let doubles' : Adds (IsDuplicateLine seen) lone found = adds_same (IsLineAmong (IsRepeatedLine named) named) (IsDuplicateLine seen) lone found (λ v. (to_duplicate files named are v, from_duplicate files named are v)) doubles in
-    exactly_found (IsEarlyLine seen) found lines
-    (subst (λ (xs : List Violation). Adds (IsEarlyLine seen) xs found) none (adds_both (IsAmongLoneLines seen) (IsDuplicateLine seen) start lone found lone_are doubles')) in_order members
+-- the lines of names that files have, as those of the rule
+pub duplicate_lines : (files : List PathFile) (named : List NamedFile) (a b : List Violation) → AreNamed files named → Adds (IsLineAmong (IsRepeatedLine named) named) a b → Adds (IsDuplicateLine (map path_file_view files)) a b
+duplicate_lines files named a b are = adds_same (IsLineAmong (IsRepeatedLine named) named) (IsDuplicateLine (map path_file_view files)) a b (λ v. (to_duplicate files named are v, from_duplicate files named are v))
 
 -- ---- names that are gathered
 

@@ -1,5 +1,5 @@
 -- The lines of a file.
-use Rattle.std.proofs.Common.{◌≡◌, ℕ, ◌≤◌, ◌⊎◌, ◌↔◌, Bool, List, [], ◌++◌, map, take, length, Bor, Option, Some, None, refl, sym, ap, ◌∙◌, subst, inl, inr, Contains, IsTrue, unwrap_or}
+use Rattle.std.proofs.Common.{◌≡◌, ℕ, ◌≤◌, ◌⊎◌, ◌↔◌, Bool, List, [], ◌++◌, map, take, length, Option, Some, None, refl, sym, ap, ◌∙◌, subst, inl, inr, Contains, IsTrue, unwrap_or}
 use Rattle.dj_pool.specs.Pool.{Constant, text_at}
 use Rattle.dj_pool.proofs.Decides.{tests_decide}
 use Rattle.dj_class.specs.ClassFile.{MemberInfo, ClassFile, IsClassFile}
@@ -11,7 +11,8 @@ use Rattle.dj_report.proofs.Adding.{adds_same, adds_both, adds_part, among_map}
 use Rattle.dj_report.specs.declared.report.PathFile.{PathFile}
 use Rattle.std.proofs.lemmas.List.{take_all}
 use Rattle.dj_rules.specs.Views.{path_file_view}
-use Rattle.dj_check.specs.Passes.{IsJudgedFile, IsNamedFile}
+use Rattle.dj_check.specs.Passes.{IsJudgedFile, IsToldFile}
+use Rattle.dj_check.specs.declared.good.GoodFile.{GoodFile}
 use Rattle.dj_rules.specs.Violations.{member_text, this_name, IsClassLine}
 use Rattle.dj_rules.specs.Lines.{pair_text}
 use Rattle.dj_check.specs.declared.judged.JudgedText.{JudgedText}
@@ -39,7 +40,7 @@ same_text : (pool : List Constant) (texts : List JudgedText) (index : ℕ) → A
 same_text pool texts index are None told = refl
 same_text pool texts index are (Some t) told = (told t refl).first
 
-first_text : (pool : List Constant) (texts : List JudgedText) (index : ℕ) → AreTexts pool texts → text_at pool (first_in texts index) ≡ text_at pool index
+pub first_text : (pool : List Constant) (texts : List JudgedText) (index : ℕ) → AreTexts pool texts → text_at pool (first_in texts index) ≡ text_at pool index
 first_text pool texts index are = same_text pool texts index are _ (are.each index)
 
 -- the texts of the indexes that stand for a member's names are its own
@@ -99,15 +100,15 @@ refused_not_good bytes c good refused = elim refused [
 ]
 
 -- what was added of a file that was judged apart
-pub named_file : (file : PathFile) (old lines new : List Violation) (name : Option (Bor (List ℕ))) → IsJudgedFile file [] lines name → Adds (λ v. Contains lines v) old new → IsNamedFile file old new name
-named_file file old lines new None judged added = (
+pub told_file : (file : PathFile) (old lines new : List Violation) (part : Option GoodFile) → IsJudgedFile file [] lines part → Adds (λ v. Contains lines v) old new → IsToldFile file old new part
+told_file file old lines new None judged added = (
   adds_same (λ v. v ≡ file_line file.path.now 1) (IsLoneLine (path_file_view file)) old new (λ v. (
     λ e. inl (judged.refused, e),
     λ any. elim any [ inl is ↦ is.1 | inr (c, good, line) ↦ absurd (refused_not_good file.bytes.now c good judged.refused) ],
   )) (adds_part (λ v. v ≡ file_line file.path.now 1) old lines new judged.line added),
   judged.refused,
 )
-named_file file old lines new (Some name) judged added = (
+told_file file old lines new (Some part) judged added = (
   adds_same (IsOwnLine file.path.now judged.class) (IsLoneLine (path_file_view file)) old new (λ v. (
     λ line. inr (judged.class, judged.good, line),
     λ any. elim any [
@@ -115,7 +116,7 @@ named_file file old lines new (Some name) judged added = (
       | inr (c, good, line) ↦ subst (λ (d : ClassFile). IsOwnLine file.path.now d v) (one_class_file tests_decide file.bytes.now c judged.class good.file judged.good.file) line
     ],
   )) (adds_part (IsOwnLine file.path.now judged.class) old lines new judged.lines added),
-  (judged.class, judged.good, judged.named),
+  (judged.class, judged.good, judged.kept),
 )
 
 abbrev pub IsOwnFileLine : PathFile → Violation → Type 0

@@ -13,7 +13,7 @@ use Rattle.dj_check.specs.declared.judged.JudgedText.{JudgedText}
 use Rattle.dj_check.specs.Floats.{MentionsFloat, HasFloat}
 use Rattle.dj_check.specs.Attributes.{values_of}
 use Rattle.dj_check.specs.Malformed.{IsValueFor, IsFaultyField}
-use Rattle.dj_check.specs.Judged.{IsTextAt, AreTexts, AreFirstTexts}
+use Rattle.dj_check.specs.Judged.{AreTexts, IsNumberedText, AreFirstTexts}
 use Rattle.dj_check.proofs.Anys.{slice_get_push}
 
 -- ---- descriptors
@@ -37,20 +37,26 @@ nothing_is found P none is = subst (λ o. IsSomeAnd o P) none is
 pub not_told : {A : Type 0} (found : Option A) (P : A → Type 0) → found ≡ None → IsTrue false ↔ IsSomeAnd found P
 not_told found P none = ((λ t. absurd cc), (λ is. absurd (nothing_is found P none is)))
 
-pub no_texts_yet : (pool : List Constant) → AreFirstTexts 0 pool []
-no_texts_yet pool = record { all = refl; each = λ index text e. absurd cc }
+pub no_texts_yet : (numbers : List ℕ → ℕ) (pool : List Constant) → AreFirstTexts numbers 0 pool []
+no_texts_yet numbers pool = record { all = refl; each = λ index text e. absurd cc }
 
-pub one_text_more : (pool : List Constant) (texts more : List JudgedText) (i : ℕ) (text : JudgedText) → more ≡ texts ++ text ∷ [] → IsTextAt pool i text → AreFirstTexts i pool texts → AreFirstTexts (i + 1) pool more
-one_text_more pool texts more i text are is before = rw are (record {
+pub one_text_more : (numbers : List ℕ → ℕ) (pool : List Constant) (texts more : List JudgedText) (i : ℕ) (text : JudgedText) → more ≡ texts ++ text ∷ [] → IsNumberedText numbers pool i text → AreFirstTexts numbers i pool texts
+    → AreFirstTexts numbers (i + 1) pool more
+one_text_more numbers pool texts more i text are is before = rw are (record {
   all = omega (arith, length-append texts (text ∷ []), before.all);
   each = λ index t e. elim (slice_get_push texts text index t e) [
     | inl old ↦ before.each index t old
-    | inr (here, same) ↦ subst (λ (x : JudgedText). IsTextAt pool index x) same (subst (λ (k : ℕ). IsTextAt pool k text) (sym (here ∙ before.all)) is)
+    | inr (here, same) ↦ subst (λ (x : JudgedText). IsNumberedText numbers pool index x) same (subst (λ (k : ℕ). IsNumberedText numbers pool k text) (sym (here ∙ before.all)) is)
   ];
 })
 
-pub all_texts : (pool : List Constant) (texts : List JudgedText) (count : ℕ) → length pool + 1 ≤ count → AreFirstTexts count pool texts → AreTexts pool texts
-all_texts pool texts count le are = record { all = (let e = are.all in omega arith); each = are.each }
+pub all_texts : (numbers : List ℕ → ℕ) (pool : List Constant) (texts : List JudgedText) (count : ℕ) → length pool + 1 ≤ count → AreFirstTexts numbers count pool texts → AreTexts pool texts
+all_texts numbers pool texts count le are = record {
+  all = (let e = are.all in omega arith);
+  each = λ index text e. (are.each index text e).means;
+  numbers = numbers;
+  number = λ index text t e at. (are.each index text e).number t at;
+}
 
 -- ---- values of fields
 

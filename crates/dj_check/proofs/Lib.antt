@@ -10,7 +10,13 @@ pub mod FileLaws
 pub mod Marked
 pub mod Keys
 pub mod DoubleLaws
+pub mod Noted
+pub mod HeadLaws
+pub mod RepeatLaws
+pub mod KeptLaws
+pub mod HierarchyLaws
 mod Facts
 mod BodyFacts
 mod NameFacts
 mod RuleFacts
+mod HeadFacts

@@ -7,8 +7,11 @@ pub mod Members
 pub mod Opcodes
 pub mod Instructions
 pub mod Methods
+pub mod Heads
 pub mod Rules
 pub mod Judged
 pub mod Passes
 pub mod Marks
 pub mod Doubles
+pub mod Gathered
+pub mod Kept

@@ -1,5 +1,5 @@
 -- The code's own: what its passes hand on to one another.
-use Rattle.std.specs.Prelude.{◌≡◌, ◌≢◌, ℕ, Bool, true, false, ◌⊎◌, ◌<◌, ◌^◌, List, [], ◌∷◌, length, Contains, Option, Some, None}
+use Rattle.std.specs.Prelude.{◌≡◌, ◌≢◌, ◌↔◌, ℕ, Bool, true, false, IsTrue, ◌⊎◌, ◌<◌, ◌^◌, List, [], ◌∷◌, length, Contains, Option, Some, None}
 use Rattle.std.specs.List.{AllByRecursion}
 use Rattle.std.specs.Borrow.{Bor}
 use Rattle.dj_ops.specs.declared.rows.CatchRow.{CatchRow}
@@ -21,6 +21,9 @@ use Rattle.dj_labels.specs.Labels.{IsLabelled}
 use Rattle.dj_check.specs.declared.code.WholeCode.{WholeCode}
 use Rattle.dj_check.specs.declared.code.MethodCode.{MethodCode}
 use Rattle.dj_check.specs.declared.code.MethodCode.TheVariants as methods
+use Rattle.dj_check.specs.declared.good.GoodFile.{GoodFile}
+use Rattle.dj_check.specs.Heads.{HasRepeats}
+use Rattle.dj_check.specs.Gathered.{IsHeadOf}
 use Rattle.dj_check.specs.Attributes.{codes_of, maps_of}
 use Rattle.dj_check.specs.Code.{IsFloatMap}
 use Rattle.dj_check.specs.Malformed.{IsFaulty, IsRefused, IsGood, LacksLabels, IsFaultyCode, IsFaultyBody, IsFaultyMethod}
@@ -122,16 +125,21 @@ HasMapOf code = (body : List ℕ) × Contains (bodies_in code.map) body × IsFlo
 
 -- ---- files
 
+-- the head of the class is told, and whether two fields or two methods have one name and one descriptor
+pub record IsGoodPart (c : ClassFile) (part : GoodFile) : Type 0 where
+  pub head_is : IsHeadOf c part.head
+  pub told : IsTrue part.repeats ↔ HasRepeats c
+
 -- the class file has no faulty part, and its lines were added; or it has one, and nothing was
-abbrev pub IsJudgedClass : List ℕ → ClassFile → List Violation → List Violation → Bool → Type 0
-IsJudgedClass path c old new true = (IsFaulty c → ⊥) × Adds (IsOwnLine path c) old new
-IsJudgedClass path c old new false = IsFaulty c × (new ≡ old)
+abbrev pub IsJudgedClass : List ℕ → ClassFile → List Violation → List Violation → Option GoodFile → Type 0
+IsJudgedClass path c old new (Some part) = (IsFaulty c → ⊥) × (IsGoodPart c part × Adds (IsOwnLine path c) old new)
+IsJudgedClass path c old new None = IsFaulty c × (new ≡ old)
 
 -- the file is this good class file, and its lines were added
-pub record IsGoodFile (file : PathFile) (old new : List Violation) (name : List ℕ) : Type 0 where
+pub record IsGoodFile (file : PathFile) (old new : List Violation) (part : GoodFile) : Type 0 where
   pub class : ClassFile
   pub good : IsGood file.bytes.now class
-  pub named : name ≡ this_name class
+  pub kept : IsGoodPart class part
   pub lines : Adds (IsOwnLine file.path.now class) old new
 
 -- rule 1 is violated, and its line was added
@@ -139,15 +147,20 @@ pub record IsRefusedFile (file : PathFile) (old new : List Violation) : Type 0 w
   pub refused : IsRefused file.bytes.now
   pub line : Adds (λ v. v ≡ file_line file.path.now 1) old new
 
-abbrev pub IsJudgedFile : PathFile → List Violation → List Violation → Option (Bor (List ℕ)) → Type 0
+abbrev pub IsJudgedFile : PathFile → List Violation → List Violation → Option GoodFile → Type 0
 IsJudgedFile file old new None = IsRefusedFile file old new
-IsJudgedFile file old new (Some name) = IsGoodFile file old new name.now
+IsJudgedFile file old new (Some part) = IsGoodFile file old new part
 
 -- the class's name, and none where rule 1 is violated
 abbrev pub TellsName : PathFile → Option (Bor (List ℕ)) → Type 0
 TellsName file None = IsRefused file.bytes.now
 TellsName file (Some name) = (c : ClassFile) × IsGood file.bytes.now c × (name.now ≡ this_name c)
 
--- the lines of the file by itself were added, and its class's name is told where it has one
-abbrev pub IsNamedFile : PathFile → List Violation → List Violation → Option (Bor (List ℕ)) → Type 0
-IsNamedFile file old new name = Adds (IsLoneLine (path_file_view file)) old new × TellsName file name
+-- what is kept of the file, and nothing where rule 1 is violated
+abbrev pub TellsPart : PathFile → Option GoodFile → Type 0
+TellsPart file None = IsRefused file.bytes.now
+TellsPart file (Some part) = (c : ClassFile) × IsGood file.bytes.now c × IsGoodPart c part
+
+-- the lines of the file by itself were added, and what is kept of it is told
+abbrev pub IsToldFile : PathFile → List Violation → List Violation → Option GoodFile → Type 0
+IsToldFile file old new part = Adds (IsLoneLine (path_file_view file)) old new × TellsPart file part

@@ -1,4 +1,4 @@
--- The rules 1 to 16, but for 6 HIERARCHY, each as a condition on a possible line of the report. A file is its path within the folder, with its
+-- The rules 1 to 16, each as a condition on a possible line of the report. A file is its path within the folder, with its
 -- bytes. A file with rule 1 has no other line.
 use Rattle.std.specs.Prelude.{◌≡◌, ◌≢◌, ℕ, ◌⊎◌, List, Option, None, Some, slice_get, Contains}
 use Rattle.dj_edge.specs.Held.{File}
@@ -6,7 +6,9 @@ use Rattle.dj_class.specs.ClassFile.{MemberInfo, ClassFile}
 use Rattle.dj_report.specs.declared.report.Violation.{Violation}
 use Rattle.dj_report.specs.Lines.{file_line, AreExactly}
 use Rattle.dj_rules.specs.Violations.{member_text, this_name, IsClassLine}
+use Rattle.dj_hierarchy.specs.Hierarchy.{ViolatesHierarchy}
 use Rattle.dj_check.specs.Malformed.{IsRefused, IsGood}
+use Rattle.dj_check.specs.Heads.{head_of, StandsAmong, HasRepeats}
 use Rattle.dj_check.specs.Classes.{IsReserved}
 use Rattle.dj_check.specs.Members.{HasFloatConstant, IsFloatField}
 use Rattle.dj_check.specs.Methods.{MethodViolates}
@@ -76,9 +78,18 @@ pub record IsDuplicateLine (files : List File) (v : Violation) : Type 0 where
   pub double : HasDouble files place class
   pub line : v ≡ file_line file.0 5
 
+-- rule 6, HIERARCHY, of one of the files: what stands above its class, or two members of it
+pub record IsHierarchyLine (files : List File) (v : Violation) : Type 0 where
+  pub file : File
+  pub own : Contains files file
+  pub class : ClassFile
+  pub good : IsGood file.1 class
+  pub such : ViolatesHierarchy (StandsAmong files) (head_of class) ⊎ HasRepeats class
+  pub line : v ≡ file_line file.0 6
+
 -- one of these rules is violated by a file
 abbrev pub IsEarlyLine : List File → Violation → Type 0
-IsEarlyLine files v = IsAmongLoneLines files v ⊎ IsDuplicateLine files v
+IsEarlyLine files v = IsAmongLoneLines files v ⊎ (IsDuplicateLine files v ⊎ IsHierarchyLine files v)
 
 -- all violations of these rules, in order, each once
 abbrev pub AreEarlyViolations : List File → List Violation → Type 0

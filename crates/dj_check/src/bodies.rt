@@ -2,9 +2,9 @@ ghost use Rattle.std.specs.Prelude.{◌≡◌, map, IfOk};
 ghost use Rattle.dj_class.specs.Parts.{attribute_of};
 ghost use Rattle.dj_check.specs.Attributes.{is_named, bodies_of};
 
-use crate::error::RulesError;
 use dj_class::Attribute;
 use dj_pool::Pool;
+use dj_rules::RulesError;
 use std::alloc::Global;
 
 // Whether the attribute has this name.

@@ -10,12 +10,12 @@ ghost use Rattle.dj_check.specs.Floats.{NamesFloatArray};
 ghost use Rattle.dj_check.specs.Members.{IsFloatConstant, HasFloatConstant};
 ghost use Rattle.dj_check.specs.Rules.{IsNamingLine};
 
-use crate::error::RulesError;
 use crate::judged::{JudgedText, text_in};
 use crate::lines::add_file_line_if;
 use dj_class::ClassView;
 use dj_pool::{Entry, Pool};
 use dj_report::Violation;
+use dj_rules::RulesError;
 use std::alloc::Global;
 
 // The numbers of the rules SANDBOX_PACKAGE and FLOAT.

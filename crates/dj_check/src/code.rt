@@ -7,12 +7,11 @@ ghost use Rattle.dj_check.specs.Malformed.{IsBodiless};
 ghost use Rattle.dj_check.specs.Passes.{lacks_memory, IsLabelling, bodies_in, IsMappedView, IsCodeView, IsBodyView, IsBodilessView, IsOwnView, IsMethodView};
 
 use crate::bodies::bodies_named;
-use crate::error::RulesError;
 use dj_class::{CodeView, MemberView, read_code};
 use dj_labels::{CodeError, Labelled, label};
 use dj_ops::CatchRow;
 use dj_pool::Pool;
-use dj_rules::is_memory;
+use dj_rules::{RulesError, is_memory};
 use std::alloc::Global;
 
 /// Code that is whole: its bytes, what it is with numbers for addresses, and the body of its stack map, if it has one.

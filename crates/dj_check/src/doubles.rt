@@ -2,9 +2,9 @@ ghost use Rattle.std.specs.Prelude.{◌≡◌, ◌↔◌, List, ℕ, Contains, I
 ghost use Rattle.dj_report.specs.Lines.{Adds, Gains, IsLineAmong};
 ghost use Rattle.dj_check.specs.Doubles.{texts_in, IsText, IsRepeated, IsNamedAmong, IsLineAmongNames, IsRepeatedLine};
 
-use crate::error::RulesError;
 use crate::lines::add_file_line_if;
 use dj_report::Violation;
+use dj_rules::RulesError;
 use std::alloc::Global;
 use std::collections::BTreeSet;
 

@@ -5,9 +5,9 @@ ghost use Rattle.dj_class.specs.Views.{class_of};
 ghost use Rattle.dj_check.specs.Malformed.{IsIntText, FitsField, NamesValue, IsValueFor, IsFaultyField, HasFaultyField};
 
 use crate::bodies::bodies_named;
-use crate::error::RulesError;
 use dj_class::{ClassView, MemberView};
 use dj_pool::{Entry, Pool};
+use dj_rules::RulesError;
 use std::alloc::Global;
 
 // Whether the text is the descriptor of a type whose values are ints.

@@ -1,14 +1,13 @@
-ghost use Rattle.std.specs.Prelude.{◌≡◌, ◌↔◌, ◌+◌, ◌<◌, ◌≤◌, ◌^◌, length, Some, IsTrue, IfOk};
-ghost use Rattle.dj_pool.specs.Pool.{text_at};
+ghost use Rattle.std.specs.Prelude.{◌≡◌, ◌↔◌, ◌+◌, ◌<◌, ◌≤◌, ◌^◌, length, Some, IsSome, IsTrue, IfOk, OnOk};
 ghost use Rattle.dj_check.specs.Floats.{HasFloat, IsFloating, HasFloating, MentionsFloat};
 ghost use Rattle.dj_check.specs.Classes.{IsReflective, IsReflectiveText, element_class};
-ghost use Rattle.dj_check.specs.Judged.{IsTextAt, AreTexts, first_in};
+ghost use Rattle.dj_check.specs.Judged.{IsTextAt, AreTexts, first_in, noted_at, number_in, AreNoted, IsNumberedText};
 
-use crate::error::RulesError;
 use dj_names::{Base, Desc, DescError, Of, Ty, is_class_name, read_desc};
 use dj_pool::{Entry, Pool};
+use dj_rules::RulesError;
 use std::alloc::Global;
-use std::collections::{BTreeMap, btree_map};
+use std::collections::BTreeMap;
 
 /// What the rules ask of the text of an index.
 #[derive(Clone, Copy, Debug)]
@@ -17,7 +16,7 @@ pub struct JudgedText {
     pub float: bool,
     /// Whether it stands for a class of reflection.
     pub reflective: bool,
-    /// An index that has the same text, and is one for all indexes of that text.
+    /// The first index that has the same text, or the index itself where there is no text.
     pub first: u16,
 }
 
@@ -105,41 +104,63 @@ fn is_reflective_text(alloc: Global, text: &[u8]) -> Result<bool, RulesError>
     }
 }
 
-// The index that has the text in the map, which gets the one that is asked for where it has none.
-fn first_index<'p>(
+// Notes the text of an index, where there is one and it wasn't noted yet.
+fn note_text<'p>(
     indexes: &mut BTreeMap<&'p [u8], u16>,
     pool: &Pool<'p>,
     index: u16,
-    text: &'p [u8],
-) -> Result<u16, RulesError>
-    requires { text_at pool.now index ≡ Some text.now }
-    ensures { IfOk result (λ first. text_at pool.now first ≡ text_at pool.now index) }
+) -> Result<(), RulesError>
+    requires { AreNoted pool.now index indexes.now }
+    ensures { OnOk result (AreNoted pool.now (index + 1) indexes.new) }
 {
-    let first = match indexes.entry(text)? {
-        btree_map::Entry::Occupied(found) => *found.get(),
-        btree_map::Entry::Vacant(room) => *room.insert(index),
-    };
-    if pool.text(first) == Some(text) {
-        Ok(first)
-    } else {
-        Ok(index)
+    if let Some(text) = pool.text(index) {
+        if indexes.get(text).is_none() {
+            indexes.insert(text, index)?;
+        }
+    }
+    Ok(())
+}
+
+// The first index of each text of the pool.
+fn first_indexes<'p>(alloc: Global, pool: &Pool<'p>) -> Result<BTreeMap<&'p [u8], u16>, RulesError>
+    requires { length pool.now + 1 < 2 ^ 16 }
+    ensures { IfOk result (AreNoted pool.now (length pool.now + 1)) }
+{
+    let mut indexes = BTreeMap::new(alloc);
+    let count = pool.as_slice().len() + 1;
+    for index in 0..count {
+        note_text(&mut indexes, pool, index as u16)?;
+    }
+    Ok(indexes)
+}
+
+// The index that was noted of a text.
+fn noted_index(indexes: &BTreeMap<&[u8], u16>, text: &[u8]) -> u16
+    requires { IsSome (noted_at indexes.now text.now) }
+    ensures { noted_at indexes.now text.now ≡ Some result }
+{
+    match indexes.get(text) {
+        Some(index) => *index,
+        None => unreachable!(),
     }
 }
 
 // What the rules ask of the text of an index.
-fn judge_text<'p>(
+fn judge_text(
     alloc: Global,
-    indexes: &mut BTreeMap<&'p [u8], u16>,
-    pool: &Pool<'p>,
+    indexes: &BTreeMap<&[u8], u16>,
+    pool: &Pool<'_>,
     index: u16,
 ) -> Result<JudgedText, RulesError>
-    ensures { IfOk result (IsTextAt pool.now index) }
+    requires noted { AreNoted pool.now (length pool.now + 1) indexes.now }
+    requires within { index ≤ length pool.now }
+    ensures { IfOk result (IsNumberedText (number_in indexes.now) pool.now index) }
 {
     match pool.text(index) {
         Some(text) => Ok(JudgedText {
             float: has_float(alloc, text)?,
             reflective: is_reflective_text(alloc, text)?,
-            first: first_index(indexes, pool, index, text)?,
+            first: noted_index(indexes, text),
         }),
         None => Ok(JudgedText {
             float: false,
@@ -154,11 +175,11 @@ pub fn judge_texts(alloc: Global, pool: &Pool<'_>) -> Result<Vec<JudgedText>, Ru
     requires { length pool.now + 1 < 2 ^ 16 }
     ensures { IfOk result (λ texts. AreTexts pool.now texts.items) }
 {
-    let mut indexes = BTreeMap::new(alloc);
+    let indexes = first_indexes(alloc, pool)?;
     let mut texts = Vec::new(alloc);
     let count = pool.as_slice().len() + 1;
     for index in 0..count {
-        let text = judge_text(alloc, &mut indexes, pool, index as u16)?;
+        let text = judge_text(alloc, &indexes, pool, index as u16)?;
         texts.push(text)?;
     }
     Ok(texts)

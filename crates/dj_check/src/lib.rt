@@ -1,13 +1,15 @@
-//! The rules that are judged of a set of class files alone, without the classes that they name.
+//! The rules on a set of class files that need no look at the members that code names: those of each file by itself, of names that files share, and of what stands above a class.
 #![tactic(auto)]
 
 mod bodies;
 mod classes;
 mod code;
 mod doubles;
-mod error;
 mod fields;
 mod files;
+mod good;
+mod heads;
+mod hierarchy;
 mod instructions;
 mod judge;
 mod judged;
@@ -17,6 +19,7 @@ mod marks;
 mod methods;
 mod opcodes;
 mod passes;
+mod repeats;
 
-pub use error::RulesError;
+pub use dj_rules::RulesError;
 pub use files::rules;

@@ -4,11 +4,11 @@ ghost use Rattle.dj_rules.specs.Lines.{pair_text};
 ghost use Rattle.dj_check.specs.declared.marks.Mark.{Mark};
 ghost use Rattle.dj_check.specs.Marks.{IsMarkLine};
 
-use crate::error::RulesError;
 use crate::marks::Mark;
 use dj_names::Name;
 use dj_pool::Pool;
 use dj_report::{Violation, add_file_line, add_line};
+use dj_rules::RulesError;
 use std::alloc::Global;
 
 // The name and the descriptor of these indexes.

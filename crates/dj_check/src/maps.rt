@@ -3,10 +3,10 @@ ghost use Rattle.std.specs.List.Sorted.{IsStrictlyIncreasing};
 ghost use Rattle.dj_check.specs.Code.{IsFloatType, HaveFloats, HasFloatType, HaveFloatType, IsFloatMapAt, IsFloatMap};
 ghost use Rattle.dj_check.specs.Passes.{lacks_memory_of_frames};
 
-use crate::error::RulesError;
 use dj_frames::{FrameError, read_frames};
 use dj_labels::read_starts;
 use dj_ops::{Form, Frame, VType};
+use dj_rules::RulesError;
 use std::alloc::Global;
 
 fn is_float_type(item: VType) -> bool

@@ -2,7 +2,7 @@ ghost use Rattle.std.specs.Prelude.{◌≡◌, ◌↔◌, IsTrue, OnOk};
 ghost use Rattle.dj_report.specs.Lines.{Gains};
 ghost use Rattle.dj_check.specs.Marks.{mark_at};
 
-use crate::error::RulesError;
+use dj_rules::RulesError;
 
 /// A part of a file that has lines: a member, by the indexes of its name and descriptor, as a whole or at the instruction of a number.
 #[derive(Clone, Copy, Debug, PartialEq, Eq, PartialOrd, Ord)]

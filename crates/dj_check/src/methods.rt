@@ -14,13 +14,13 @@ ghost use Rattle.dj_check.specs.Marks.{names_in, MarksOf, RuledWhole, AreMarksOf
 ghost use Rattle.dj_check.specs.Passes.{IsWholeMethod, IsShortCode, HasMapOf};
 
 use crate::code::{MethodCode, WholeCode, code_of_method};
-use crate::error::RulesError;
 use crate::judged::{JudgedText, text_in};
 use crate::maps::is_float_map;
 use crate::marks::{Mark, Place, add_mark_if};
 use crate::passes::add_code_marks;
 use dj_class::{ClassView, MemberView};
 use dj_pool::Pool;
+use dj_rules::RulesError;
 use std::alloc::Global;
 
 // The numbers of the rules FLOAT and INTERFACE_CODE.

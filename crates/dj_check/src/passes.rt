@@ -5,7 +5,6 @@ ghost use Rattle.dj_check.specs.Classes.{IsUncatchable};
 ghost use Rattle.dj_check.specs.Methods.{InstrViolates, CatchesError};
 ghost use Rattle.dj_check.specs.Marks.{place_of, MarksAt, MarksOf, ViolatesBelow, RangeViolates, IsAmongRanges, CodeMark};
 
-use crate::error::RulesError;
 use crate::instructions::{
     is_breakpoint, is_dynamic, is_float, is_multi_array, is_reflection, is_subroutine,
 };
@@ -14,6 +13,7 @@ use crate::marks::{Mark, Place, add_mark_if};
 use dj_labels::{Labelled, Protected};
 use dj_ops::Instr;
 use dj_pool::Pool;
+use dj_rules::RulesError;
 
 // The numbers of the rules on instructions and handlers.
 const DYNAMIC: u8 = 9;

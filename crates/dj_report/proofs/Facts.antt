@@ -39,8 +39,9 @@ written = refl
 
 -- ---- lines
 
-rules : map rule_name (0 ∷ 1 ∷ 2 ∷ 3 ∷ 4 ∷ 7 ∷ 8 ∷ 19 ∷ 20 ∷ 21 ∷ [])
-    ≡ [] ∷ codes "MALFORMED" ∷ codes "VERSION" ∷ codes "NAME" ∷ [] ∷ codes "NATIVE" ∷ codes "FINALIZER" ∷ codes "SHAPE" ∷ codes "ENTRY" ∷ [] ∷ []
+rules : map rule_name (0 ∷ 1 ∷ 4 ∷ 5 ∷ 6 ∷ 8 ∷ 9 ∷ 12 ∷ 16 ∷ 17 ∷ 18 ∷ 21 ∷ 22 ∷ 255 ∷ [])
+    ≡ [] ∷ codes "MALFORMED" ∷ codes "SANDBOX_PACKAGE" ∷ codes "DUPLICATE" ∷ codes "HIERARCHY" ∷ codes "FINALIZER" ∷ codes "DYNAMIC" ∷ codes "FLOAT"
+    ∷ codes "INTERFACE_CODE" ∷ codes "WHITELIST" ∷ codes "UNRESOLVED" ∷ codes "TOO_LARGE" ∷ [] ∷ [] ∷ []
 rules = refl
 
 violation : List ℕ → List ℕ → Option ℕ → ℕ → Violation

@@ -16,11 +16,25 @@ rule_name rule =
     if rule == 1 then codes "MALFORMED"
     else (if rule == 2 then codes "VERSION"
     else (if rule == 3 then codes "NAME"
+    else (if rule == 4 then codes "SANDBOX_PACKAGE"
+    else (if rule == 5 then codes "DUPLICATE"
+    else (if rule == 6 then codes "HIERARCHY"
     else (if rule == 7 then codes "NATIVE"
     else (if rule == 8 then codes "FINALIZER"
+    else (if rule == 9 then codes "DYNAMIC"
+    else (if rule == 10 then codes "REFLECTION"
+    else (if rule == 11 then codes "CATCH"
+    else (if rule == 12 then codes "FLOAT"
+    else (if rule == 13 then codes "SUBROUTINE"
+    else (if rule == 14 then codes "BREAKPOINT"
+    else (if rule == 15 then codes "MULTI_ARRAY"
+    else (if rule == 16 then codes "INTERFACE_CODE"
+    else (if rule == 17 then codes "WHITELIST"
+    else (if rule == 18 then codes "UNRESOLVED"
     else (if rule == 19 then codes "SHAPE"
     else (if rule == 20 then codes "ENTRY"
-    else []))))))
+    else (if rule == 21 then codes "TOO_LARGE"
+    else []))))))))))))))))))))
 
 -- a member is its name and descriptor, and none is a dash
 abbrev pub member_text : List ℕ → List ℕ

@@ -7,6 +7,7 @@ use Rattle.dj_report.specs.Stages.{IsDecided}
 use Rattle.dj_report.specs.declared.report.Report.TheVariants as reports
 use Rattle.dj_report.specs.declared.report.Violation.{Violation}
 use Rattle.dj_rules.specs.Violations.{AreViolations}
+use Rattle.dj_check.specs.Rules.{AreEarlyViolations}
 use Rattle.dj_straight.specs.Program.{Program, Method}
 use Rattle.dj_straight.specs.Straight.{IsNotStraight}
 use Rattle.dj_sandbox.specs.Entry.{with_slashes, entry_method, has_entry, IsEntryLine, IsShapeLine}
@@ -48,10 +49,10 @@ thresholds-throw_past h = omega (arith, h.throw)
 
 -- ---- the order
 
-rejected-first : (files : List File) (violations : List Violation) → AreViolations files violations → violations ≢ [] → IsDecided (check_stages files) (reports.Rejected violations)
+rejected-first : (files : List File) (violations : List Violation) → AreEarlyViolations files violations → violations ≢ [] → IsDecided (check_stages files) (reports.Rejected violations)
 rejected-first files violations are some = inl (violations, refl, are, some)
 
-accepted-last : (files : List File) → AreViolations files [] → IsDecided (check_stages files) (reports.Accepted (length files))
+accepted-last : (files : List File) → AreEarlyViolations files [] → IsDecided (check_stages files) (reports.Accepted (length files))
 accepted-last files are = inr (are, inl refl)
 
 run-rejected_first : (files : List File) (class input : List ℕ) (most : Thresholds) (violations : List Violation) → AreViolations files violations → violations ≢ []

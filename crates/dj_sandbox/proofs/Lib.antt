@@ -3,6 +3,7 @@ pub mod Entries
 pub mod Classical
 pub mod InsertedLines
 pub mod SomeLines
+mod SomeSetLines
 pub mod SomeRun
 pub mod OneJudgement
 pub mod SomeJudgement

@@ -9,16 +9,21 @@ use Rattle.dj_report.specs.declared.report.Report.TheVariants as reports
 use Rattle.dj_report.specs.declared.report.Violation.{Violation}
 use Rattle.dj_report.proofs.InOrder.{same_violations}
 use Rattle.dj_rules.specs.Violations.{AreViolations}
+use Rattle.dj_check.specs.Rules.{AreEarlyViolations}
 use Rattle.dj_straight.specs.Program.{Program}
 use Rattle.dj_straight.specs.Metered.{RunsTo}
 use Rattle.dj_straight.proofs.Turns.{same_end}
 use Rattle.dj_straight.specs.Straight.{IsStraightSet}
 use Rattle.dj_straight.proofs.Straights.{one_program}
 use Rattle.dj_sandbox.specs.Entry.{entry_method, AreRunViolations}
-use Rattle.dj_sandbox.specs.Judging.{JudgesFiles, Accepts, FindsStraight, JudgesRun, Runs, IsFirstPath, check_stages, run_stages}
+use Rattle.dj_sandbox.specs.Judging.{JudgesSet, JudgesFiles, Accepts, FindsStraight, JudgesRun, Runs, IsFirstPath, check_stages, run_stages}
 
 same_lines : (files : List File) (xs ys : List Violation) → AreViolations files xs → AreViolations files ys → xs ≡ ys
 same_lines files xs ys a b =
+    same_violations xs ys a.in_order b.in_order (λ v. (λ m. (b.all v).1 ((a.all v).0 m), λ m. (a.all v).1 ((b.all v).0 m)))
+
+same_set_of_lines : (files : List File) (xs ys : List Violation) → AreEarlyViolations files xs → AreEarlyViolations files ys → xs ≡ ys
+same_set_of_lines files xs ys a b =
     same_violations xs ys a.in_order b.in_order (λ v. (λ m. (b.all v).1 ((a.all v).0 m), λ m. (a.all v).1 ((b.all v).0 m)))
 
 same_run_lines : (files : List File) (p : Program) (class : List ℕ) (xs ys : List Violation) → AreRunViolations files p class xs → AreRunViolations files p class ys → xs ≡ ys
@@ -36,6 +41,12 @@ same_first_path [] p q a b = absurd a
 same_first_path (file ∷ files) p q a b = a ∙ sym b
 
 -- ---- stage by stage
+
+set_one : (files : List File) → DecidesOne (JudgesSet files)
+set_one files (Some r) (Some s) (xs, r-is, a, some) (ys, s-is, b, other) = ap Some (r-is ∙ ap reports.Rejected (same_set_of_lines files xs ys a b) ∙ sym s-is)
+set_one files (Some r) None (xs, r-is, a, some) none = absurd (some (same_set_of_lines files xs [] a none))
+set_one files None (Some s) none (ys, s-is, b, some) = absurd (some (same_set_of_lines files ys [] b none))
+set_one files None None a b = refl
 
 files_one : (files : List File) → DecidesOne (JudgesFiles files)
 files_one files (Some r) (Some s) (xs, r-is, a, some) (ys, s-is, b, other) = ap Some (r-is ∙ ap reports.Rejected (same_lines files xs ys a b) ∙ sym s-is)
@@ -78,7 +89,7 @@ runs_one files class input most None b none p = absurd none
 -- ---- the order of work
 
 pub check_one : (files : List File) → DecideOne (check_stages files)
-check_one files = (files_one files, (accepts_one files, tt))
+check_one files = (set_one files, (accepts_one files, tt))
 
 pub run_one : (files : List File) (class input : List ℕ) (most : Thresholds) → DecideOne (run_stages files class input most)
 run_one files class input most = (files_one files, (straight_one files, (run_lines_one files class, (runs_one files class input most, tt))))

@@ -22,7 +22,7 @@ method_lines IsSuch path rule c =
     (λ v is. (is.method, is.own, (is.such, is.line)))
     (finite_among (IsLineOfMethod IsSuch path rule c) c.methods (λ m. finite_if (IsSuch c.pool m) (member_line path (member_text c.pool m) rule)))
 
-class_lines : (path : List ℕ) (c : ClassFile) → IsFinite (IsClassLine path c)
+pub class_lines : (path : List ℕ) (c : ClassFile) → IsFinite (IsClassLine path c)
 class_lines path c =
     let Version : Violation → Type 0 = λ v. HasOtherVersion c × (v ≡ file_line path 2) in
     let Name : Violation → Type 0 = λ v. (IsNamedAs path (this_name c) → ⊥) × (v ≡ file_line path 3) in

@@ -9,12 +9,18 @@ use Rattle.dj_report.specs.declared.report.Report.{Report}
 use Rattle.dj_report.specs.declared.report.Report.TheVariants as reports
 use Rattle.dj_report.specs.declared.report.Violation.{Violation}
 use Rattle.dj_rules.specs.Violations.{AreViolations}
+use Rattle.dj_check.specs.Rules.{AreEarlyViolations}
 use Rattle.dj_straight.specs.Program.{Program}
 use Rattle.dj_straight.specs.Metered.{RunsTo}
 use Rattle.dj_straight.specs.Straight.{IsStraightSet, IsNotStraight}
 use Rattle.dj_sandbox.specs.Entry.{entry_method, AreRunViolations}
 
--- no rule is violated that is judged of every set; or else the violations are told
+-- none of the rules 1 to 16 is violated; or else the violations are told
+abbrev pub JudgesSet : List File → Stage Report
+JudgesSet files (Some report) = (violations : List Violation) × (report ≡ reports.Rejected violations) × AreEarlyViolations files violations × (violations ≢ [])
+JudgesSet files None = AreEarlyViolations files []
+
+-- none of the rules is violated that are judged before a run; or else the violations are told
 abbrev pub JudgesFiles : List File → Stage Report
 JudgesFiles files (Some report) = (violations : List Violation) × (report ≡ reports.Rejected violations) × AreViolations files violations × (violations ≢ [])
 JudgesFiles files None = AreViolations files []
@@ -50,7 +56,7 @@ Runs files class input most None = ⊥
 
 -- how files are checked
 abbrev pub check_stages : List File → List (Stage Report)
-check_stages files = JudgesFiles files ∷ Accepts files ∷ []
+check_stages files = JudgesSet files ∷ Accepts files ∷ []
 
 -- how files are checked, and the class of this name is run on these bytes within the thresholds
 abbrev pub run_stages : List File → List ℕ → List ℕ → Thresholds → List (Stage Report)

@@ -6,8 +6,9 @@ ghost use Rattle.dj_sandbox.specs.Judging.{check_stages};
 ghost use Rattle.dj_sandbox.specs.Limits.{most_files};
 ghost use Rattle.dj_sandbox.specs.Statuses.{IsAmong, check_statuses};
 
+use dj_check::rules;
 use dj_report::{PathFile, Report};
-use dj_rules::{RulesError, rules};
+use dj_rules::RulesError;
 use std::alloc::Global;
 
 /// The report on class files, each under its path within the folder.

@@ -3,6 +3,5 @@ package shop;
 public interface Account {
     long balance();
 
-    default void close() {
-    }
+    void close();
 }

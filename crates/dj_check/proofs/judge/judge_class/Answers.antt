@@ -37,6 +37,9 @@ returns c =
         | inl m ↦ judged.0 m
         | inr f ↦ not_both c.in_ok-faulty.faulty (c.in_ok-faulty.ensures.1 f) c.if-faulty.false
       ],
-      own_lines path class x0 x1 x2 x3 c.in_ok-add_class_lines.ensures c.in_ok-add_naming_lines.ensures
-          (all_mark_lines texts path class marks0 marks x2 x3 c.in_ok-texts.ensures methods fields c.in_ok-add_mark_lines.ensures),
+      (
+        c.in_ok-good_file.ensures,
+        own_lines path class x0 x1 x2 x3 c.in_ok-add_class_lines.ensures c.in_ok-add_naming_lines.ensures
+            (all_mark_lines texts path class marks0 marks x2 x3 c.in_ok-texts.ensures methods fields c.in_ok-add_mark_lines.ensures),
+      ),
     )

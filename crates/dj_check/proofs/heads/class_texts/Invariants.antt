@@ -1,0 +1,7 @@
+use Rattle.std.proofs.Common.{take}
+use Rattle.dj_check.specs.Gathered.{AreClassTexts}
+use Rattle.dj_check.proofs.heads.class_texts.Given as goal
+
+-- those of the indexes so far
+abbrev pub invariant-loop-index : goal.invariant-loop-index
+invariant-loop-index l = AreClassTexts l.pool l.texts (take l.index-index l.indexes) l.firsts.items

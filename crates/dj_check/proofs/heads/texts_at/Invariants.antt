@@ -1,0 +1,7 @@
+use Rattle.std.proofs.Common.{take}
+use Rattle.dj_check.specs.Gathered.{texts_of, AreTextsAt}
+use Rattle.dj_check.proofs.heads.texts_at.Given as goal
+
+-- those of the indexes so far
+abbrev pub invariant-loop-index : goal.invariant-loop-index
+invariant-loop-index l = AreTextsAt l.pool (take l.index-index l.indexes) (texts_of l.names.items)

@@ -1,0 +1,38 @@
+ghost use Rattle.std.specs.Prelude.{IfOk};
+ghost use Rattle.dj_class.specs.ClassFile.{IsValid};
+ghost use Rattle.dj_class.specs.Views.{class_of};
+ghost use Rattle.dj_check.specs.Judged.{AreTexts};
+ghost use Rattle.dj_check.specs.Passes.{IsGoodPart};
+
+use crate::heads::class_head;
+use crate::judged::JudgedText;
+use crate::repeats::has_repeats;
+use dj_class::ClassView;
+use dj_hierarchy::ClassHead;
+use dj_rules::RulesError;
+use std::alloc::Global;
+
+/// What is kept of a class file where rule 1 isn't violated.
+#[derive(Drop)]
+pub struct GoodFile<'a> {
+    /// The head of its class.
+    pub head: ClassHead<'a>,
+    /// Whether two of its fields or two of its methods have one name and one descriptor.
+    pub repeats: bool,
+}
+
+/// What is kept of a class file.
+pub fn good_file<'a>(
+    alloc: Global,
+    view: &ClassView<'a>,
+    texts: &[JudgedText],
+) -> Result<GoodFile<'a>, RulesError>
+    requires texts { AreTexts view.now.pool texts.now }
+    requires valid { IsValid (class_of view.now) }
+    ensures { IfOk result (IsGoodPart (class_of view.now)) }
+{
+    Ok(GoodFile {
+        head: class_head(alloc, view, texts)?,
+        repeats: has_repeats(alloc, view, texts)?,
+    })
+}

@@ -1,0 +1,638 @@
+"""The cases of `djvm check FOLDER` on the rules that are asked of constants, members and code, 9 to 16, in tests/cases;
+make_cases.py makes their folders. rule_cases.py tells how they are written, and has the other rules.
+
+A method that a rule doesn't refuse is named `near` and so on.
+"""
+
+from class_files import (
+    ABSTRACT,
+    DOUBLE,
+    FIELD,
+    FLOAT,
+    INTEGER,
+    INTERFACE_METHOD,
+    LONG,
+    METHOD,
+    PUBLIC,
+    STATIC,
+    Pool,
+    class_entry,
+    class_file,
+    code,
+    invoke_dynamic,
+    method_handle,
+    method_type,
+    native,
+    row,
+    string,
+    text_entry,
+    u1,
+    u2,
+    u4,
+)
+from rule_cases import A_CLASS, AN_INTERFACE, FINAL, NOP, NULL, POP, RETURN, ZERO, case, method
+
+GETSTATIC, GETFIELD, INVOKEVIRTUAL, INVOKESTATIC, INVOKEINTERFACE, INVOKEDYNAMIC = 178, 180, 182, 184, 185, 186
+NEW, ANEWARRAY, CHECKCAST, INSTANCEOF, MULTIANEWARRAY, BREAKPOINT = 187, 189, 192, 193, 197, 202
+LDC, LDC_W, LDC2_W = 18, 19, 20
+
+
+def names(op, index, *more):
+    """An instruction with the index of a constant."""
+    if op == LDC:
+        return bytes([LDC, index])
+    return u1(op) + u2(index) + bytes(more)
+
+
+def casts(pool, *texts):
+    """For each text aconst_null, checkcast of the class with this text, and pop: the instructions 3 * n + 1 cast."""
+    return b"".join(NULL + names(CHECKCAST, pool.class_name(text)) + POP for text in texts)
+
+
+def one(name, pool, *methods, **more):
+    return {name: class_file(name, methods, pool=pool, **more)}
+
+
+# 9 DYNAMIC.
+
+pool = Pool()
+call = pool.add(invoke_dynamic(0, pool.name_and_type("call", "()V")))
+handle = pool.add(method_handle(6, pool.member(METHOD, "A", "near", "()V")))
+type_index = pool.add(method_type(pool.text("()V")))
+text = pool.string("x")
+case(
+    "09-dynamic",
+    one(
+        "A",
+        pool,
+        method("call", NOP, names(INVOKEDYNAMIC, call, 0, 0), NOP, names(INVOKEDYNAMIC, call, 0, 0), RETURN),
+        method("handle", names(LDC, handle), POP, names(LDC_W, handle), POP, RETURN),
+        method("type", names(LDC, type_index), POP, names(LDC_W, type_index), POP, RETURN),
+        method("near", names(LDC, text), POP, names(LDC_W, text), POP, RETURN),
+    ),
+    "A call()V 1 9",
+    "A call()V 3 9",
+    "A handle()V 0 9",
+    "A handle()V 2 9",
+    "A type()V 0 9",
+    "A type()V 2 9",
+)
+pool = Pool()
+for number in range(3):
+    pool.add(invoke_dynamic(number, pool.name_and_type("call", "()V")))
+pool.add(method_handle(6, pool.member(METHOD, "A", "m", "()V")))
+pool.add(method_type(pool.text("()V")))
+case("09-only-in-the-pool", one("A", pool, method("m", RETURN)))
+# Whatever constant invokedynamic names, or none.
+case(
+    "09-any-constant",
+    one("A", Pool(), *(method("m%d" % index, names(INVOKEDYNAMIC, index, 0, 0), RETURN) for index in (0, 1, 2, 999))),
+    *("A m%d()V 0 9" % index for index in (0, 1, 2, 999)),
+)
+
+# 10 REFLECTION.
+
+pool = Pool()
+some_class, array, of_class, text = (pool.class_name("A"), pool.class_name("[I"), pool.class_name("java/lang/Class"), pool.string("java/lang/Class"))
+case(
+    "10-class-constants",
+    one(
+        "A",
+        pool,
+        method("ldc", names(LDC, some_class), POP, names(LDC, array), POP, names(LDC, of_class), POP, RETURN),
+        method("ldc_w", names(LDC_W, some_class), POP, names(LDC_W, array), POP, RETURN),
+        method("near", names(LDC, text), POP, RETURN),
+    ),
+    *("A ldc()V %d 10" % number for number in (0, 2, 4)),
+    *("A ldc_w()V %d 10" % number for number in (0, 2)),
+)
+REFLECTIVE = ("java/lang/Class", "java/lang/ClassLoader", "java/lang/reflect/Method", "java/lang/reflect/a/B", "java/lang/invoke/MethodHandle")
+NEARLY = ("A", "Class", "java/lang/Classes", "java/lang/ClassLoaders", "java/lang/reflect", "java/lang/reflection/B", "java/lang/invoke")
+NEARLY += ("java/lang/invokes/A", "java/lang/class", "x/java/lang/Class", "java/lang/Class/A", "java/Class")
+pool = Pool()
+case(
+    "10-classes",
+    one(
+        "A",
+        pool,
+        method("all", casts(pool, *REFLECTIVE), RETURN),
+        method("arrays", casts(pool, *("[L%s;" % text for text in REFLECTIVE), "[[[[L%s;" % REFLECTIVE[0]), RETURN),
+        method("near", casts(pool, *NEARLY, *("[L%s;" % text for text in NEARLY), "[I", "[[J"), RETURN),
+    ),
+    *("A all()V %d 10" % (3 * place + 1) for place in range(5)),
+    *("A arrays()V %d 10" % (3 * place + 1) for place in range(6)),
+)
+pool = Pool()
+of_class = pool.class_name("java/lang/Class")
+members = [pool.member(tag, "java/lang/ClassLoader", "m", text) for tag, text in ((FIELD, "I"), (METHOD, "()V"), (INTERFACE_METHOD, "()V"))]
+case(
+    "10-instructions",
+    one(
+        "A",
+        pool,
+        method("new", names(NEW, of_class), POP, RETURN),
+        method("anewarray", ZERO, names(ANEWARRAY, of_class), POP, RETURN),
+        method("instanceof", NULL, names(INSTANCEOF, of_class), POP, RETURN),
+        method("get", names(GETSTATIC, members[0]), POP, NULL, names(GETFIELD, members[0]), POP, RETURN),
+        method("put", ZERO, names(179, members[0]), NULL, ZERO, names(181, members[0]), RETURN),
+        method("call", names(INVOKESTATIC, members[1]), NULL, names(INVOKEVIRTUAL, members[1]), NULL, names(183, members[1]), RETURN),
+        method("face", NULL, names(INVOKEINTERFACE, members[2], 1, 0), RETURN),
+        # Descriptors name classes too, and nobody uses them as such.
+        method("near", NULL, POP, RETURN, descriptor="(Ljava/lang/Class;)V"),
+    ),
+    "A new()V 0 10",
+    "A anewarray()V 1 10",
+    "A instanceof()V 1 10",
+    "A get()V 0 10",
+    "A get()V 3 10",
+    "A put()V 1 10",
+    "A put()V 4 10",
+    "A call()V 0 10",
+    "A call()V 2 10",
+    "A call()V 4 10",
+    "A face()V 1 10",
+)
+GET_CLASS = ("getClass", "()Ljava/lang/Class;")
+pool = Pool()
+getters = [pool.member(METHOD, text, *GET_CLASS) for text in ("java/lang/Object", "A", "x/Y", "[I")]
+getters.append(pool.member(INTERFACE_METHOD, "I", *GET_CLASS))
+near = [pool.member(METHOD, "A", *texts) for texts in (("getClass", "()V"), ("getclass", GET_CLASS[1]), ("getClass", "(I)Ljava/lang/Class;"))]
+near.append(pool.member(FIELD, "A", "getClass", "Ljava/lang/Class;"))
+case(
+    "10-get-class",
+    {
+        **one(
+            "A",
+            pool,
+            *(method("m%d" % place, NULL, names(INVOKEVIRTUAL, index), POP, RETURN) for place, index in enumerate(getters)),
+            method("static", names(INVOKESTATIC, getters[1]), POP, RETURN),
+            method("near0", NULL, names(INVOKEVIRTUAL, near[0]), RETURN),
+            method("near1", NULL, names(INVOKEVIRTUAL, near[1]), POP, RETURN),
+            method("near2", NULL, ZERO, names(INVOKEVIRTUAL, near[2]), POP, RETURN),
+            method("near3", names(GETSTATIC, near[3]), POP, RETURN),
+        ),
+        # One that declares it violates nothing.
+        "B": class_file("B", [method("getClass", NULL, b"\xb0", descriptor=GET_CLASS[1])]),
+    },
+    *("A m%d()V 1 10" % place for place in range(5)),
+    "A static()V 0 10",
+)
+pool = Pool()
+of_class, getter = pool.class_name("java/lang/Class"), pool.member(METHOD, "A", *GET_CLASS)
+text = pool.text("java/lang/Class")
+case(
+    "10-any-constant",
+    # The class and the member are those of the constant, whatever the instruction asks of it. A text alone names no class.
+    one(
+        "A",
+        pool,
+        method("getfield", NULL, names(GETFIELD, of_class), POP, RETURN),
+        method("ldc2_w", names(LDC2_W, of_class), POP, RETURN),
+        method("new", names(NEW, getter), POP, RETURN),
+        method("ldc", names(LDC, getter), POP, RETURN),
+        method("near", names(NEW, text), POP, names(LDC, text), POP, RETURN),
+    ),
+    "A getfield()V 1 10",
+    "A ldc2_w()V 0 10",
+    "A new()V 0 10",
+    "A ldc()V 0 10",
+)
+
+# 11 CATCH.
+
+ERRORS = ["java/lang/" + text for text in ("ThreadDeath", "VirtualMachineError", "StackOverflowError", "OutOfMemoryError")]
+NO_ERRORS = ["java/lang/Error", "java/lang/Throwable", "java/lang/StackOverflow", "java/lang/ThreadDeaths", "StackOverflowError"]
+NO_ERRORS += ["java/util/OutOfMemoryError", "java/lang/InternalError", "[Ljava/lang/ThreadDeath;", "java/lang/stackoverflowerror"]
+TRY = NOP + RETURN + POP + RETURN  # its handler begins at 2
+
+
+def catching(name, *catch_types):
+    return method(name, TRY, handlers=[(0, 1, 2, index) for index in catch_types])
+
+
+pool = Pool()
+case(
+    "11-errors",
+    one(
+        "A",
+        pool,
+        *(catching("m%d" % place, pool.class_name(text)) for place, text in enumerate(ERRORS)),
+        catching("near", *map(pool.class_name, NO_ERRORS), 0),
+    ),
+    *("A m%d()V 2 11" % place for place in range(4)),
+)
+pool = Pool()
+indexes = [pool.class_name(text) for text in ERRORS]
+case(
+    "11-handlers",
+    one(
+        "A",
+        pool,
+        catching("one", *indexes),
+        # The handlers begin at the instructions 3, 5 and 0; they stand at other bytes.
+        method(
+            "several",
+            *(b"\x11\0\0", POP, RETURN, POP, RETURN, POP, RETURN),
+            handlers=[(0, 3, 5, indexes[0]), (0, 3, 7, indexes[1]), (3, 4, 0, indexes[2]), (0, 4, 5, 0)],
+        ),
+        # The same entry elsewhere is no handler.
+        method("near", NULL, names(CHECKCAST, indexes[0]), POP, RETURN),
+    ),
+    "A one()V 2 11",
+    "A several()V 0 11",
+    "A several()V 3 11",
+    "A several()V 5 11",
+)
+pool = Pool()
+member = pool.member(METHOD, ERRORS[0], "m", "()V")
+case(
+    "11-only-of-a-class-constant",
+    one("A", pool, *(catching("m%d" % place, index) for place, index in enumerate((pool.text(ERRORS[0]), pool.string(ERRORS[0]), member, 999)))),
+)
+
+# 12 FLOAT: constants.
+
+
+def with_constant(name, make):
+    pool = Pool()
+    make(pool)
+    return one(name, pool)
+
+
+CONSTANTS = {
+    "Float": lambda pool: pool.add(FLOAT),
+    "Double": lambda pool: pool.add(DOUBLE),
+    "Name": lambda pool: pool.name_and_type("f", "F"),
+    "Arrays": lambda pool: pool.name_and_type("f", "[[D"),
+    "Method": lambda pool: pool.member(METHOD, "A", "m", "(IF)V"),
+    "Result": lambda pool: pool.member(INTERFACE_METHOD, "A", "m", "()D"),
+    "Field": lambda pool: pool.member(FIELD, "A", "f", "D"),
+    "Behind": lambda pool: pool.name_and_type("m", "(LF;[Ljava/lang/D;JF)V"),
+    "Type": lambda pool: pool.add(method_type(pool.text("(D)V"))),
+    "TypeArray": lambda pool: pool.add(method_type(pool.text("()[F"))),
+    "Class": lambda pool: pool.class_name("[F"),
+    "ClassArrays": lambda pool: pool.class_name("[[[D"),
+}
+NEAR_CONSTANTS = {
+    "NoText": lambda pool: [pool.text(text) for text in ("F", "[D", "(F)D", "FLOAT")],
+    "NoString": lambda pool: [pool.string(text) for text in ("F", "[D")],
+    "NoClass": lambda pool: [pool.class_name(text) for text in ("F", "D", "a/F", "D/D", "[LF;", "[[La/D;", "[I", "[J")],
+    "NoNames": lambda pool: [pool.name_and_type(name, text) for name, text in (("F", "I"), ("D", "()V"), ("f", "LF;"), ("m", "(LD;[LF/D;)LFD;"))],
+    "NoTypes": lambda pool: pool.add(method_type(pool.text("(LF;)[LD;"))),
+    "NoNumbers": lambda pool: [pool.add(INTEGER), pool.add(LONG)],
+}
+files = {}
+for name, make in {**CONSTANTS, **NEAR_CONSTANTS}.items():
+    files |= with_constant(name, make)
+case("12-constants", files, *("%s 12" % name for name in CONSTANTS))
+pool = Pool()
+for entry in (FLOAT, DOUBLE, FLOAT, DOUBLE):
+    pool.add(entry)
+case("12-one-line-of-a-class", one("A", pool), "A 12")
+
+# 12 FLOAT: members.
+
+FLOATS = ("F", "D", "[F", "[[[D")
+NO_FLOATS = ("I", "LF;", "LD;", "[LF;", "[[La/D/F;", "[J")
+PARAMETERS = ("(F)V", "(D)V", "([F)V", "(I[[DLD;)V", "(LF;JD)V", "()F", "()[[D", "(ID)F")
+NO_PARAMETERS = ("()V", "(LF;)V", "([LD;I)LF;", "(Ljava/lang/Double;)Ljava/lang/Float;")
+case(
+    "12-members",
+    {
+        "A": class_file(
+            "A",
+            [("m%d" % place, text) for place, text in enumerate(PARAMETERS)] + [("F", text) for text in NO_PARAMETERS],
+            [("f%d" % place, text) for place, text in enumerate(FLOATS)] + [("D%d" % place, text) for place, text in enumerate(NO_FLOATS)],
+            flags=A_CLASS | ABSTRACT,
+        ),
+        "B": class_file("B", [native("n", "(F)V"), ("finalize", "()D", PUBLIC, [code(b"\x0e\xaf", 2)])]),
+    },
+    *("A f%d%s 12" % (place, text) for place, text in enumerate(FLOATS)),
+    *("A m%d%s 12" % (place, text) for place, text in enumerate(PARAMETERS)),
+    "B finalize()D 0 12",
+    "B finalize()D 1 12",
+    "B finalize()D 12",
+    "B n(F)V 7",
+    "B n(F)V 12",
+)
+
+# 12 FLOAT: stack maps. The code is nop, nop, return.
+
+GOOD_MAPS = {
+    "same": "0001 01",
+    "append": "0001 fc0001 01",
+    "stack1": "0001 41 01",
+    "full": "0001 ff0001 0003 00 01 04 0002 05 07ffff",
+    "none": "0000",
+    # The number 2 or 3 stands elsewhere.
+    "two-of-three": "0002 00 01",
+    "chop": "0001 f90000",
+    "index": "0001 fc0000 070203",
+}
+FLOAT_MAPS = {
+    "stack1-float": "0001 41 02",
+    "stack1-double": "0001 40 03",
+    "stack1-extended": "0001 f70001 02",
+    "append-third": "0001 fe0000 01 00 03",
+    "full-locals": "0001 ff0000 0002 05 02 0000",
+    "full-stack": "0001 ff0000 0000 0002 01 03",
+    "second-frame": "0002 01 fc0000 02",
+}
+BAD_MAPS = {
+    "cut": "0002 41 02",
+    "cut-type": "0001 41",
+    "byte-more": "0001 41 02 00",
+    "reserved": "0002 41 02 80",
+    "type-9": "0002 40 02 fd0000 02 09",
+    "at-the-end": "0002 40 02 02",
+    "past": "0002 40 02 3f",
+    "uninitialized-past": "0001 fd0000 02 080003",
+    "empty": "",
+}
+
+
+def with_map(name, text):
+    body = bytes.fromhex(text)
+    return method(name, NOP, NOP, RETURN, listed=row(1, 1) + u4(len(body)) + body)
+
+
+def with_all_maps(name, maps):
+    pool = Pool()
+    assert pool.text("StackMapTable") == 1
+    return one(name, pool, *(with_map(*each) for each in maps.items()))
+
+
+# The set has a malformed file, so that nothing is asked of shapes.
+case(
+    "12-stack-maps",
+    with_all_maps("A", GOOD_MAPS) | with_all_maps("B", FLOAT_MAPS) | with_all_maps("C", BAD_MAPS) | {"D": b""},
+    *("B %s()V 12" % name for name in FLOAT_MAPS),
+    "D 1",
+)
+pool = Pool()
+other = pool.text("StackMap")
+body = bytes.fromhex("0001 4102")
+case(
+    "12-no-stack-map",
+    one(
+        "A",
+        pool,
+        method("m", NOP, NOP, RETURN, listed=row(1, other) + u4(len(body)) + body),
+        ("n", "()V", PUBLIC | STATIC, [code(RETURN), ("StackMapTable", body)]),
+        listed=[("StackMapTable", body)],
+    ),
+)
+
+# 12 FLOAT: instructions. Each method has one instruction and a return; it is named for the opcode.
+
+OF_FLOATS = "fconst_0 fconst_1 fconst_2 dconst_0 dconst_1 fload dload fload_0 fload_1 fload_2 fload_3 dload_0 dload_1 dload_2 dload_3 faload daload"
+OF_FLOATS += " fstore dstore fstore_0 fstore_1 fstore_2 fstore_3 dstore_0 dstore_1 dstore_2 dstore_3 fastore dastore fadd dadd fsub dsub fmul dmul"
+OF_FLOATS += " fdiv ddiv frem drem fneg dneg i2f i2d l2f l2d f2i f2l f2d d2i d2l d2f fcmpl fcmpg dcmpl dcmpg freturn dreturn"
+OPCODES = [11, 12, 13, 14, 15, 23, 24, 34, 35, 36, 37, 38, 39, 40, 41, 48, 49, 56, 57, 67, 68, 69, 70, 71, 72, 73, 74, 81, 82]
+OPCODES += [98, 99, 102, 103, 106, 107, 110, 111, 114, 115, 118, 119, 134, 135, 137, 138, 139, 140, 141, 142, 143, 144]
+OPCODES += [149, 150, 151, 152, 174, 175]
+OF_FLOATS = dict(zip(OF_FLOATS.split(), OPCODES, strict=True))
+WITH_SLOT = ("fload", "dload", "fstore", "dstore")
+case(
+    "12-instructions",
+    {
+        "A": class_file("A", [method(name, NOP, u1(op), b"\1" * (name in WITH_SLOT), RETURN) for name, op in OF_FLOATS.items()]),
+        "B": class_file("B", [method(name, b"\xc4", u1(OF_FLOATS[name]), row(1), RETURN) for name in WITH_SLOT]),
+    },
+    *("A %s()V 1 12" % name for name in OF_FLOATS),
+    *("B %s()V 0 12" % name for name in WITH_SLOT),
+)
+OTHERS = [op for op in range(202) if op not in (*OPCODES, *range(16, 26), *range(54, 59), 132, *range(153, 172), *range(178, 190), *range(192, 202))]
+case(
+    "12-other-instructions",
+    {"A": class_file("A", [method("op%d" % op, u1(op), RETURN) for op in (*OTHERS, 194, 195)]), "B": b""},
+    "B 1",
+)
+pool = Pool()
+integer, float_index, long, double, text = pool.add(INTEGER), pool.add(FLOAT), pool.add(LONG), pool.add(DOUBLE), pool.string("F")
+case(
+    "12-loads-of-constants",
+    one(
+        "A",
+        pool,
+        method("ldc", names(LDC, integer), POP, names(LDC, float_index), POP, names(LDC, text), POP, names(LDC, double), RETURN),
+        method("ldc_w", names(LDC_W, integer), POP, names(LDC_W, float_index), POP, names(LDC_W, double), RETURN),
+        method("ldc2_w", names(LDC2_W, long), names(LDC2_W, double), names(LDC2_W, float_index), RETURN),
+        method("near", names(LDC, integer), POP, names(LDC2_W, long), b"\x58", RETURN),
+    ),
+    "A 12",
+    "A ldc()V 2 12",
+    "A ldc()V 6 12",
+    "A ldc_w()V 2 12",
+    "A ldc_w()V 4 12",
+    "A ldc2_w()V 1 12",
+    "A ldc2_w()V 2 12",
+)
+case(
+    "12-newarray",
+    one("A", Pool(), *(method("m%d" % base, ZERO, b"\xbc", u1(base), POP, RETURN) for base in range(4, 12))),
+    "A m6()V 1 12",
+    "A m7()V 1 12",
+)
+pool = Pool()
+class_of_floats, field = pool.class_name("[F"), pool.member(FIELD, "A", "f", "D")
+case(
+    # The class and the field violate the rule, once; the instructions that name them don't.
+    "12-not-by-the-operand",
+    one("A", pool, method("m", NULL, names(CHECKCAST, class_of_floats), POP, RETURN), fields=[("f", "D")]),
+    "A 12",
+    "A fD 12",
+)
+
+# 13 SUBROUTINE, 14 BREAKPOINT, 15 MULTI_ARRAY.
+
+case(
+    "13-subroutines",
+    one(
+        "A",
+        Pool(),
+        method("jsr", NOP, b"\xa8\0\3", RETURN),
+        method("jsr_w", b"\xc9\0\0\0\5", RETURN),
+        method("ret", NOP, NOP, b"\xa9\1"),
+        method("wide_ret", b"\xc4\xa9\1\0"),
+        method("all", b"\xa8\0\4", RETURN, b"\x3a\1", b"\xa9\1"),
+        # Their opcodes as operands.
+        method("near", b"\x10\xa8", POP, b"\x11\xa9\xc9", POP, RETURN),
+    ),
+    "A jsr()V 1 13",
+    "A jsr_w()V 0 13",
+    "A ret()V 2 13",
+    "A wide_ret()V 0 13",
+    "A all()V 0 13",
+    "A all()V 3 13",
+)
+case(
+    "14-breakpoints",
+    one("A", Pool(), method("m", b"\xca", NOP, b"\xca", RETURN, b"\xca"), method("near", b"\x10\xca", POP, RETURN)),
+    *("A m()V %d 14" % number for number in (0, 2, 4)),
+)
+pool = Pool()
+arrays = [pool.class_name(text) for text in ("[[I", "[[[LA;", "A", "[[F", "[[Ljava/lang/Class;")]
+case(
+    "15-arrays-of-arrays",
+    one(
+        "A",
+        pool,
+        *(method("m%d" % place, ZERO, ZERO, names(MULTIANEWARRAY, index, 2), POP, RETURN) for place, index in enumerate(arrays)),
+        method("past", ZERO, names(MULTIANEWARRAY, 999, 1), POP, RETURN),
+        # An array of arrays, made one by one.
+        method("near", ZERO, names(ANEWARRAY, pool.class_name("[I")), POP, RETURN),
+    ),
+    "A 12",
+    *("A m%d()V 2 15" % place for place in range(5)),
+    "A m4()V 2 10",
+    "A past()V 1 15",
+)
+
+# 16 INTERFACE_CODE.
+
+INIT = ("<clinit>", "()V", STATIC, [code(RETURN)])
+case(
+    "16-interfaces",
+    {
+        "I": class_file("I", [method("m", RETURN), ("n", "()V", PUBLIC, [code(RETURN)]), ("o", "()V", PUBLIC | ABSTRACT), INIT], flags=AN_INTERFACE),
+        "J": class_file("J", [("m", "()V", 2, [code(RETURN)]), ("<init>", "()V", 1, [code(RETURN)]), native("p")], flags=AN_INTERFACE),
+        "K": class_file("K", [INIT, ("<clinit>", "(I)V", STATIC, [code(RETURN)])], flags=AN_INTERFACE),
+        "A": class_file("A", [method("m", RETURN)], flags=A_CLASS | ABSTRACT, interfaces=["I"]),
+    },
+    "I m()V 16",
+    "I n()V 16",
+    "J <init>()V 16",
+    "J m()V 16",
+    "J p()V 7",
+)
+
+# What stands together: an instruction with several lines, a handler and its first instruction, lines of two methods of one text.
+
+pool = Pool()
+of_class, death = pool.class_name("java/lang/Class"), pool.class_name(ERRORS[0])
+handle = pool.add(method_handle(6, pool.member(METHOD, "A", *GET_CLASS)))
+case(
+    "several-at-one-instruction",
+    one(
+        "A",
+        pool,
+        # One line of 10, though it is a class and of reflection.
+        method("one", names(LDC, of_class), POP, RETURN),
+        method("two", ZERO, names(MULTIANEWARRAY, of_class, 1), POP, RETURN),
+        method("handler", NOP, RETURN, names(NEW, of_class), POP, RETURN, handlers=[(0, 1, 2, death), (1, 2, 2, death)]),
+        method("float", NOP, RETURN, b"\x43", RETURN, handlers=[(0, 1, 2, death)]),
+        method("handle", names(LDC, handle), POP, RETURN),
+    ),
+    "A one()V 0 10",
+    "A two()V 1 10",
+    "A two()V 1 15",
+    "A handler()V 2 10",
+    "A handler()V 2 11",
+    "A float()V 2 11",
+    "A float()V 2 12",
+    "A handle()V 0 9",
+)
+case(
+    "equal-lines-of-instructions",
+    one("A", Pool(), method("f", b"\xca\xb1", descriptor="()LA(I)LB;"), method("f()LA", b"\xca\xca\xb1", descriptor="(I)LB;"), method("g", b"\xca\xb1")),
+    "A f()LA(I)LB; 0 14",
+    "A f()LA(I)LB; 1 14",
+    "A g()V 0 14",
+)
+case(
+    "order-of-numbers",
+    one("A", Pool(), method("m", *[b"\xca"] * 12, RETURN), method("l", b"\x0b\xca", RETURN, flags=PUBLIC | 8, descriptor="(F)V"), major=53),
+    "A 2",
+    "A l(F)V 12",
+    "A l(F)V 0 12",
+    "A l(F)V 1 14",
+    *("A m()V %d 14" % number for number in range(12)),
+)
+
+# A class of code of many kinds, which tests/special changes byte by byte.
+
+
+def rich_class():
+    pool = Pool()
+    map_name = pool.text("StackMapTable")
+    death, throwable = pool.class_name(ERRORS[0]), pool.class_name("java/lang/Throwable")
+    call = pool.add(invoke_dynamic(0, pool.name_and_type("call", "()V")))
+    handle, getter = pool.add(method_handle(6, pool.member(METHOD, "Rich", "m", "()V"))), pool.member(METHOD, "Rich", *GET_CLASS)
+    matrix, number, text = pool.class_name("[[I"), pool.add(LONG), pool.string("x")
+    switches = [
+        *(ZERO, NOP, b"\xaa\0", u4(14 + 8), u4(1), u4(2), u4(22), u4(2**32 - 2)),  # tableswitch, at 2
+        *(ZERO, NOP, NOP, b"\xab", u4(25), u4(2), u4(3), u4(25), u4(4), u4(2**32 - 27)),  # lookupswitch, at 27
+        *(b"\xc4\x84\0\1\0\1", b"\xc4\x15\0\1", b"\x99\0\3", b"\xc8\0\0\0\5", RETURN),
+    ]
+    frames = u2(3) + b"\x18" + b"\x5b\x01" + b"\xff\0\x0c\0\2\1\4\0\1\7" + u2(throwable)
+    operands = [
+        *(names(INVOKEDYNAMIC, call, 0, 0), names(LDC, handle), NULL, names(INVOKEVIRTUAL, getter), names(LDC2_W, number), names(LDC_W, text)),
+        *(names(MULTIANEWARRAY, matrix, 2), b"\xbc\x08", names(NEW, throwable), b"\xca", b"\xa8\0\3", b"\xa9\1", RETURN),
+    ]
+    methods = [
+        method("m", *switches, listed=row(1, map_name) + u4(len(frames)) + frames),
+        method("n", *operands, handlers=[(0, 5, 7, death), (5, 7, 8, throwable), (0, 8, 8, 0)]),
+        ("finalize", "()V", PUBLIC | ABSTRACT),
+        native("o", "(J[I)V"),
+    ]
+    constants = [(name, text, STATIC, [("ConstantValue", u2(index))]) for name, text, index in (("l", "J", number), ("s", "Ljava/lang/String;", text))]
+    return class_file("Rich", methods, constants, ["java/lang/Runnable"], pool=pool, flags=A_CLASS | ABSTRACT)
+
+
+case(
+    "rich",
+    {"Rich": rich_class()},
+    "Rich finalize()V 8",
+    "Rich n()V 0 9",
+    "Rich n()V 1 9",
+    "Rich n()V 2 11",
+    "Rich n()V 3 10",
+    "Rich n()V 6 15",
+    "Rich n()V 9 14",
+    "Rich n()V 10 13",
+    "Rich n()V 11 13",
+    "Rich o(J[I)V 7",
+)
+
+# A set in which each rule is violated.
+
+pool = Pool()
+call, of_class, death = pool.add(invoke_dynamic(0, pool.name_and_type("call", "()V"))), pool.class_name("java/lang/Class"), pool.class_name(ERRORS[2])
+everything = [
+    method("m", names(INVOKEDYNAMIC, call, 0, 0), names(NEW, of_class), b"\xca", b"\xa9\1", handlers=[(0, 5, 8, death)]),
+    method("n", b"\x0b", ZERO, names(MULTIANEWARRAY, of_class, 1), RETURN),
+    ("finalize", "()V", PUBLIC, [code(RETURN)]),
+    native("o"),
+]
+case(
+    "all-of-1-to-16",
+    {
+        "A": b"\xca\xfe\xba\xbe",
+        "B": class_file("java/B", everything, [("f", "D")], pool=pool, major=49, super_name=None, flags=AN_INTERFACE | FINAL),
+        "C": class_file("C"),
+        "c": class_file("C"),
+    },
+    "A 1",
+    "B 2",
+    "B 3",
+    "B 4",
+    "B 6",
+    "B fD 12",
+    "B finalize()V 8",
+    "B finalize()V 16",
+    "B m()V 16",
+    "B m()V 0 9",
+    "B m()V 1 10",
+    "B m()V 2 11",
+    "B m()V 2 14",
+    "B m()V 3 13",
+    "B n()V 16",
+    "B n()V 0 12",
+    "B n()V 2 10",
+    "B n()V 2 15",
+    "B o()V 7",
+    "C 5",
+    "c 3",
+    "c 5",
+)
