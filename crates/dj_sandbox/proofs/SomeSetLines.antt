@@ -71,17 +71,17 @@ rule_either line_of P Q p q =
 
 instr_lines : (line_of : ℕ → Violation) (pool : List Constant) (instr : Instr) → IsFinite (RuleLine line_of (InstrViolates pool instr))
 instr_lines line_of pool instr =
-    let R9 : ℕ → Type 0 = λ r. IsDynamic pool instr × (r ≡ 9) in
-    let R10 : ℕ → Type 0 = λ r. IsReflection pool instr × (r ≡ 10) in
-    let R12 : ℕ → Type 0 = λ r. IsFloat pool instr × (r ≡ 12) in
-    let R13 : ℕ → Type 0 = λ r. IsSubroutine pool instr × (r ≡ 13) in
-    let R14 : ℕ → Type 0 = λ r. IsBreakpoint pool instr × (r ≡ 14) in
-    let R15 : ℕ → Type 0 = λ r. IsMultiArray pool instr × (r ≡ 15) in
-    rule_either line_of R9 (λ r. R10 r ⊎ (R12 r ⊎ (R13 r ⊎ (R14 r ⊎ R15 r)))) (rule_if line_of (IsDynamic pool instr) 9)
-    (rule_either line_of R10 (λ r. R12 r ⊎ (R13 r ⊎ (R14 r ⊎ R15 r))) (rule_if line_of (IsReflection pool instr) 10)
-    (rule_either line_of R12 (λ r. R13 r ⊎ (R14 r ⊎ R15 r)) (rule_if line_of (IsFloat pool instr) 12)
-    (rule_either line_of R13 (λ r. R14 r ⊎ R15 r) (rule_if line_of (IsSubroutine pool instr) 13)
-    (rule_either line_of R14 R15 (rule_if line_of (IsBreakpoint pool instr) 14) (rule_if line_of (IsMultiArray pool instr) 15)))))
+    let Dynamics : ℕ → Type 0 = λ r. IsDynamic pool instr × (r ≡ 9) in
+    let Reflections : ℕ → Type 0 = λ r. IsReflection pool instr × (r ≡ 10) in
+    let Floats : ℕ → Type 0 = λ r. IsFloat pool instr × (r ≡ 12) in
+    let Subroutines : ℕ → Type 0 = λ r. IsSubroutine pool instr × (r ≡ 13) in
+    let Breakpoints : ℕ → Type 0 = λ r. IsBreakpoint pool instr × (r ≡ 14) in
+    let Arrays : ℕ → Type 0 = λ r. IsMultiArray pool instr × (r ≡ 15) in
+    rule_either line_of Dynamics (λ r. Reflections r ⊎ (Floats r ⊎ (Subroutines r ⊎ (Breakpoints r ⊎ Arrays r)))) (rule_if line_of (IsDynamic pool instr) 9)
+    (rule_either line_of Reflections (λ r. Floats r ⊎ (Subroutines r ⊎ (Breakpoints r ⊎ Arrays r))) (rule_if line_of (IsReflection pool instr) 10)
+    (rule_either line_of Floats (λ r. Subroutines r ⊎ (Breakpoints r ⊎ Arrays r)) (rule_if line_of (IsFloat pool instr) 12)
+    (rule_either line_of Subroutines (λ r. Breakpoints r ⊎ Arrays r) (rule_if line_of (IsSubroutine pool instr) 13)
+    (rule_either line_of Breakpoints Arrays (rule_if line_of (IsBreakpoint pool instr) 14) (rule_if line_of (IsMultiArray pool instr) 15)))))
 
 -- ---- lines of code
 
