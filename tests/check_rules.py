@@ -1,4 +1,5 @@
-"""The rules 1 to 16, by which `djvm check` judges a set of class files; part of the reference implementation, reference.py.
+"""The rules 1 to 16, by which `djvm check` judges a set of class files; part of the reference implementation, reference.py. Those
+of what instructions name, 17 and 18, stand in link_rules.py.
 
 They were written from the description of the rules and from the JVM Specification SE 8, chapters 4 and 6, and share nothing
 with the program. A line is a path, a member (empty for none), an instruction's number (-1 for none), and a rule's number.
@@ -43,6 +44,8 @@ RULES = {
     14: "BREAKPOINT",
     15: "MULTI_ARRAY",
     16: "INTERFACE_CODE",
+    17: "WHITELIST",
+    18: "UNRESOLVED",
 }
 
 # Flags of classes and methods (JVMS tables 4.1-B and 4.6-A).
@@ -50,12 +53,12 @@ FINAL, IS_NATIVE, INTERFACE, ABSTRACT = 0x0010, 0x0100, 0x0200, 0x0400
 
 
 def lines(files):
-    """The lines of a set: pairs of a path and the bytes of a file."""
+    """The lines of a set, whose files are pairs of a path and bytes; and the paths with the class files that violate no rule 1."""
     read = [(path, good_class(data)) for path, data in files]
     good = [(path, view) for path, view in read if view is not None]
     found = {(path, b"", -1, 1) for path, view in read if view is None}
     found = found.union(*(lines_of_file(path, view) for path, view in good))
-    return found | duplicates(good) | hierarchy(good)
+    return found | duplicates(good) | hierarchy(good), good
 
 
 def good_class(data):
@@ -350,7 +353,7 @@ def rules_of_instruction(pool, one):
     is_short_load = one.op in (LDC, LDC_W)
     if one.op == INVOKEDYNAMIC or is_short_load and tag in (METHOD_HANDLE, METHOD_TYPE):
         yield 9
-    if is_short_load and tag == CLASS or is_reflective(pool, entry):
+    if is_short_load and tag == CLASS or is_reflective(pool, entry, has_member=one.op != INVOKEDYNAMIC):
         yield 10
     if one.op in OF_FLOATS or one.base in (6, 7) or one.op in (LDC, LDC_W, LDC2_W) and tag in (FLOAT, DOUBLE):
         yield 12
@@ -362,7 +365,7 @@ def rules_of_instruction(pool, one):
         yield 15
 
 
-def is_reflective(pool, entry):
+def is_reflective(pool, entry, has_member):
     """Whether the class or the member that the constant names is of reflection."""
     tag, *parts = entry
     if tag == CLASS:
@@ -371,7 +374,7 @@ def is_reflective(pool, entry):
         return False
     _, name, descriptor = pool[parts[1]]
     member = pool[name][1], pool[descriptor][1]
-    return is_reflective_class(name_of_class(pool, parts[0])) or member == (b"getClass", b"()Ljava/lang/Class;")
+    return is_reflective_class(name_of_class(pool, parts[0])) or has_member and member == (b"getClass", b"()Ljava/lang/Class;")
 
 
 def is_reflective_class(text):
@@ -419,8 +422,10 @@ def duplicates(good):
 def hierarchy(good):
     """Rule 6. A name stands for all classes of the set and of the library that have it."""
     classes = {}
-    for name, flags, above in [*LIBRARY, *((view.this_class, view.flags, above_of(view)) for _, view in good)]:
-        classes.setdefault(name, []).append((flags, above))
+    for one in LIBRARY:
+        classes.setdefault(one.name, []).append((one.flags, above_of(one)))
+    for _, view in good:
+        classes.setdefault(view.this_class, []).append((view.flags, above_of(view)))
     return {(path, b"", -1, 6) for path, view in good if is_off_hierarchy(view, classes)}
 
 

@@ -121,6 +121,8 @@ case(
     ),
     *("A all()V %d 10" % (3 * place + 1) for place in range(5)),
     *("A arrays()V %d 10" % (3 * place + 1) for place in range(6)),
+    # Of the others A alone is there; all but the second and the tenth begin with java/.
+    *("A near()V %d %d" % (3 * place + 1, 18 if place % 12 in (1, 9) else 17) for place in range(24) if place % 12 != 0),
 )
 pool = Pool()
 of_class = pool.class_name("java/lang/Class")
@@ -176,6 +178,11 @@ case(
     },
     *("A m%d()V 1 10" % place for place in range(5)),
     "A static()V 0 10",
+    # A has no such members.
+    "A near0()V 1 18",
+    "A near1()V 1 18",
+    "A near2()V 2 18",
+    "A near3()V 0 18",
 )
 pool = Pool()
 of_class, getter = pool.class_name("java/lang/Class"), pool.member(METHOD, "A", *GET_CLASS)
@@ -191,11 +198,18 @@ case(
         method("new", names(NEW, getter), POP, RETURN),
         method("ldc", names(LDC, getter), POP, RETURN),
         method("near", names(NEW, text), POP, names(LDC, text), POP, RETURN),
+        # invokedynamic has the class of its constant, and no member.
+        method("dynamic", names(INVOKEDYNAMIC, getter, 0, 0), names(INVOKEDYNAMIC, of_class, 0, 0), RETURN),
     ),
+    "A dynamic()V 0 9",
+    "A dynamic()V 1 9",
+    "A dynamic()V 1 10",
     "A getfield()V 1 10",
     "A ldc2_w()V 0 10",
     "A new()V 0 10",
     "A ldc()V 0 10",
+    "A near()V 0 18",
+    "A near()V 2 18",
 )
 
 # 11 CATCH.
@@ -220,6 +234,8 @@ case(
         catching("near", *map(pool.class_name, NO_ERRORS), 0),
     ),
     *("A m%d()V 2 11" % place for place in range(4)),
+    "A near()V 2 17",
+    "A near()V 2 18",
 )
 pool = Pool()
 indexes = [pool.class_name(text) for text in ERRORS]
@@ -242,12 +258,17 @@ case(
     "A several()V 0 11",
     "A several()V 3 11",
     "A several()V 5 11",
+    "A near()V 1 17",
 )
 pool = Pool()
 member = pool.member(METHOD, ERRORS[0], "m", "()V")
 case(
     "11-only-of-a-class-constant",
     one("A", pool, *(catching("m%d" % place, index) for place, index in enumerate((pool.text(ERRORS[0]), pool.string(ERRORS[0]), member, 999)))),
+    "A m0()V 2 18",
+    "A m1()V 2 18",
+    "A m2()V 2 17",
+    "A m3()V 2 18",
 )
 
 # 12 FLOAT: constants.

@@ -2,10 +2,10 @@
 """Makes the folders of tests/cases anew.
 
 The class files come from class_files.py, the cases of `djvm verify` from verify_cases.py, those on constant pools from
-pool_cases.py, and those on the rules of `djvm check` from rule_cases.py and code_rule_cases.py. The expected output and
-status of each case are those of reference.py, a small reference implementation that was written from the description of
-the commands and not from the program. The cases on rules say by hand which lines they have, and nothing is made where
-reference.py tells others.
+pool_cases.py, and those on the rules of `djvm check` from rule_cases.py, code_rule_cases.py, link_rule_cases.py and
+resolution_cases.py. The expected output and status of each case are those of reference.py, a small reference implementation
+that was written from the description of the commands and not from the program. The cases on rules say by hand which lines
+they have, and nothing is made where reference.py tells others.
 
 A case is a folder with `files/`, in which the program is run, `words`, one a line (an empty line is an empty word),
 `stdout` and `status`. An empty `.keep` makes a folder exist; it is no class file.
@@ -19,8 +19,10 @@ import sys
 sys.dont_write_bytecode = True
 
 import check_rules
-import code_rule_cases  # It adds its cases to those of rule_cases.
+import code_rule_cases  # It adds its cases to those of rule_cases, as the next two and resolution_cases do.
+import link_rule_cases
 import pool_cases
+import resolution_cases
 import rule_cases
 import verify_cases
 from class_files import (

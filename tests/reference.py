@@ -8,7 +8,7 @@ program:
 
     DJVM=tests/reference.py tests/run
 
-Class files are read by class_reader.py, and the rules of `check` stand in check_rules.py.
+Class files are read by class_reader.py, and the rules of `check` stand in check_rules.py and link_rules.py.
 """
 
 import os
@@ -18,6 +18,7 @@ import sys
 sys.dont_write_bytecode = True
 
 import check_rules
+import link_rules
 from class_reader import UTF8, ClassFile, Malformed, Reader, units_of, utf16
 
 MOST_FILES = 4096
@@ -453,7 +454,7 @@ def number_of(options, name):
 def check(folder):
     folder = without_slash(folder)
     files = class_files(folder, listed(folder))
-    lines = check_rules.lines(files)
+    lines = link_rules.lines(files)
     if lines:
         return rejected(lines)
     return b"ACCEPTED %d\n" % len(files), 0

@@ -86,11 +86,12 @@ def assembled_rows(program, results):
 
 def assembled_and_run(program, results):
     with harness.scratch() as folder:
-        for name in ("Shares", "Doubled"):
+        for name in ("Shares", "Library", "Doubled"):
             with open(os.path.join(folder, name + ".class"), "wb") as made:
                 made.write(assembled(program, "examples/assembler/%s.asm" % name).stdout)
-        results.add("examples/assembler", ["check"], harness.difference(Outcome(0, b"ACCEPTED 2\n"), harness.run(program, ["check", folder], TOP)))
-        os.remove(os.path.join(folder, "Shares.class"))
+        results.add("examples/assembler", ["check"], harness.difference(Outcome(0, b"ACCEPTED 3\n"), harness.run(program, ["check", folder], TOP)))
+        for name in ("Shares", "Library"):
+            os.remove(os.path.join(folder, name + ".class"))
         words = ["verify", folder, "Doubled", "examples/straight/inputs/four"]
         wanted = Outcome(0, b"OK 2 040a\ncosts alloc 24 invoke 0 jump 0 throw 0\n")
         results.add("examples/assembler", ["verify"], harness.difference(wanted, harness.run(program, words, TOP)))

@@ -11,10 +11,10 @@ use Rattle.dj_class.specs.ClassFile.{AttributeInfo, MemberInfo, ClassFile}
 use Rattle.dj_check.specs.Opcodes.{is_float_op, is_float_base, is_short_literal, is_subroutine_jump}
 use Rattle.dj_check.specs.Floats.{IsFloating, HasFloat, IsFloatArray}
 use Rattle.dj_check.specs.Malformed.{LacksCode, HasNeedlessCode, FitsField, NamesValue}
-use Rattle.dj_check.specs.Classes.{IsReserved, IsReflective}
+use Rattle.dj_check.specs.Classes.{IsReserved, IsReflective, NamesGetClass}
 use Rattle.dj_check.specs.Code.{IsFloatType}
 use Rattle.dj_check.specs.Members.{IsFloatConstant, HasInterfaceCode}
-use Rattle.dj_check.specs.Instructions.{IsDynamic, IsReflection, IsFloat, IsSubroutine, IsBreakpoint, IsMultiArray}
+use Rattle.dj_check.specs.Instructions.{NamesSuchMember, IsDynamic, IsReflection, IsFloat, IsSubroutine, IsBreakpoint, IsMultiArray}
 use Rattle.dj_check.specs.Methods.{CatchesError}
 
 -- ---- a pool
@@ -91,6 +91,11 @@ reflection-ldc = inl (refl, tt)
 reflection-get-class : IsReflection pool (instrs.Member 182 8)
 unfolding pool
 reflection-get-class = inr (inr (refl, refl))
+
+-- invokedynamic names no member, even where its index is that of a method
+reflection-dynamic_not : NamesSuchMember NamesGetClass pool (instrs.Dynamic 8) → ⊥
+unfolding pool
+reflection-dynamic_not is = is
 
 -- ---- names
 

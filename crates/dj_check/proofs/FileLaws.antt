@@ -47,7 +47,7 @@ first_text pool texts index are = same_text pool texts index are _ (are.each ind
 names_text : (pool : List Constant) (texts : List JudgedText) (m : MemberInfo) → AreTexts pool texts → pair_text pool (names_in texts m) ≡ member_text pool m
 names_text pool texts m are = λ i. unwrap_or (first_text pool texts m.name are i) [] ++ unwrap_or (first_text pool texts m.desc are i) []
 
-member_lines : (texts : List JudgedText) (Violates : MemberInfo → Option ℕ → ℕ → Type 0) (members : List MemberInfo) (path : List ℕ) (c : ClassFile) → AreTexts c.pool texts → (v : Violation)
+pub member_lines : (texts : List JudgedText) (Violates : MemberInfo → Option ℕ → ℕ → Type 0) (members : List MemberInfo) (path : List ℕ) (c : ClassFile) → AreTexts c.pool texts → (v : Violation)
     → ((mark : Mark) × AreMarksOf texts Violates members mark × IsMarkLine path c.pool mark v) ↔ IsMemberLine Violates members path c v
 member_lines texts Violates members path c are v = (
   λ (mark, (m, own, (placed, such)), line).

@@ -18,7 +18,7 @@ use Rattle.dj_check.specs.declared.code.WholeCode.{WholeCode}
 use Rattle.dj_check.specs.declared.marks.Place.{Place}
 use Rattle.dj_check.specs.declared.marks.Mark.{Mark}
 use Rattle.dj_check.specs.Attributes.{is_named, bodies_of, codes_of, maps_of}
-use Rattle.dj_check.specs.Code.{IsCodeOf, IsFloatMap, HasFloatMap}
+use Rattle.dj_check.specs.Code.{IsCodeOf, IsLabelledOf, IsFloatMap, HasFloatMap}
 use Rattle.dj_check.specs.Floats.{NamesFloat}
 use Rattle.dj_check.specs.Members.{IsFloatMethod, IsInterfaceMethod}
 use Rattle.dj_check.specs.Methods.{CodeViolates, ViolatesWithin, MethodViolates}
@@ -69,17 +69,24 @@ own_info pool m code is info own =
 is_own : (pool : List Constant) (m : MemberInfo) (code : WholeCode) (is : IsWholeMethod pool m code) → IsCodeOf pool m is.whole.info
 is_own pool m code is = record { body = is.body; own = subst (λ (xs : List (List ℕ)). Contains xs is.body) (sym is.one) (0, omega arith, refl); is = is.whole.is }
 
+-- its labelled code is the one that is told
+pub one_labelled : (pool : List Constant) (m : MemberInfo) (code : WholeCode) (labelled : Labelled) → IsWholeMethod pool m code → IsLabelledOf pool m labelled → labelled ≡ code.labelled
+one_labelled pool m code labelled is own =
+    let info = own_info pool m code is own.code own.own in
+    let labels = subst (λ (i : CodeInfo). IsLabelled i.code i.table labelled) info own.labels in
+    one_labelling_is is.whole.info.code is.whole.info.table labelled code.labelled labels is.whole.whole.labels
+
+pub labelled_own : (pool : List Constant) (m : MemberInfo) (code : WholeCode) → IsWholeMethod pool m code → IsLabelledOf pool m code.labelled
+labelled_own pool m code is = record { code = is.whole.info; own = is_own pool m code is; labels = is.whole.whole.labels }
+
 within_whole : (pool : List Constant) (m : MemberInfo) (code : WholeCode) → IsWholeMethod pool m code → (number : Option ℕ) (rule : ℕ) → ViolatesWithin pool m number rule → CodeViolatesAt pool code.labelled number rule
 within_whole pool m code is number rule v =
-    let info = own_info pool m code is v.code.code v.code.own in
-    let labels = subst (λ (i : CodeInfo). IsLabelled i.code i.table v.labelled) info v.code.labels in
-    let same = one_labelling_is is.whole.info.code is.whole.info.table v.labelled code.labelled labels is.whole.whole.labels in
-    record { at = v.at; number_is = v.number_is; such = subst (λ (l : Labelled). CodeViolates pool l v.at rule) same v.such }
+    record { at = v.at; number_is = v.number_is; such = subst (λ (l : Labelled). CodeViolates pool l v.at rule) (one_labelled pool m code v.labelled is v.code) v.such }
 
 from_whole : (pool : List Constant) (m : MemberInfo) (code : WholeCode) → IsWholeMethod pool m code → (number : Option ℕ) (rule : ℕ) → CodeViolatesAt pool code.labelled number rule → ViolatesWithin pool m number rule
 from_whole pool m code is number rule v = record {
   labelled = code.labelled;
-  code = record { code = is.whole.info; own = is_own pool m code is; labels = is.whole.whole.labels };
+  code = labelled_own pool m code is;
   at = v.at;
   number_is = v.number_is;
   such = v.such;
@@ -152,7 +159,7 @@ method_marks c m names code float interface_code a b d is told_float told_interf
       ],
     )) (adds_both (MarksOf names (RuledWhole float interface_code)) (CodeMark names c.pool code.labelled) a b d whole within)
 
-no_code_of : (pool : List Constant) (m : MemberInfo) (info : CodeInfo) → codes_of pool m ≡ [] → IsCodeOf pool m info → ⊥
+pub no_code_of : (pool : List Constant) (m : MemberInfo) (info : CodeInfo) → codes_of pool m ≡ [] → IsCodeOf pool m info → ⊥
 no_code_of pool m info none own = contains_none own.body (subst (λ (xs : List (List ℕ)). Contains xs own.body) none own.own)
 
 pub bodiless_marks : (c : ClassFile) (m : MemberInfo) (names : ℕ × ℕ) (float : Bool) (a b : List Mark) → codes_of c.pool m ≡ []

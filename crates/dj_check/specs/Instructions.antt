@@ -18,9 +18,18 @@ index_of (instrs.Class op index) = Some index
 index_of (instrs.Multi index dims) = Some index
 index_of _ = None
 
+-- the same of those that name a field or a method by it: invokedynamic names none
+abbrev pub member_index_of : Instr → Option ℕ
+member_index_of (instrs.Dynamic index) = None
+member_index_of instr = index_of instr
+
 -- an instruction names a constant, whatever its tag is, and the constant is such
 abbrev pub NamesSuch : (List Constant → Constant → Type 0) → List Constant → Instr → Type 0
 NamesSuch IsSuch pool instr = IsSomeAnd (option_and_then (constant_at pool) (index_of instr)) (IsSuch pool)
+
+-- the same of the constant whose field or method it names
+abbrev pub NamesSuchMember : (List Constant → Constant → Type 0) → List Constant → Instr → Type 0
+NamesSuchMember IsSuch pool instr = IsSomeAnd (option_and_then (constant_at pool) (member_index_of instr)) (IsSuch pool)
 
 -- ldc or ldc_w of such a constant
 abbrev pub PushesSuch : (Constant → Type 0) → List Constant → Instr → Type 0
@@ -58,7 +67,7 @@ abbrev pub IsReflection : List Constant → Instr → Type 0
 IsReflection pool instr =
     PushesSuch IsClass pool instr
     ⊎ (NamesSuch NamesReflective pool instr
-    ⊎ NamesSuch NamesGetClass pool instr)
+    ⊎ NamesSuchMember NamesGetClass pool instr)
 
 -- rule 12: an opcode of floats or doubles, wide or not; newarray of them; ldc, ldc_w or ldc2_w of one
 abbrev pub IsFloat : List Constant → Instr → Type 0

@@ -28,7 +28,7 @@ IsFloatField pool f = NamesFloat pool f.desc
 abbrev pub IsFloatMethod : List Constant → MemberInfo → Type 0
 IsFloatMethod pool m = NamesFloat pool m.desc ⊎ HasFloatMap pool m
 
--- JVMS table 4.1-B: ACC_INTERFACE
+-- JVMS table 4.1-A: ACC_INTERFACE
 abbrev pub IsInterface : ClassFile → Type 0
 IsInterface c = IsBitSet c.flags access.interface
 

@@ -1,9 +1,10 @@
-ghost use Rattle.std.specs.Prelude.{◌≡◌, ◌↔◌, ◌⊎◌, IsTrue, IsSomeAnd};
+ghost use Rattle.std.specs.Prelude.{◌≡◌, ◌↔◌, ◌⊎◌, ℕ, IsTrue, IsSomeAnd};
 ghost use Rattle.dj_pool.specs.Pool.{constant_at};
 ghost use Rattle.dj_pool.specs.Views.{constant_of};
 ghost use Rattle.dj_check.specs.Classes.{IsGetClass, NamesGetClass, NamesReflective, class_text_index, names_at};
-ghost use Rattle.dj_check.specs.Instructions.{index_of, IsHandleOrType, IsClass, IsFloatNumber, NamesSuch, PushesSuch, IsDynamic, IsReflection, IsFloat, IsSubroutine, IsBreakpoint, IsMultiArray};
+ghost use Rattle.dj_check.specs.Instructions.{index_of, member_index_of, IsHandleOrType, IsClass, IsFloatNumber, NamesSuch, NamesSuchMember, PushesSuch, IsDynamic, IsReflection, IsFloat, IsSubroutine, IsBreakpoint, IsMultiArray};
 ghost use Rattle.dj_check.specs.Judged.{AreTexts};
+ghost use Rattle.dj_check.specs.Methods.{InstrViolates};
 
 use crate::judged::{JudgedText, text_in};
 use crate::opcodes::{is_float_base, is_float_op, is_short_literal, is_subroutine_jump};
@@ -22,6 +23,16 @@ fn index_of(instr: &Instr) -> Option<u16>
         Instr::Class { op: _, index } => Some(*index),
         Instr::Multi { index, dims: _ } => Some(*index),
         _ => None,
+    }
+}
+
+// The index of the constant whose field or method an instruction names.
+fn member_index_of(instr: &Instr) -> Option<u16>
+    ensures { result ≡ member_index_of instr.now }
+{
+    match instr {
+        Instr::Dynamic { index: _ } => None,
+        _ => index_of(instr),
     }
 }
 
@@ -76,16 +87,29 @@ fn names_get_class(pool: &Pool<'_>, entry: Entry<'_>) -> bool
     }
 }
 
-// Whether the constant that an instruction names is of reflection.
-fn names_reflection(pool: &Pool<'_>, texts: &[JudgedText], instr: &Instr) -> bool
+// Whether the class of the constant that an instruction names is of reflection.
+fn uses_reflective(pool: &Pool<'_>, texts: &[JudgedText], instr: &Instr) -> bool
     requires { AreTexts pool.now texts.now }
-    ensures { IsTrue result ↔ (NamesSuch NamesReflective pool.now instr.now ⊎ NamesSuch NamesGetClass pool.now instr.now) }
+    ensures { IsTrue result ↔ NamesSuch NamesReflective pool.now instr.now }
 {
     let Some(index) = index_of(instr) else {
         return false;
     };
     match pool.get(index) {
-        Some(entry) => names_reflective(pool, texts, entry) || names_get_class(pool, entry),
+        Some(entry) => names_reflective(pool, texts, entry),
+        None => false,
+    }
+}
+
+// Whether the member of the constant that an instruction names is getClass.
+fn uses_get_class(pool: &Pool<'_>, instr: &Instr) -> bool
+    ensures { IsTrue result ↔ NamesSuchMember NamesGetClass pool.now instr.now }
+{
+    let Some(index) = member_index_of(instr) else {
+        return false;
+    };
+    match pool.get(index) {
+        Some(entry) => names_get_class(pool, entry),
         None => false,
     }
 }
@@ -140,7 +164,7 @@ pub fn is_reflection(pool: &Pool<'_>, texts: &[JudgedText], instr: &Instr) -> bo
     requires { AreTexts pool.now texts.now }
     ensures { IsTrue result ↔ IsReflection pool.now instr.now }
 {
-    pushes_class(pool, instr) || names_reflection(pool, texts, instr)
+    pushes_class(pool, instr) || uses_reflective(pool, texts, instr) || uses_get_class(pool, instr)
 }
 
 /// Whether it is of the rule FLOAT.
@@ -190,4 +214,27 @@ pub fn is_multi_array(pool: &Pool<'_>, instr: &Instr) -> bool
     ensures { IsTrue result ↔ IsMultiArray pool.now instr.now }
 {
     matches!(instr, Instr::Multi { index: _, dims: _ })
+}
+
+// Whether it is of one of the rules on what instructions name or push.
+fn is_of_constants(pool: &Pool<'_>, texts: &[JudgedText], instr: &Instr) -> bool
+    requires { AreTexts pool.now texts.now }
+    ensures { IsTrue result ↔ (IsDynamic pool.now instr.now ⊎ (IsReflection pool.now instr.now ⊎ IsFloat pool.now instr.now)) }
+{
+    is_dynamic(pool, instr) || is_reflection(pool, texts, instr) || is_float(pool, instr)
+}
+
+// Whether it is of one of the other rules on instructions.
+fn is_of_opcodes(pool: &Pool<'_>, instr: &Instr) -> bool
+    ensures { IsTrue result ↔ (IsSubroutine pool.now instr.now ⊎ (IsBreakpoint pool.now instr.now ⊎ IsMultiArray pool.now instr.now)) }
+{
+    is_subroutine(pool, instr) || is_breakpoint(pool, instr) || is_multi_array(pool, instr)
+}
+
+/// Whether a rule on instructions is violated.
+pub fn violates_instr(pool: &Pool<'_>, texts: &[JudgedText], instr: &Instr) -> bool
+    requires { AreTexts pool.now texts.now }
+    ensures { IsTrue result ↔ ((rule : ℕ) × InstrViolates pool.now instr.now rule) }
+{
+    is_of_constants(pool, texts, instr) || is_of_opcodes(pool, instr)
 }

@@ -21,5 +21,12 @@ mod opcodes;
 mod passes;
 mod repeats;
 
+pub use code::{MethodCode, WholeCode, code_of_method};
 pub use dj_rules::RulesError;
 pub use files::rules;
+pub use instructions::violates_instr;
+pub use judged::{JudgedText, judge_texts};
+pub use lines::add_mark_lines;
+pub use marks::{Mark, Place, add_mark_if};
+pub use methods::names_of;
+pub use passes::catches_error;

@@ -81,7 +81,8 @@ fn is_uncatchable(name: &[u8]) -> bool
         || name == b"java/lang/OutOfMemoryError".as_slice()
 }
 
-fn catches_error(pool: &Pool<'_>, catch_type: u16) -> bool
+/// Whether the class of the index may not be caught.
+pub fn catches_error(pool: &Pool<'_>, catch_type: u16) -> bool
     ensures { IsTrue result ↔ CatchesError pool.now catch_type }
 {
     match pool.class_name(catch_type) {

@@ -1,15 +1,18 @@
 -- The limits, the order in which files are judged and run, the lines of a run, and the entry, at plain values.
-use Rattle.std.proofs.Common.{arith, ◌≡◌, ◌≢◌, ℕ, false, List, [], ◌∷◌, map, length, Some, None, inl, inr, refl, sym, ap}
+use Rattle.std.proofs.Common.{arith, ◌≡◌, ◌≢◌, ℕ, ◌≤◌, ◌⊎◌, ◌∙◌, false, List, [], ◌∷◌, map, length, Some, None, inl, inr, refl, sym, ap}
 use Rattle.std.specs.Prelude.{codes}
 use Rattle.dj_edge.specs.Held.{File}
 use Rattle.dj_names.specs.declared.run.Thresholds.{Thresholds}
+use Rattle.dj_class.specs.ClassFile.{ClassFile}
 use Rattle.dj_report.specs.Stages.{IsDecided}
 use Rattle.dj_report.specs.declared.report.Report.TheVariants as reports
 use Rattle.dj_report.specs.declared.report.Violation.{Violation}
 use Rattle.dj_rules.specs.Violations.{AreViolations}
-use Rattle.dj_check.specs.Rules.{AreEarlyViolations}
+use Rattle.dj_check.specs.Rules.{IsEarlyLine}
+use Rattle.dj_link.specs.Lines.{IsFirstOf}
 use Rattle.dj_straight.specs.Program.{Program, Method}
 use Rattle.dj_straight.specs.Straight.{IsNotStraight}
+use Rattle.dj_sandbox.specs.Checked.{AreGoodFiles, IsLateLine, AreCheckViolations}
 use Rattle.dj_sandbox.specs.Entry.{with_slashes, entry_method, has_entry, IsEntryLine, IsShapeLine}
 use Rattle.dj_sandbox.specs.Judging.{IsFirstPath, JudgesFiles, JudgesRun, Runs, Accepts, check_stages, run_stages}
 use Rattle.dj_sandbox.specs.Limits.{most_files, most_file_bytes, most_total_bytes, most_input_bytes, most_thresholds, IsWithinMost}
@@ -47,12 +50,35 @@ thresholds-jump_past h = omega (arith, h.jump)
 thresholds-throw_past : IsWithinMost (record most_thresholds { throw = 1048577 }) → ⊥
 thresholds-throw_past h = omega (arith, h.throw)
 
+-- ---- the rules 17 and 18
+
+-- a line of the rules 1 to 6 hides them
+late-hidden : (files : List File) (v w : Violation) → IsEarlyLine files v → v.rule ≤ 6 → IsLateLine files w → ⊥
+late-hidden files v w is small late = let past = late.hierarchy v is in absurd (omega (arith, small, past))
+
+first-rule : (F U : Type 0) (rule : ℕ) → IsFirstOf F U rule → (rule ≡ 17) ⊎ (rule ≡ 18)
+first-rule F U rule (inl (foreign, is)) = inl is
+first-rule F U rule (inr (not, unlinked, is)) = inr is
+
+late-rule : (files : List File) (v : Violation) → IsLateLine files v → (v.rule ≡ 17) ⊎ (v.rule ≡ 18)
+late-rule files v late =
+    let m = late.line.2.2 in
+    let is : v.rule ≡ m.rule = ap (λ (w : Violation). w.rule) m.line in
+    let told : (m.rule ≡ 17) ⊎ (m.rule ≡ 18) = elim m.such.such [
+      | inl at ↦ first-rule _ _ m.rule at.such.1
+      | inr at ↦ first-rule _ _ m.rule at.such.1
+    ] in
+    elim told [ inl one ↦ inl (is ∙ one) | inr two ↦ inr (is ∙ two) ]
+
+good-none : (c : ClassFile) → AreGoodFiles [] (c ∷ []) → ⊥
+good-none c good = good
+
 -- ---- the order
 
-rejected-first : (files : List File) (violations : List Violation) → AreEarlyViolations files violations → violations ≢ [] → IsDecided (check_stages files) (reports.Rejected violations)
+rejected-first : (files : List File) (violations : List Violation) → AreCheckViolations files violations → violations ≢ [] → IsDecided (check_stages files) (reports.Rejected violations)
 rejected-first files violations are some = inl (violations, refl, are, some)
 
-accepted-last : (files : List File) → AreEarlyViolations files [] → IsDecided (check_stages files) (reports.Accepted (length files))
+accepted-last : (files : List File) → AreCheckViolations files [] → IsDecided (check_stages files) (reports.Accepted (length files))
 accepted-last files are = inr (are, inl refl)
 
 run-rejected_first : (files : List File) (class input : List ℕ) (most : Thresholds) (violations : List Violation) → AreViolations files violations → violations ≢ []

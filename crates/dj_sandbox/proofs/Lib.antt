@@ -3,7 +3,12 @@ pub mod Entries
 pub mod Classical
 pub mod InsertedLines
 pub mod SomeLines
+pub mod GoodFiles
+pub mod LibraryDescriptors
+pub mod NoDoubles
+pub mod LateLaws
 mod SomeSetLines
+mod SomeLateLines
 pub mod SomeRun
 pub mod OneJudgement
 pub mod SomeJudgement

@@ -9,12 +9,12 @@ use Rattle.dj_report.specs.declared.report.Report.TheVariants as reports
 use Rattle.dj_report.specs.declared.report.Violation.{Violation}
 use Rattle.dj_report.proofs.InOrder.{same_violations}
 use Rattle.dj_rules.specs.Violations.{AreViolations}
-use Rattle.dj_check.specs.Rules.{AreEarlyViolations}
 use Rattle.dj_straight.specs.Program.{Program}
 use Rattle.dj_straight.specs.Metered.{RunsTo}
 use Rattle.dj_straight.proofs.Turns.{same_end}
 use Rattle.dj_straight.specs.Straight.{IsStraightSet}
 use Rattle.dj_straight.proofs.Straights.{one_program}
+use Rattle.dj_sandbox.specs.Checked.{AreCheckViolations}
 use Rattle.dj_sandbox.specs.Entry.{entry_method, AreRunViolations}
 use Rattle.dj_sandbox.specs.Judging.{JudgesSet, JudgesFiles, Accepts, FindsStraight, JudgesRun, Runs, IsFirstPath, check_stages, run_stages}
 
@@ -22,7 +22,7 @@ same_lines : (files : List File) (xs ys : List Violation) → AreViolations file
 same_lines files xs ys a b =
     same_violations xs ys a.in_order b.in_order (λ v. (λ m. (b.all v).1 ((a.all v).0 m), λ m. (a.all v).1 ((b.all v).0 m)))
 
-same_set_of_lines : (files : List File) (xs ys : List Violation) → AreEarlyViolations files xs → AreEarlyViolations files ys → xs ≡ ys
+same_set_of_lines : (files : List File) (xs ys : List Violation) → AreCheckViolations files xs → AreCheckViolations files ys → xs ≡ ys
 same_set_of_lines files xs ys a b =
     same_violations xs ys a.in_order b.in_order (λ v. (λ m. (b.all v).1 ((a.all v).0 m), λ m. (a.all v).1 ((b.all v).0 m)))
 

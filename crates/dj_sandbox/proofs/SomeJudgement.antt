@@ -7,14 +7,14 @@ use Rattle.dj_report.specs.declared.report.Report.{Report}
 use Rattle.dj_report.specs.declared.report.Report.TheVariants as reports
 use Rattle.dj_report.specs.declared.report.Violation.{Violation}
 use Rattle.dj_rules.specs.Violations.{AreViolations}
-use Rattle.dj_check.specs.Rules.{AreEarlyViolations}
 use Rattle.dj_straight.specs.Program.{Program}
 use Rattle.dj_straight.specs.Straight.{IsStraightSet, IsNotStraight}
+use Rattle.dj_sandbox.specs.Checked.{AreCheckViolations}
 use Rattle.dj_sandbox.specs.Entry.{AreRunViolations}
 use Rattle.dj_sandbox.specs.Judging.{JudgesSet, JudgesFiles, Accepts, FindsStraight, JudgesRun, Runs, check_stages, run_stages}
 use Rattle.dj_sandbox.proofs.Classical.{NotNot, so, decide}
 use Rattle.dj_sandbox.proofs.SomeLines.{some_violations}
-use Rattle.dj_sandbox.proofs.SomeSetLines.{some_early_violations}
+use Rattle.dj_sandbox.proofs.SomeLateLines.{some_check_violations}
 use Rattle.dj_sandbox.proofs.SomeRun.{some_run_violations, some_end}
 
 -- an answer, where there is one
@@ -30,12 +30,12 @@ judged_files : (files : List File) (violations : List Violation) → AreViolatio
 judged_files files [] are = (None, are)
 judged_files files (v ∷ violations) are = (Some (reports.Rejected (v ∷ violations)), (v ∷ violations, refl, are, not_nil v violations))
 
-judged_set : (files : List File) (violations : List Violation) → AreEarlyViolations files violations → (a : Option Report) × JudgesSet files a
+judged_set : (files : List File) (violations : List Violation) → AreCheckViolations files violations → (a : Option Report) × JudgesSet files a
 judged_set files [] are = (None, are)
 judged_set files (v ∷ violations) are = (Some (reports.Rejected (v ∷ violations)), (v ∷ violations, refl, are, not_nil v violations))
 
 set_answers : (files : List File) → Answers (JudgesSet files)
-set_answers files = answers (JudgesSet files) (so (some_early_violations files) (λ (violations, are). judged_set files violations are))
+set_answers files = answers (JudgesSet files) (so (some_check_violations files) (λ (violations, are). judged_set files violations are))
 
 files_answer : (files : List File) → Answers (JudgesFiles files)
 files_answer files = answers (JudgesFiles files) (so (some_violations files) (λ (violations, are). judged_files files violations are))

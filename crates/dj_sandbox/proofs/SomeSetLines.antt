@@ -1,5 +1,5 @@
 -- The lines of the rules 1 to 16: whatever the files are, there is a list of them.
-use Rattle.std.proofs.Common.{◌≡◌, ℕ, zero, suc, ◌⊎◌, List, [], ◌∷◌, Option, Some, None, Contains, slice_get, refl, sym, ap, ◌∙◌, subst, inl, inr}
+use Rattle.std.proofs.Common.{◌≡◌, ℕ, zero, suc, ◌⊎◌, List, [], ◌∷◌, Option, Some, None, Contains, slice_get, refl, ap, ◌∙◌, subst, inl, inr}
 use Rattle.dj_edge.specs.Held.{File}
 use Rattle.dj_ops.specs.declared.instruction.Instr.{Instr}
 use Rattle.dj_pool.specs.Pool.{Constant}
@@ -22,15 +22,14 @@ use Rattle.dj_check.specs.Heads.{head_of, StandsAmong, HasRepeats}
 use Rattle.dj_check.specs.Instructions.{IsDynamic, IsReflection, IsFloat, IsSubroutine, IsBreakpoint, IsMultiArray}
 use Rattle.dj_check.specs.Malformed.{IsRefused, IsGood}
 use Rattle.dj_check.specs.Members.{HasFloatConstant, IsFloatField, IsFloatMethod, HasInterfaceCode}
-use Rattle.dj_check.specs.Methods.{InstrViolates, CatchesError, ViolatesAt, HandlerViolates, CodeViolates, ViolatesWithin, ViolatesWhole, MethodViolates}
-use Rattle.dj_check.specs.Rules.{line_at, IsMemberLine, FieldViolates, IsNamingLine, IsOwnLine, IsLoneLine, IsAmongLoneLines, HasDouble, IsDuplicateLine, IsHierarchyLine, IsEarlyLine, AreEarlyViolations}
-use Rattle.dj_sandbox.proofs.Classical.{NotNot, bind, decide, IsFinite, finite_same, finite_none, finite_if, finite_either, finite_among}
-use Rattle.dj_sandbox.proofs.InsertedLines.{finite_in_order}
+use Rattle.dj_check.specs.Methods.{InstrViolates, CatchesError, ViolatesAt, HandlerViolates, CodeViolates, ViolatesWhole, MethodViolates}
+use Rattle.dj_check.specs.Rules.{line_at, IsMemberLine, FieldViolates, IsNamingLine, IsOwnLine, IsLoneLine, IsAmongLoneLines, HasDouble, IsDuplicateLine, IsHierarchyLine, IsEarlyLine}
+use Rattle.dj_sandbox.proofs.Classical.{bind, decide, IsFinite, finite_same, finite_none, finite_if, finite_either, finite_among}
 use Rattle.dj_sandbox.proofs.SomeLines.{class_lines}
 
 -- ---- what stands at places of a list
 
-abbrev IsAtPlace : {X Y : Type 0} → (ℕ → Y → X → Type 0) → List Y → X → Type 0
+abbrev pub IsAtPlace : {X Y : Type 0} → (ℕ → Y → X → Type 0) → List Y → X → Type 0
 IsAtPlace {X} {Y} IsOf ys x = (place : ℕ) × (y : Y) × (slice_get ys place ≡ Some y) × IsOf place y x
 
 at_first_or_later : {X Y : Type 0} (IsOf : ℕ → Y → X → Type 0) (y : Y) (ys : List Y) (x : X) (place : ℕ) (z : Y) → slice_get (y ∷ ys) place ≡ Some z → IsOf place z x
@@ -38,7 +37,7 @@ at_first_or_later : {X Y : Type 0} (IsOf : ℕ → Y → X → Type 0) (y : Y) (
 at_first_or_later {X} {Y} IsOf y ys x zero z e is = (let same : z ≡ y = cc in inl (subst (λ (w : Y). IsOf 0 w x) same is))
 at_first_or_later IsOf y ys x (suc k) z e is = inr (k, z, e, is)
 
-finite_places : {X Y : Type 0} (IsOf : ℕ → Y → X → Type 0) (ys : List Y) → ((place : ℕ) (y : Y) → IsFinite (IsOf place y)) → IsFinite (IsAtPlace IsOf ys)
+pub finite_places : {X Y : Type 0} (IsOf : ℕ → Y → X → Type 0) (ys : List Y) → ((place : ℕ) (y : Y) → IsFinite (IsOf place y)) → IsFinite (IsAtPlace IsOf ys)
 finite_places {X} {Y} IsOf [] each = finite_none (IsAtPlace IsOf []) (λ x p. nothing p.0 p.1 p.2) where
   nothing : (place : ℕ) (y : Y) → slice_get {X = Y} [] place ≡ Some y → ⊥
   nothing zero y e = absurd cc
@@ -52,17 +51,17 @@ finite_places {X} {Y} IsOf (y ∷ ys) each =
 -- ---- lines of rules
 
 -- lines, one for each rule that is violated
-abbrev RuleLine : (ℕ → Violation) → (ℕ → Type 0) → Violation → Type 0
+abbrev pub RuleLine : (ℕ → Violation) → (ℕ → Type 0) → Violation → Type 0
 RuleLine line_of Violates v = (rule : ℕ) × Violates rule × (v ≡ line_of rule)
 
-rule_if : (line_of : ℕ → Violation) (H : Type 0) (rule : ℕ) → IsFinite (RuleLine line_of (λ r. H × (r ≡ rule)))
+pub rule_if : (line_of : ℕ → Violation) (H : Type 0) (rule : ℕ) → IsFinite (RuleLine line_of (λ r. H × (r ≡ rule)))
 rule_if line_of H rule =
     finite_same (λ v. H × (v ≡ line_of rule)) (RuleLine line_of (λ r. H × (r ≡ rule)))
     (λ v (h, e). (rule, (h, refl), e))
     (λ v (r, (h, same), e). (h, e ∙ ap line_of same))
     (finite_if H (line_of rule))
 
-rule_either : (line_of : ℕ → Violation) (P Q : ℕ → Type 0) → IsFinite (RuleLine line_of P) → IsFinite (RuleLine line_of Q) → IsFinite (RuleLine line_of (λ r. P r ⊎ Q r))
+pub rule_either : (line_of : ℕ → Violation) (P Q : ℕ → Type 0) → IsFinite (RuleLine line_of P) → IsFinite (RuleLine line_of Q) → IsFinite (RuleLine line_of (λ r. P r ⊎ Q r))
 rule_either line_of P Q p q =
     finite_same (λ v. RuleLine line_of P v ⊎ RuleLine line_of Q v) (RuleLine line_of (λ r. P r ⊎ Q r))
     (λ v any. elim any [ inl (r, is, e) ↦ (r, inl is, e) | inr (r, is, e) ↦ (r, inr is, e) ])
@@ -86,7 +85,7 @@ instr_lines line_of pool instr =
 -- ---- lines of code
 
 -- lines with the number of an instruction, which a condition gives with the rule
-abbrev NumberedLine : (ℕ → ℕ → Violation) → (ℕ → ℕ → Type 0) → Violation → Type 0
+abbrev pub NumberedLine : (ℕ → ℕ → Violation) → (ℕ → ℕ → Type 0) → Violation → Type 0
 NumberedLine line_of Violates v = (number : ℕ) × RuleLine (line_of number) (Violates number) v
 
 instrs_lines : (line_of : ℕ → ℕ → Violation) (pool : List Constant) (labelled : Labelled) → IsFinite (NumberedLine line_of (ViolatesAt pool labelled))
@@ -117,39 +116,41 @@ labelled_lines line_of pool labelled =
     (λ v (k, (r, any, line)). elim any [ inl is ↦ inl (k, (r, is, line)) | inr is ↦ inr (k, (r, is, line)) ])
     (finite_either Instrs Handlers (instrs_lines line_of pool labelled) (handlers_lines line_of pool labelled))
 
--- of the code of these parts
-abbrev InfoLine : (ℕ → ℕ → Violation) → List Constant → CodeInfo → Violation → Type 0
-InfoLine line_of pool code v = (labelled : Labelled) × IsLabelled code.code code.table labelled × NumberedLine line_of (CodeViolates pool labelled) v
+-- of the code of these parts, by a condition on labelled code
+abbrev pub InfoLine : (ℕ → ℕ → Violation) → (Labelled → ℕ → ℕ → Type 0) → CodeInfo → Violation → Type 0
+InfoLine line_of Violates code v = (labelled : Labelled) × IsLabelled code.code code.table labelled × NumberedLine line_of (Violates labelled) v
 
-info_lines : (line_of : ℕ → ℕ → Violation) (pool : List Constant) (code : CodeInfo) → IsFinite (InfoLine line_of pool code)
-info_lines line_of pool code = bind (decide ((labelled : Labelled) × IsLabelled code.code code.table labelled)) (elim [
-  | inl (labelled, is) ↦ finite_same (NumberedLine line_of (CodeViolates pool labelled)) (InfoLine line_of pool code)
+info_lines : (line_of : ℕ → ℕ → Violation) (Violates : Labelled → ℕ → ℕ → Type 0) → ((labelled : Labelled) → IsFinite (NumberedLine line_of (Violates labelled)))
+    → (code : CodeInfo) → IsFinite (InfoLine line_of Violates code)
+info_lines line_of Violates each code = bind (decide ((labelled : Labelled) × IsLabelled code.code code.table labelled)) (elim [
+  | inl (labelled, is) ↦ finite_same (NumberedLine line_of (Violates labelled)) (InfoLine line_of Violates code)
       (λ v line. (labelled, is, line))
-      (λ v (other, own, line). subst (λ (l : Labelled). NumberedLine line_of (CodeViolates pool l) v) (one_labelling_is code.code code.table other labelled own is) line)
-      (labelled_lines line_of pool labelled)
-  | inr not ↦ finite_none (InfoLine line_of pool code) (λ v (other, own, line). not (other, own))
+      (λ v (other, own, line). subst (λ (l : Labelled). NumberedLine line_of (Violates l) v) (one_labelling_is code.code code.table other labelled own is) line)
+      (each labelled)
+  | inr not ↦ finite_none (InfoLine line_of Violates code) (λ v (other, own, line). not (other, own))
 ])
 
 -- of a body of a Code attribute
-abbrev BodyLine : (ℕ → ℕ → Violation) → List Constant → List ℕ → Violation → Type 0
-BodyLine line_of pool body v = (code : CodeInfo) × IsCode body code × InfoLine line_of pool code v
+abbrev pub BodyLine : (ℕ → ℕ → Violation) → (Labelled → ℕ → ℕ → Type 0) → List ℕ → Violation → Type 0
+BodyLine line_of Violates body v = (code : CodeInfo) × IsCode body code × InfoLine line_of Violates code v
 
-body_lines : (line_of : ℕ → ℕ → Violation) (pool : List Constant) (body : List ℕ) → IsFinite (BodyLine line_of pool body)
-body_lines line_of pool body = bind (decide ((code : CodeInfo) × IsCode body code)) (elim [
-  | inl (code, is) ↦ finite_same (InfoLine line_of pool code) (BodyLine line_of pool body)
+body_lines : (line_of : ℕ → ℕ → Violation) (Violates : Labelled → ℕ → ℕ → Type 0) → ((labelled : Labelled) → IsFinite (NumberedLine line_of (Violates labelled)))
+    → (body : List ℕ) → IsFinite (BodyLine line_of Violates body)
+body_lines line_of Violates each body = bind (decide ((code : CodeInfo) × IsCode body code)) (elim [
+  | inl (code, is) ↦ finite_same (InfoLine line_of Violates code) (BodyLine line_of Violates body)
       (λ v line. (code, is, line))
-      (λ v (other, own, line). subst (λ (c : CodeInfo). InfoLine line_of pool c v) (one_code body other code own is) line)
-      (info_lines line_of pool code)
-  | inr not ↦ finite_none (BodyLine line_of pool body) (λ v (other, own, line). not (other, own))
+      (λ v (other, own, line). subst (λ (c : CodeInfo). InfoLine line_of Violates c v) (one_code body other code own is) line)
+      (info_lines line_of Violates each code)
+  | inr not ↦ finite_none (BodyLine line_of Violates body) (λ v (other, own, line). not (other, own))
 ])
 
 -- ---- lines of members
 
 -- lines of one member
-abbrev OwnMemberLine : (MemberInfo → Option ℕ → ℕ → Type 0) → List ℕ → ClassFile → MemberInfo → Violation → Type 0
+abbrev pub OwnMemberLine : (MemberInfo → Option ℕ → ℕ → Type 0) → List ℕ → ClassFile → MemberInfo → Violation → Type 0
 OwnMemberLine Violates path c m v = (number : Option ℕ) × (rule : ℕ) × Violates m number rule × (v ≡ line_at path (member_text c.pool m) number rule)
 
-member_lines : (Violates : MemberInfo → Option ℕ → ℕ → Type 0) (members : List MemberInfo) (path : List ℕ) (c : ClassFile) → ((m : MemberInfo) → IsFinite (OwnMemberLine Violates path c m))
+pub member_lines : (Violates : MemberInfo → Option ℕ → ℕ → Type 0) (members : List MemberInfo) (path : List ℕ) (c : ClassFile) → ((m : MemberInfo) → IsFinite (OwnMemberLine Violates path c m))
     → IsFinite (IsMemberLine Violates members path c)
 member_lines Violates members path c each =
     finite_same (λ v. (m : MemberInfo) × Contains members m × OwnMemberLine Violates path c m v) (IsMemberLine Violates members path c)
@@ -174,18 +175,20 @@ whole_lines path c m =
     rule_either line_of (λ r. IsFloatMethod c.pool m × (r ≡ 12)) (λ r. HasInterfaceCode c m × (r ≡ 16)) (rule_if line_of (IsFloatMethod c.pool m) 12) (rule_if line_of (HasInterfaceCode c m) 16)
 
 -- of a method at its instructions
-abbrev numbered_line : List ℕ → ClassFile → MemberInfo → ℕ → ℕ → Violation
+abbrev pub numbered_line : List ℕ → ClassFile → MemberInfo → ℕ → ℕ → Violation
 numbered_line path c m number rule = line_at path (member_text c.pool m) (Some number) rule
 
-abbrev WithinLine : List ℕ → ClassFile → MemberInfo → Violation → Type 0
-WithinLine path c m v = (body : List ℕ) × Contains (codes_of c.pool m) body × BodyLine (numbered_line path c m) c.pool body v
+abbrev pub WithinLine : (Labelled → ℕ → ℕ → Type 0) → List ℕ → ClassFile → MemberInfo → Violation → Type 0
+WithinLine Violates path c m v = (body : List ℕ) × Contains (codes_of c.pool m) body × BodyLine (numbered_line path c m) Violates body v
 
-within_lines : (path : List ℕ) (c : ClassFile) (m : MemberInfo) → IsFinite (WithinLine path c m)
-within_lines path c m = finite_among (BodyLine (numbered_line path c m) c.pool) (codes_of c.pool m) (body_lines (numbered_line path c m) c.pool)
+pub within_lines : (Violates : Labelled → ℕ → ℕ → Type 0) (path : List ℕ) (c : ClassFile) (m : MemberInfo)
+    → ((labelled : Labelled) → IsFinite (NumberedLine (numbered_line path c m) (Violates labelled))) → IsFinite (WithinLine Violates path c m)
+within_lines Violates path c m each =
+    finite_among (BodyLine (numbered_line path c m) Violates) (codes_of c.pool m) (body_lines (numbered_line path c m) Violates each)
 
 method_lines : (path : List ℕ) (c : ClassFile) (m : MemberInfo) → IsFinite (OwnMemberLine (MethodViolates c) path c m)
 method_lines path c m =
-    finite_same (λ v. WholeLine path c m v ⊎ WithinLine path c m v) (OwnMemberLine (MethodViolates c) path c m)
+    finite_same (λ v. WholeLine path c m v ⊎ WithinLine (CodeViolates c.pool) path c m v) (OwnMemberLine (MethodViolates c) path c m)
     (λ v any. elim any [
       | inl (rule, is, line) ↦ (None, rule, inl (refl, is), line)
       | inr (body, own, (code, is, (labelled, labels, (number, (rule, such, line))))) ↦ (
@@ -203,7 +206,8 @@ method_lines path c m =
         (is.code.code, is.code.own.is, (is.labelled, is.code.labels, (is.at, (rule, is.such, line ∙ ap (λ (n : Option ℕ). line_at path (member_text c.pool m) n rule) is.number_is)))),
       )
     ])
-    (finite_either (WholeLine path c m) (WithinLine path c m) (whole_lines path c m) (within_lines path c m))
+    (finite_either (WholeLine path c m) (WithinLine (CodeViolates c.pool) path c m) (whole_lines path c m)
+    (within_lines (CodeViolates c.pool) path c m (labelled_lines (numbered_line path c m) c.pool)))
 
 -- ---- lines of files
 
@@ -261,9 +265,8 @@ hierarchy_lines files =
     (λ v is. (is.file, is.own, ((is.class, is.good, is.such), is.line)))
     (finite_among IsOf files (λ file. finite_if (ViolatesAmong files file) (file_line file.0 6)))
 
--- the violations of the files, in order
-pub some_early_violations : (files : List File) → NotNot ((violations : List Violation) × AreEarlyViolations files violations)
-some_early_violations files =
-    finite_in_order (IsEarlyLine files)
-    (finite_either (IsAmongLoneLines files) (λ v. IsDuplicateLine files v ⊎ IsHierarchyLine files v) (finite_among IsLoneLine files lone_lines)
-    (finite_either (IsDuplicateLine files) (IsHierarchyLine files) (duplicate_lines files) (hierarchy_lines files)))
+-- the lines of the files
+pub early_lines : (files : List File) → IsFinite (IsEarlyLine files)
+early_lines files =
+    finite_either (IsAmongLoneLines files) (λ v. IsDuplicateLine files v ⊎ IsHierarchyLine files v) (finite_among IsLoneLine files lone_lines)
+    (finite_either (IsDuplicateLine files) (IsHierarchyLine files) (duplicate_lines files) (hierarchy_lines files))

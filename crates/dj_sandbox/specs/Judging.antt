@@ -9,16 +9,16 @@ use Rattle.dj_report.specs.declared.report.Report.{Report}
 use Rattle.dj_report.specs.declared.report.Report.TheVariants as reports
 use Rattle.dj_report.specs.declared.report.Violation.{Violation}
 use Rattle.dj_rules.specs.Violations.{AreViolations}
-use Rattle.dj_check.specs.Rules.{AreEarlyViolations}
 use Rattle.dj_straight.specs.Program.{Program}
 use Rattle.dj_straight.specs.Metered.{RunsTo}
 use Rattle.dj_straight.specs.Straight.{IsStraightSet, IsNotStraight}
+use Rattle.dj_sandbox.specs.Checked.{AreCheckViolations}
 use Rattle.dj_sandbox.specs.Entry.{entry_method, AreRunViolations}
 
--- none of the rules 1 to 16 is violated; or else the violations are told
+-- none of the rules that `check` judges is violated; or else the violations are told
 abbrev pub JudgesSet : List File → Stage Report
-JudgesSet files (Some report) = (violations : List Violation) × (report ≡ reports.Rejected violations) × AreEarlyViolations files violations × (violations ≢ [])
-JudgesSet files None = AreEarlyViolations files []
+JudgesSet files (Some report) = (violations : List Violation) × (report ≡ reports.Rejected violations) × AreCheckViolations files violations × (violations ≢ [])
+JudgesSet files None = AreCheckViolations files []
 
 -- none of the rules is violated that are judged before a run; or else the violations are told
 abbrev pub JudgesFiles : List File → Stage Report

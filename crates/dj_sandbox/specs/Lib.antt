@@ -2,4 +2,6 @@ pub mod Limits
 pub mod Entry
 pub mod Shaped
 pub mod Statuses
+pub mod Checked
+pub mod Late
 pub mod Judging

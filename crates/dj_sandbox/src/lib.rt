@@ -3,6 +3,7 @@
 
 mod checking;
 mod entry;
+mod late;
 mod run_rules;
 mod running;
 

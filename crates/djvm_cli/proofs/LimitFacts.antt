@@ -9,7 +9,7 @@ use Rattle.dj_report.specs.declared.report.Report.TheVariants as reports
 use Rattle.dj_report.specs.declared.report.Limit.TheVariants as limits
 use Rattle.dj_report.specs.Text.{report_text}
 use Rattle.dj_report.specs.declared.report.Violation.{Violation}
-use Rattle.dj_check.specs.Rules.{AreEarlyViolations}
+use Rattle.dj_sandbox.specs.Checked.{AreCheckViolations}
 use Rattle.dj_sandbox.specs.Limits.{AreWithin, IsFirstPast, IsTooLong, IsTooMuch, total_bytes}
 use Rattle.dj_source.specs.declared.error.AsmError.TheVariants as asm_errors
 use Rattle.dj_asm.specs.Texts.{IsTextOfBytes, TextFault}
@@ -141,7 +141,7 @@ unfolding check_words done_job_of
 order-total held few past = inr (few, inr (tt, inl (inr (refl, past))))
 
 order-judged : (held : Held) (violations : List Violation) → length (class_files (codes "c") held) ≤ 4096 → AreWithin (class_files (codes "c") held)
-    → AreEarlyViolations (files_within (codes "c") held) violations → violations ≢ [] → IsReport check_words held (reports.Rejected violations)
+    → AreCheckViolations (files_within (codes "c") held) violations → violations ≢ [] → IsReport check_words held (reports.Rejected violations)
 unfolding check_words done_job_of
 order-judged held violations few within are some = inr (few, inr (tt, inr (within, inl (violations, refl, are, some))))
 

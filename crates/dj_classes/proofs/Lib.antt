@@ -1,0 +1,7 @@
+pub mod Orders
+pub mod Rising
+pub mod Shared
+pub mod Numbered
+pub mod Joins
+pub mod Listed
+mod TableFacts

@@ -1,0 +1,84 @@
+-- Classes and their members by numbers: a class by its place in the program, a member by its place among those of its class.
+use Rattle.std.specs.Prelude.{◌≡◌, ◌≢◌, ℕ, suc, ◌<◌, List, [], ◌∷◌, map, Option, Some, None, if◌then◌else◌, slice_get, option_and_then, IsFalse}
+use Rattle.std.specs.Option.{option_map}
+use Rattle.std.specs.List.{flat_map}
+use Rattle.dj_names.specs.Types.{Name, same_name}
+use Rattle.dj_names.specs.Library.{Library}
+use Rattle.dj_class.specs.ClassFile.{ClassFile}
+use Rattle.dj_model.specs.Program.{Program, Class, Method, Field, fields_of, interfaces_of, superclass_of}
+use Rattle.dj_model.specs.Linking.{FoundMethod, FoundField, option_list}
+use Rattle.dj_model.specs.Libraries.{joined, library_program, is_name_before}
+use Rattle.dj_declared.specs.Files.{declared_class}
+use Rattle.dj_classes.specs.declared.place.Place.{Place}
+
+-- the classes of the files and those of the library
+unfoldable pub declared_program : Library → List ClassFile → Program
+declared_program library files = joined (map declared_class files) (library_program library)
+
+-- ---- classes
+
+abbrev pub name_of : Class → Name
+name_of c = c.name
+
+abbrev pub flags_in : Class → ℕ
+flags_in c = c.flags
+
+-- the place of the class of this name
+abbrev pub class_number : Program → Name → Option ℕ
+class_number [] name = None
+class_number (c ∷ classes) name = if same_name c.name name then Some 0 else option_map suc (class_number classes name)
+
+-- the places of the classes of these names that are there
+abbrev pub class_numbers : Program → List Name → List ℕ
+class_numbers program names = flat_map (λ name. option_list (class_number program name)) names
+
+-- the name of the class of a number
+abbrev pub name_at : Program → ℕ → Option Name
+name_at program class = option_map name_of (slice_get program class)
+
+abbrev pub super_number : Program → ℕ → Option ℕ
+super_number program class = option_and_then (class_number program) (superclass_of (slice_get program class))
+
+abbrev pub interface_numbers : Program → ℕ → List ℕ
+interface_numbers program class = class_numbers program (interfaces_of (slice_get program class))
+
+-- ---- names that classes share
+
+-- two of the classes have this name
+pub record IsShared (classes : List Class) (name : Name) : Type 0 where
+  pub first : ℕ
+  pub other : ℕ
+  pub apart : first < other
+  pub one : name_at classes first ≡ Some name
+  pub two : name_at classes other ≡ Some name
+
+-- the least name that two of the classes have, in the order of bytes
+pub record IsLeastShared (classes : List Class) (name : Name) : Type 0 where
+  pub shared : IsShared classes name
+  pub least : (other : Name) → IsShared classes other → IsFalse (is_name_before other name)
+
+-- ---- members
+
+abbrev pub methods_of : Option Class → List Method
+methods_of None = []
+methods_of (Some c) = c.methods
+
+abbrev pub methods_at : Program → ℕ → List Method
+methods_at program class = methods_of (slice_get program class)
+
+abbrev pub fields_at : Program → ℕ → List Field
+fields_at program class = fields_of (slice_get program class)
+
+abbrev pub method_of_class : ℕ → Class → Option FoundMethod
+method_of_class member c = option_map (λ m. record { class = c.name; method = m }) (slice_get c.methods member)
+
+abbrev pub field_of_class : ℕ → Class → Option FoundField
+field_of_class member c = option_map (λ f. record { class = c.name; field = f }) (slice_get c.fields member)
+
+-- the method at a place
+abbrev pub method_there : Program → Place → Option FoundMethod
+method_there program place = option_and_then (method_of_class place.member) (slice_get program place.class)
+
+-- the field at a place
+abbrev pub field_there : Program → Place → Option FoundField
+field_there program place = option_and_then (field_of_class place.member) (slice_get program place.class)

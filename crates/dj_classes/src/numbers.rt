@@ -1,0 +1,44 @@
+ghost use Rattle.std.specs.Prelude.{◌≡◌, [], ◌∷◌, ◌++◌, IfOk};
+
+use dj_names::NoMemory;
+use std::alloc::Global;
+use std::marker::Model;
+
+/// Numbers of classes, in order.
+#[derive(Drop)]
+pub struct Numbers {
+    items: Vec<u32>,
+}
+
+impl Model for Numbers {
+    ghost use Rattle.std.specs.Prelude.{ℕ, List};
+
+    ghost Value = { List ℕ };
+
+    ghost view = { λ numbers. numbers.items.items };
+}
+
+impl Numbers {
+    /// No numbers.
+    pub fn new(alloc: Global) -> Numbers
+        ensures { result ≡ [] }
+    {
+        Numbers {
+            items: Vec::new(alloc),
+        }
+    }
+
+    /// Appends a number.
+    pub fn push(&mut self, number: u32) -> Result<(), NoMemory>
+        ensures { IfOk result (λ _. self.new ≡ self.old ++ number ∷ []) }
+    {
+        Ok(self.items.push(number)?)
+    }
+
+    /// The numbers, lent.
+    pub fn as_slice(&self) -> &[u32]
+        ensures { result.now ≡ self.now }
+    {
+        self.items.as_slice()
+    }
+}

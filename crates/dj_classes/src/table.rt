@@ -1,0 +1,157 @@
+ghost use Rattle.std.specs.Prelude.{◌≡◌, ℕ, ◌<◌, ◌^◌, [], length, Some, IfOk, IsErrOf, slice_get};
+ghost use Rattle.std.specs.Option.{option_map};
+ghost use Rattle.dj_names.specs.Types.{Name};
+ghost use Rattle.dj_model.specs.Program.{method_in, field_in};
+ghost use Rattle.dj_model.specs.Libraries.{joined};
+ghost use Rattle.dj_declared.specs.Files.{desc_in};
+ghost use Rattle.dj_declared.specs.Members.{IsDescriptor, method_flags, field_flags, has_method_named};
+ghost use Rattle.dj_classes.specs.Tables.{class_number, name_at, flags_in, super_number, interface_numbers, methods_at, fields_at, IsShared, IsLeastShared};
+ghost use Rattle.dj_classes.specs.declared.error.TableError.TheVariants.{Duplicate};
+
+use crate::error::TableError;
+use crate::numbers::Numbers;
+use crate::rows;
+use dj_declared::DeclaredClass;
+use dj_names::Name;
+use std::alloc::Global;
+use std::marker::Model;
+
+/// Classes as they are declared, in the order of the bytes of their names. A class's number is its place.
+#[derive(Drop)]
+pub struct ClassTable {
+    rows: Vec<DeclaredClass>,
+    supers: Vec<Option<u32>>,
+    interfaces: Vec<Numbers>,
+}
+
+impl Model for ClassTable {
+    ghost use Rattle.dj_model.specs.Program.{Program};
+    ghost use Rattle.dj_classes.specs.Rows.{IsTable};
+
+    ghost Value = { Program };
+
+    ghost view = { λ table. table.rows.items };
+
+    ghost invariant = { λ table. IsTable table.rows.items table.supers.items table.interfaces.items };
+}
+
+impl ClassTable {
+    /// Puts the classes in order. The least name that two of them have is told.
+    pub fn of(alloc: Global, classes: Vec<DeclaredClass>) -> Result<ClassTable, TableError>
+        requires { length classes.items < 2 ^ 31 }
+        ensures ok { IfOk result (λ table. table ≡ joined classes.items []) }
+        ensures differ { IfOk result (λ _. (name : Name) → IsShared classes.items name → ⊥) }
+        ensures refused { (name : Name) → IsErrOf result (Duplicate name) → IsLeastShared classes.items name }
+    {
+        let mut rows = classes;
+        rows::put_in_order(&mut rows);
+        if let Some(name) = rows::first_shared(&rows) {
+            return Err(TableError::Duplicate(Name::from_slice(alloc, name)?));
+        }
+        let supers = rows::supers_in(alloc, &rows)?;
+        let interfaces = rows::interfaces_in(alloc, &rows)?;
+        Ok(ClassTable {
+            rows,
+            supers,
+            interfaces,
+        })
+    }
+
+    /// The number of classes.
+    pub fn class_count(&self) -> u32
+        ensures count { result ≡ length self.now }
+        ensures few { length self.now < 2 ^ 31 }
+    {
+        self.rows.len() as u32
+    }
+
+    /// A law: a name is that of one class at most.
+    pub fn names_differ(&self)
+        ensures { (k : ℕ) (name : Name) → name_at self.now k ≡ Some name → class_number self.now name ≡ Some k }
+    {
+        let _ = &self.rows;
+    }
+
+    /// The number of the class of this name.
+    pub fn class_named(&self, name: &[u8]) -> Option<u32>
+        ensures { result ≡ class_number self.now name.now }
+    {
+        rows::number_in(&self.rows, name)
+    }
+
+    /// The name of the class of this number.
+    pub fn name_of(&self, class: u32) -> &[u8]
+        requires { class < length self.now }
+        ensures { Some result.now ≡ name_at self.now class }
+    {
+        self.rows[class as usize].name()
+    }
+
+    /// The access flags of the class of this number (JVMS table 4.1-A).
+    pub fn flags_of(&self, class: u32) -> u16
+        requires { class < length self.now }
+        ensures { Some result ≡ option_map flags_in (slice_get self.now class) }
+    {
+        self.rows[class as usize].flags()
+    }
+
+    /// The number of the superclass of a class, where it has one that is there.
+    pub fn super_of(&self, class: u32) -> Option<u32>
+        requires { class < length self.now }
+        ensures { result ≡ super_number self.now class }
+    {
+        self.supers[class as usize]
+    }
+
+    /// The numbers of the interfaces that a class lists, of those that are there.
+    pub fn interfaces_of(&self, class: u32) -> &[u32]
+        requires { class < length self.now }
+        ensures { result.now ≡ interface_numbers self.now class }
+    {
+        self.interfaces[class as usize].as_slice()
+    }
+
+    /// The place, among the methods of a class, of the first one with this name and this descriptor.
+    pub fn method_named(&self, class: u32, name: &[u8], desc: &[u8]) -> Option<u32>
+        requires there { class < length self.now }
+        requires described { IsDescriptor desc.now }
+        ensures { option_map (slice_get (methods_at self.now class)) result ≡ option_map Some (method_in (methods_at self.now class) name.now (desc_in desc.now)) }
+    {
+        self.rows[class as usize].method_named(name, desc)
+    }
+
+    /// The place, among the fields of a class, of the first one with this name and this descriptor.
+    pub fn field_named(&self, class: u32, name: &[u8], desc: &[u8]) -> Option<u32>
+        requires there { class < length self.now }
+        requires described { IsDescriptor desc.now }
+        ensures { option_map (slice_get (fields_at self.now class)) result ≡ option_map Some (field_in (fields_at self.now class) name.now (desc_in desc.now)) }
+    {
+        self.rows[class as usize].field_named(name, desc)
+    }
+
+    /// The access flags of a method (JVMS table 4.6-A), by its place among those of its class.
+    pub fn method_flags(&self, class: u32, member: u32) -> u16
+        requires there { class < length self.now }
+        requires within { member < length (methods_at self.now class) }
+        ensures { Some result ≡ option_map method_flags (slice_get (methods_at self.now class) member) }
+    {
+        self.rows[class as usize].method_flags(member)
+    }
+
+    /// The access flags of a field (JVMS table 4.5-A), by its place among those of its class.
+    pub fn field_flags(&self, class: u32, member: u32) -> u16
+        requires there { class < length self.now }
+        requires within { member < length (fields_at self.now class) }
+        ensures { Some result ≡ option_map field_flags (slice_get (fields_at self.now class) member) }
+    {
+        self.rows[class as usize].field_flags(member)
+    }
+
+    /// Whether a class has a method of this name, whatever its descriptor is.
+    pub fn has_method(&self, class: u32, name: &[u8]) -> bool
+        requires { class < length self.now }
+        ensures { result ≡ has_method_named (methods_at self.now class) name.now }
+    {
+        self.rows[class as usize].has_method(name)
+    }
+}

@@ -1,0 +1,169 @@
+-- The rows of a class file's members.
+use Rattle.std.proofs.Common.{◌≡◌, ℕ, zero, suc, ◌+◌, ◌<◌, ◌↔◌, ◌||◌, Bool, true, false, cond, List, [], ◌∷◌, ◌++◌, length, map, get_or, All, Option, Some, None, IsSomeAnd, IsTrue, refl, sym, ap, ◌∙◌, subst, arith, inl, inr, unwrap_or}
+use Rattle.std.specs.Prelude.{◌/◌, ◌%◌, ◌^◌, slice_get, option_and_then, bit_and}
+use Rattle.std.specs.Option.{is_some}
+use Rattle.std.specs.Int.{bit_at, IsBitSet}
+use Rattle.std.specs.List.{AllByRecursion}
+use Rattle.std.proofs.lemmas.Bool.{cases_eq, cases_lt, eq-eqb, ne_eqb}
+use Rattle.std.proofs.lemmas.Nat.{bit_set_by_shift, and_mask}
+use Rattle.std.proofs.lemmas.Option.{slice_get_past}
+use Rattle.std.proofs.lemmas.List.{get_or_append_left, get_or_default}
+use Rattle.std.proofs.Math.Seq.{get_or-append_seam}
+use Rattle.std.proofs.lemmas.List.Elements.{All-from_recursion}
+use Rattle.dj_names.specs.declared.descriptor.Desc.TheVariants as descs
+use Rattle.dj_names.specs.Types.{Name}
+use Rattle.dj_names.specs.DescReading.{desc_read}
+use Rattle.dj_names.specs.Names.{IsUnqualifiedName, IsMethodName}
+use Rattle.dj_names.specs.Descriptors.{IsFieldDescriptor, IsMethodDescriptor}
+use Rattle.dj_pool.specs.Pool.{Constant, text_of, text_at}
+use Rattle.dj_class.specs.ClassFile.{MemberInfo, IsMember, IsField, IsMethod}
+use Rattle.dj_model.specs.Program.{Abstract, Runs, has_flag}
+use Rattle.dj_declared.specs.declared.members.MemberBody.{MemberBody}
+use Rattle.dj_declared.specs.declared.members.MemberBody.TheVariants as bodies
+use Rattle.dj_declared.specs.declared.members.MemberRow.{MemberRow}
+use Rattle.dj_declared.specs.Files.{desc_in, name_in, no_code, is_bodiless, declared_method, declared_field}
+use Rattle.dj_declared.specs.Members.{IsDescriptor}
+use Rattle.dj_declared.specs.Marks.{IsNamed, AreNamed}
+use Rattle.dj_declared.specs.Texts.{Numbers, number_in, text_in, LeadBack, Keep}
+use Rattle.dj_declared.specs.Rows.{body_of, row_method, row_field, IsSound, AreSound, AreNumbered, kept_body, method_row_of, field_row_of}
+use Rattle.dj_declared.proofs.DescTests.{is_descriptor, read_descriptor}
+
+-- ---- the numbers of the pool's texts
+
+pub numbered_more : (pool : List Constant) (i n : ℕ) (marks : List Bool) (places : List ℕ) (old new : Numbers) (d : Bool) → i < length marks → length places ≡ i → AreNumbered pool i marks places old → Keep old new
+    → (get_or marks i d ≡ true → (text : Name) → text_at pool i ≡ Some text → number_in new text ≡ Some n) → AreNumbered pool (i + 1) marks (places ++ n ∷ []) new
+numbered_more pool i n marks places old new d in_marks long before keeps told j text lt marked at = elim (cases_eq j i) [
+  | inl same ↦
+      let here : get_or (places ++ n ∷ []) j 0 ≡ n = ap (λ (k : ℕ). get_or (places ++ n ∷ []) k 0) (same ∙ sym long) ∙ get_or-append_seam places n [] 0 in
+      let mark : get_or marks i d ≡ true = get_or_default marks i d false in_marks ∙ subst (λ (k : ℕ). get_or marks k false ≡ true) same marked in
+      told mark text (subst (λ (k : ℕ). text_at pool k ≡ Some text) same at) ∙ ap Some (sym here)
+  | inr apart ↦
+      let within : j < i = omega arith in
+      let inside : j < length places = omega (arith, within, long) in
+      keeps text (get_or places j 0) (before j text within marked at) ∙ ap Some (sym (get_or_append_left places (n ∷ []) 0 j inside))
+]
+
+-- an index past the pool has no text
+past_text : (found : Option Constant) (text : Name) → found ≡ None → option_and_then text_of found ≡ Some text → ⊥
+past_text found text none at = let bad : None ≡ Some text = sym (ap (option_and_then text_of) none) ∙ at in absurd cc
+
+pub within_pool : (pool : List Constant) (index : ℕ) (text : Name) → text_at pool index ≡ Some text → index < length pool + 1
+within_pool pool zero text at = omega arith
+within_pool pool (suc index) text at = elim (cases_lt index (length pool)) [
+  | inl lt ↦ omega arith
+  | inr past ↦ absurd (past_text (slice_get pool index) text (slice_get_past pool index past) at)
+]
+
+-- ---- flags
+
+low_bit : (n : ℕ) → bit_and n 1 ≡ n % 2
+low_bit n = and_mask n 1
+
+pub flag_told : (b : Bool) (flags bit : ℕ) → (IsTrue b ↔ IsBitSet flags bit) → b ≡ has_flag bit flags
+flag_told true flags bit told = sym (eq-eqb (bit_at flags bit) 1 (sym (low_bit (flags / 2 ^ bit)) ∙ (bit_set_by_shift flags bit).1 (told.0 refl)))
+flag_told false flags bit told = sym (ne_eqb (bit_at flags bit) 1 (λ one. (let bad : false ≡ true = told.1 ((bit_set_by_shift flags bit).0 (low_bit (flags / 2 ^ bit) ∙ one)) in absurd cc)))
+
+pub kept_by : (native bodiless : Bool) (flags : ℕ) → native ≡ has_flag 8 flags → bodiless ≡ has_flag 10 flags → cond (native || bodiless) bodies.Empty bodies.Code ≡ kept_body flags
+kept_by native bodiless flags is_native is_bodiless =
+    ap (λ (b : Bool). cond (b || bodiless) bodies.Empty bodies.Code) is_native ∙ ap (λ (b : Bool). cond (has_flag 8 flags || b) bodies.Empty bodies.Code) is_bodiless
+
+-- ---- a member
+
+found : {A : Type 0} (P : A → Type 0) (o : Option A) → IsSomeAnd o P → (x : A) × (o ≡ Some x) × P x
+found P (Some x) told = (x, refl, told)
+found P None told = absurd told
+
+body_is : (b : Bool) → body_of (cond b bodies.Empty bodies.Code) ≡ cond b Abstract (Runs no_code)
+body_is true = refl
+body_is false = refl
+
+module _ (pool : List Constant) (marks : List Bool) (places : List ℕ) (numbers : Numbers) (back : LeadBack numbers) (long : length marks ≡ length pool + 1) (numbered : AreNumbered pool (length marks) marks places numbers) where
+  abbrev Marked : ℕ → Type 0
+  Marked index = index < length marks → get_or marks index false ≡ true
+
+  number_is : (index : ℕ) (text : Name) → text_at pool index ≡ Some text → Marked index → number_in numbers text ≡ Some (get_or places index 0)
+  number_is index text at mark =
+      let lt : index < length marks = subst (λ (n : ℕ). index < n) (sym long) (within_pool pool index text at) in
+      numbered index text lt (mark lt) at
+
+  text_is : (index : ℕ) (text : Name) → text_at pool index ≡ Some text → Marked index → text_in numbers (get_or places index 0) ≡ text
+  text_is index text at mark = back text (get_or places index 0) (number_is index text at mark)
+
+  own_number : (index : ℕ) (text : Name) → text_at pool index ≡ Some text → Marked index → number_in numbers (text_in numbers (get_or places index 0)) ≡ Some (get_or places index 0)
+  own_number index text at mark = ap (number_in numbers) (text_is index text at mark) ∙ number_is index text at mark
+
+  same_text : (index : ℕ) (text : Name) → text_at pool index ≡ Some text → Marked index → text_in numbers (get_or places index 0) ≡ name_in pool index
+  same_text index text at mark = text_is index text at mark ∙ sym (ap (λ (o : Option Name). unwrap_or o []) at)
+
+  sound_row : (IsName IsDesc : Name → Type 0) → ((text : Name) → IsDesc text → IsDescriptor text) → (m : MemberInfo) (body : MemberBody) → IsMember IsName IsDesc pool m → IsNamed marks m
+      → IsSound numbers (record { flags = m.flags; name = get_or places m.name 0; desc = get_or places m.desc 0; body = body })
+  sound_row IsName IsDesc means m body is named =
+      let name = found IsName (text_at pool m.name) is.name in
+      let desc = found IsDesc (text_at pool m.desc) is.desc in
+      record {
+        name = own_number m.name name.0 name.1 named.name;
+        desc = own_number m.desc desc.0 desc.1 named.desc;
+        described = ap (λ (t : Name). is_some (desc_read t)) (text_is m.desc desc.0 desc.1 named.desc) ∙ read_descriptor desc.0 (means desc.0 desc.2);
+      }
+
+  method_means : (text : Name) → IsMethodDescriptor text → IsDescriptor text
+  method_means text d = is_descriptor text (descs.Method d.0 d.1) d.2
+
+  field_means : (text : Name) → IsFieldDescriptor text → IsDescriptor text
+  field_means text d = is_descriptor text (descs.Field d.0) d.1
+
+  method_is : (m : MemberInfo) → IsMethod pool m → IsNamed marks m → row_method numbers (method_row_of places m) ≡ declared_method pool m
+  method_is m is named =
+      let name = found IsMethodName (text_at pool m.name) is.name in
+      let desc = found IsMethodDescriptor (text_at pool m.desc) is.desc in
+      λ i. record {
+        flags = m.flags;
+        name = same_text m.name name.0 name.1 named.name i;
+        desc = desc_in (same_text m.desc desc.0 desc.1 named.desc i);
+        body = body_is (is_bodiless m.flags) i;
+      }
+
+  field_is : (f : MemberInfo) → IsField pool f → IsNamed marks f → row_field numbers (field_row_of places f) ≡ declared_field pool f
+  field_is f is named =
+      let name = found IsUnqualifiedName (text_at pool f.name) is.name in
+      let desc = found IsFieldDescriptor (text_at pool f.desc) is.desc in
+      λ i. record {
+        flags = f.flags;
+        name = same_text f.name name.0 name.1 named.name i;
+        desc = desc_in (same_text f.desc desc.0 desc.1 named.desc i);
+        constant = None;
+      }
+
+  methods_sound : (ms : List MemberInfo) → AllByRecursion (IsMethod pool) ms → AreNamed marks ms → AllByRecursion (IsSound numbers) (map (method_row_of places) ms)
+  methods_sound [] all named = tt
+  methods_sound (m ∷ ms) all named = (sound_row IsMethodName IsMethodDescriptor method_means m (kept_body m.flags) all.0 named.0, methods_sound ms all.1 named.1)
+
+  fields_sound : (fs : List MemberInfo) → AllByRecursion (IsField pool) fs → AreNamed marks fs → AllByRecursion (IsSound numbers) (map (field_row_of places) fs)
+  fields_sound [] all named = tt
+  fields_sound (f ∷ fs) all named = (sound_row IsUnqualifiedName IsFieldDescriptor field_means f bodies.Empty all.0 named.0, fields_sound fs all.1 named.1)
+
+  methods_are : (ms : List MemberInfo) → AllByRecursion (IsMethod pool) ms → AreNamed marks ms → map (row_method numbers) (map (method_row_of places) ms) ≡ map (declared_method pool) ms
+  methods_are [] all named = refl
+  methods_are (m ∷ ms) all named = λ i. method_is m all.0 named.0 i ∷ methods_are ms all.1 named.1 i
+
+  fields_are : (fs : List MemberInfo) → AllByRecursion (IsField pool) fs → AreNamed marks fs → map (row_field numbers) (map (field_row_of places) fs) ≡ map (declared_field pool) fs
+  fields_are [] all named = refl
+  fields_are (f ∷ fs) all named = λ i. field_is f all.0 named.0 i ∷ fields_are fs all.1 named.1 i
+
+  -- the rows of the fields and of the methods are sound
+  pub file_sound : (fs ms : List MemberInfo) (fields methods : List MemberRow) → AllByRecursion (IsField pool) fs → AllByRecursion (IsMethod pool) ms → AreNamed marks fs → AreNamed marks ms → fields ≡ map (field_row_of places) fs → methods ≡ map (method_row_of places) ms
+      → AreSound numbers fields methods
+  file_sound fs ms fields methods all_fields all_methods fields_named methods_named fields_is methods_is = record {
+    fields_are = subst (λ (rows : List MemberRow). All (IsSound numbers) rows) (sym fields_is) (All-from_recursion (IsSound numbers) (map (field_row_of places) fs) (fields_sound fs all_fields fields_named));
+    methods_are = subst (λ (rows : List MemberRow). All (IsSound numbers) rows) (sym methods_is) (All-from_recursion (IsSound numbers) (map (method_row_of places) ms) (methods_sound ms all_methods methods_named));
+  }
+
+  pub file_fields : (fs : List MemberInfo) (fields : List MemberRow) → AllByRecursion (IsField pool) fs → AreNamed marks fs → fields ≡ map (field_row_of places) fs → map (row_field numbers) fields ≡ map (declared_field pool) fs
+  file_fields fs fields all named is = ap (map (row_field numbers)) is ∙ fields_are fs all named
+
+  pub file_methods : (ms : List MemberInfo) (methods : List MemberRow) → AllByRecursion (IsMethod pool) ms → AreNamed marks ms → methods ≡ map (method_row_of places) ms → map (row_method numbers) methods ≡ map (declared_method pool) ms
+  file_methods ms methods all named is = ap (map (row_method numbers)) is ∙ methods_are ms all named
+
+-- the rows of lent numbers and lent members
+pub rows_of_lent : (f : List ℕ → MemberInfo → MemberRow) (rows : List MemberRow) (lent places : List ℕ) (members ms : List MemberInfo) → rows ≡ map (f lent) members → lent ≡ places → members ≡ ms → rows ≡ map (f places) ms
+rows_of_lent f rows lent places members ms is same_places same_members = is ∙ ap (λ (ns : List ℕ). map (f ns) members) same_places ∙ ap (map (f places)) same_members

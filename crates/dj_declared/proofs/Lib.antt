@@ -1,0 +1,9 @@
+pub mod DescTests
+pub mod TextLaws
+pub mod RowLaws
+pub mod LookupLaws
+pub mod MarkLaws
+pub mod FileLaws
+pub mod LibraryLaws
+pub mod ListLaws
+mod Facts

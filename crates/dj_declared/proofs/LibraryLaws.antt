@@ -1,0 +1,111 @@
+-- The rows of a library's methods.
+use Rattle.std.proofs.Common.{◌≡◌, ℕ, ◌+◌, ◌<◌, List, [], ◌∷◌, ◌++◌, length, map, take, get_or, All, Option, Some, None, refl, sym, ap, ◌∙◌, subst}
+use Rattle.std.specs.List.{AllByRecursion}
+use Rattle.std.specs.Option.{is_some}
+use Rattle.std.proofs.lemmas.List.{take_more}
+use Rattle.std.proofs.lemmas.List.Elements.{recursion_from_All, All-from_recursion}
+use Rattle.dj_names.specs.declared.native.NativeId.{NativeId}
+use Rattle.dj_names.specs.Types.{Name}
+use Rattle.dj_names.specs.Descriptors.{desc_text, IsDesc, Describes}
+use Rattle.dj_names.specs.DescReading.{desc_read}
+use Rattle.dj_natives.specs.declared.library.LibMethod.{LibMethod}
+use Rattle.dj_natives.specs.Views.{library_method_view}
+use Rattle.dj_model.specs.Program.{Method}
+use Rattle.dj_model.specs.Libraries.{library_body, library_method}
+use Rattle.dj_declared.specs.declared.members.MemberRow.{MemberRow}
+use Rattle.dj_declared.specs.Files.{desc_in}
+use Rattle.dj_declared.specs.Texts.{Numbers, number_in, text_in, LeadBack, Keep}
+use Rattle.dj_declared.specs.Rows.{body_of, row_method, IsSound, AreSound, IsRowOf, AreRowsOf, native_body}
+use Rattle.dj_declared.proofs.DescTests.{desc_in_text, is_descriptor, read_descriptor}
+
+-- ---- a method
+
+native_is : (native : Option NativeId) → body_of (native_body native) ≡ library_body native
+native_is None = refl
+native_is (Some id) = refl
+
+pub row_of_method : (numbers : Numbers) (back : LeadBack numbers) (m : LibMethod) (text : Name) (n d : ℕ) → IsDesc m.desc → text ≡ desc_text m.desc → number_in numbers m.name ≡ Some n → number_in numbers text ≡ Some d
+    → IsRowOf numbers (record { flags = m.flags; name = n; desc = d; body = native_body m.native }) (library_method (library_method_view m))
+row_of_method numbers back m text n d valid spelled name desc =
+    let name_is : text_in numbers n ≡ m.name = back m.name n name in
+    let desc_is : text_in numbers d ≡ text = back text d desc in
+    let described : Describes text m.desc = record { text_is = spelled; valid = valid } in
+    let desc_same : desc_in (text_in numbers d) ≡ m.desc = ap desc_in (desc_is ∙ spelled) ∙ desc_in_text m.desc valid in
+    record {
+      sound = record {
+        name = ap (number_in numbers) name_is ∙ name;
+        desc = ap (number_in numbers) desc_is ∙ desc;
+        described = ap (λ (t : Name). is_some (desc_read t)) desc_is ∙ read_descriptor text (is_descriptor text m.desc described);
+      };
+      is = λ i. record { flags = m.flags; name = name_is i; desc = desc_same i; body = native_is m.native i };
+    }
+
+-- ---- with more texts
+
+module _ (old new : Numbers) (keep : Keep old new) (back : LeadBack new) where
+  same_text : (number : ℕ) → number_in old (text_in old number) ≡ Some number → text_in new number ≡ text_in old number
+  same_text number own = back (text_in old number) number (keep (text_in old number) number own)
+
+  still_own : (number : ℕ) → number_in old (text_in old number) ≡ Some number → number_in new (text_in new number) ≡ Some number
+  still_own number own = ap (number_in new) (same_text number own) ∙ keep (text_in old number) number own
+
+  still_sound : (row : MemberRow) → IsSound old row → IsSound new row
+  still_sound row sound = record {
+    name = still_own row.name sound.name;
+    desc = still_own row.desc sound.desc;
+    described = ap (λ (t : Name). is_some (desc_read t)) (same_text row.desc sound.desc) ∙ sound.described;
+  }
+
+  same_method : (row : MemberRow) → IsSound old row → row_method new row ≡ row_method old row
+  same_method row sound = λ i. record {
+    flags = row.flags;
+    name = same_text row.name sound.name i;
+    desc = desc_in (same_text row.desc sound.desc i);
+    body = body_of row.body;
+  }
+
+  sound_more : (rows : List MemberRow) (row : MemberRow) → AllByRecursion (IsSound old) rows → IsSound new row → AllByRecursion (IsSound new) (rows ++ row ∷ [])
+  sound_more [] row all last = (last, tt)
+  sound_more (r ∷ rows) row all last = (still_sound r all.0, sound_more rows row all.1 last)
+
+  methods_more : (rows : List MemberRow) (row : MemberRow) (m : Method) → AllByRecursion (IsSound old) rows → row_method new row ≡ m → map (row_method new) (rows ++ row ∷ []) ≡ map (row_method old) rows ++ m ∷ []
+  methods_more [] row m all is = ap (λ (x : Method). x ∷ []) is
+  methods_more (r ∷ rows) row m all is = λ i. same_method r all.0 i ∷ methods_more rows row m all.1 is i
+
+  rows_more : (rows : List MemberRow) (row : MemberRow) (ms : List Method) (m : Method) → AreRowsOf old rows ms → IsRowOf new row m → AreRowsOf new (rows ++ row ∷ []) (ms ++ m ∷ [])
+  rows_more rows row ms m are is =
+      let all : AllByRecursion (IsSound old) rows = recursion_from_All (IsSound old) rows are.sound in
+      record {
+        sound = All-from_recursion (IsSound new) (rows ++ row ∷ []) (sound_more rows row all is.sound);
+        are = methods_more rows row m all is.is ∙ ap (λ (xs : List Method). xs ++ m ∷ []) are.are;
+      }
+
+-- ---- a loop's step
+
+abbrev methods_of : List LibMethod → List Method
+methods_of ms = map library_method (map library_method_view ms)
+
+pushed : (ms : List LibMethod) (m : LibMethod) → methods_of (ms ++ m ∷ []) ≡ methods_of ms ++ library_method (library_method_view m) ∷ []
+pushed [] m = refl
+pushed (x ∷ ms) m = ap (λ (xs : List Method). library_method (library_method_view x) ∷ xs) (pushed ms m)
+
+pub taken_more : (ms : List LibMethod) (i : ℕ) (m : LibMethod) → i < length ms → m ≡ get_or ms i m → methods_of (take i ms) ++ library_method (library_method_view m) ∷ [] ≡ methods_of (take (i + 1) ms)
+taken_more ms i m lt is =
+    sym (pushed (take i ms) m) ∙ ap (λ (x : LibMethod). methods_of (take i ms ++ x ∷ [])) is ∙ ap methods_of (sym (take_more ms i m lt))
+
+pub rows_of_more : (old new : Numbers) (keep : Keep old new) (back : LeadBack new) (ms : List LibMethod) (i : ℕ) (m : LibMethod) (rows more : List MemberRow) (row : MemberRow) → i < length ms → m ≡ get_or ms i m
+    → AreRowsOf old rows (methods_of (take i ms)) → IsRowOf new row (library_method (library_method_view m)) → more ≡ rows ++ row ∷ [] → AreRowsOf new more (methods_of (take (i + 1) ms))
+rows_of_more old new keep back ms i m rows more row lt item are is pushed_is =
+    subst (λ (xs : List MemberRow). AreRowsOf new xs (methods_of (take (i + 1) ms))) (sym pushed_is)
+    (subst (AreRowsOf new (rows ++ row ∷ [])) (taken_more ms i m lt item) (rows_more old new keep back rows row (methods_of (take i ms)) (library_method (library_method_view m)) are is))
+
+-- before the first
+pub no_rows : (numbers : Numbers) → AreRowsOf numbers [] []
+no_rows numbers = record { sound = All-from_recursion (IsSound numbers) [] tt; are = refl }
+
+-- a library's class has no fields that a name reaches
+pub library_sound : (numbers : Numbers) (fields rows methods : List MemberRow) (ms : List Method) → fields ≡ [] → methods ≡ rows → AreRowsOf numbers rows ms → AreSound numbers fields methods
+library_sound numbers fields rows methods ms none same are = record {
+  fields_are = subst (λ (xs : List MemberRow). All (IsSound numbers) xs) (sym none) (All-from_recursion (IsSound numbers) [] tt);
+  methods_are = subst (λ (xs : List MemberRow). All (IsSound numbers) xs) (sym same) are.sound;
+}

@@ -1,0 +1,18 @@
+use Rattle.std.proofs.Common.{◌≡◌, Some, ap, subst, sym, ◌∙◌}
+use Rattle.dj_names.specs.Descriptors.{desc_text}
+use Rattle.dj_model.specs.Libraries.{library_method}
+use Rattle.dj_natives.specs.Views.{library_method_view}
+use Rattle.dj_declared.specs.declared.members.MemberBody.{MemberBody}
+use Rattle.dj_declared.specs.Texts.{number_in}
+use Rattle.dj_declared.specs.Rows.{IsRowOf}
+use Rattle.dj_declared.proofs.LibraryLaws.{row_of_method}
+use Rattle.dj_declared.proofs.library.method_row.Goals as goal
+
+pub returns-clause-is : goal.returns-clause-is
+returns-clause-is c =
+    let m = c.args.method.now in
+    let new = c.intern-2.new.self in
+    let name : number_in new.numbers m.name ≡ Some c.in_ok-name.name = c.in_ok-desc.ensures.keeps m.name c.in_ok-name.name (ap (number_in c.intern.new.self.numbers) (sym c.as_slice.ensures) ∙ c.in_ok-name.ensures.told) in
+    let spelled : c.as_slice-2.result.now ≡ desc_text m.desc = c.as_slice-2.ensures ∙ c.in_ok-text.ensures in
+    let is = row_of_method new.numbers new.back m c.as_slice-2.result.now c.in_ok-name.name c.in_ok-desc.desc c.requires spelled name c.in_ok-desc.ensures.told in
+    subst (λ (body : MemberBody). IsRowOf c.intern-2.new.self.numbers (record { flags = c.args.method.now.flags; name = c.in_ok-name.name; desc = c.in_ok-desc.desc; body = body }) (library_method (library_method_view c.args.method.now))) (sym c.body_of.ensures) is

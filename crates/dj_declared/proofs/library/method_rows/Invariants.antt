@@ -1,0 +1,9 @@
+use Rattle.std.proofs.Common.{map, take}
+use Rattle.dj_natives.specs.Views.{library_method_view}
+use Rattle.dj_model.specs.Libraries.{library_method}
+use Rattle.dj_declared.specs.Rows.{AreRowsOf}
+use Rattle.dj_declared.proofs.library.method_rows.Given as goal
+
+-- the rows so far
+abbrev pub invariant-loop-method : goal.invariant-loop-method
+invariant-loop-method l = AreRowsOf l.texts.numbers l.rows.items (map library_method (map library_method_view (take l.method-index l.methods)))

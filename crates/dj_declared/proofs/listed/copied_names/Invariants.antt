@@ -1,0 +1,7 @@
+use Rattle.std.proofs.Common.{◌≡◌, take}
+use Rattle.dj_declared.specs.Lists.{AreListed}
+use Rattle.dj_declared.proofs.listed.copied_names.Given as goal
+
+-- the names so far
+abbrev pub invariant-loop-name : goal.invariant-loop-name
+invariant-loop-name l = AreListed l.copies l.places.items (take l.name-index l.names)

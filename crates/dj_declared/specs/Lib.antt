@@ -1,0 +1,7 @@
+pub mod Files
+pub mod Members
+pub mod Marks
+pub mod Texts
+pub mod Rows
+pub mod Tables
+pub mod Lists

@@ -1,0 +1,16 @@
+-- The code's own: the members of a class, as the definitions see them.
+use Rattle.std.specs.Prelude.{◌≡◌, List, map}
+use Rattle.dj_model.specs.Program.{Method, Field}
+use Rattle.dj_declared.specs.declared.tables.ClassMembers.{ClassMembers}
+use Rattle.dj_declared.specs.Rows.{row_method, row_field}
+
+abbrev pub methods_of : ClassMembers → List Method
+methods_of members = map (row_method members.texts.numbers) members.methods.rows.items
+
+abbrev pub fields_of : ClassMembers → List Field
+fields_of members = map (row_field members.texts.numbers) members.fields.rows.items
+
+-- these are the members
+pub record AreMembers (fields : List Field) (methods : List Method) (members : ClassMembers) : Type 0 where
+  pub fields_are : fields_of members ≡ fields
+  pub methods_are : methods_of members ≡ methods

@@ -1,0 +1,67 @@
+-- Lines of the rules 17 and 18 by plain values: where they stand, and what silences them.
+use Rattle.std.proofs.Common.{◌≡◌, ℕ, ◌⊎◌, List, [], ◌∷◌, length, refl, ap, inl, inr, arith, codes, Contains}
+use Rattle.dj_ops.specs.declared.instruction.Instr.TheVariants as instrs
+use Rattle.dj_pool.specs.Pool.{Constant, Utf8, Class}
+use Rattle.dj_labels.specs.declared.labelled.Protected.{Protected}
+use Rattle.dj_labels.specs.declared.labelled.Labelled.{Labelled}
+use Rattle.dj_report.proofs.Sorted.{contains_none, contains_cases}
+use Rattle.dj_names.specs.Types.{Name}
+use Rattle.dj_model.specs.Program.{Program}
+use Rattle.dj_declared.specs.Files.{type_in}
+use Rattle.dj_check.specs.Methods.{CatchesError}
+use Rattle.dj_link.specs.Lines.{IsFirstOf, LinkViolates, HandlerLinkViolates}
+use Rattle.dj_link.proofs.Rows.{catch_told}
+
+-- ---- what silences
+
+-- rule 17 silences rule 18
+silenced : (Foreign Unlinked : Type 0) → Foreign → IsFirstOf Foreign Unlinked 18 → ⊥
+silenced Foreign Unlinked is (inl first) = (let e = first.1 in absurd (omega (arith, e)))
+silenced Foreign Unlinked is (inr other) = other.0 is
+
+no_other : (Foreign Unlinked : Type 0) (rule : ℕ) → IsFirstOf Foreign Unlinked rule → (rule ≡ 17) ⊎ (rule ≡ 18)
+no_other Foreign Unlinked rule (inl first) = inl first.1
+no_other Foreign Unlinked rule (inr other) = inr other.2
+
+-- 2 is the class E, which isn't there
+pool : List Constant
+pool = Utf8 (codes "E") ∷ Class 1 ∷ []
+
+-- ldc of a class is told by rule 10 alone
+reflected : (program : Program) (own : Name) (rule : ℕ) → LinkViolates program own pool (instrs.Literal 18 2) rule → ⊥
+unfolding pool
+reflected program own rule v = v.0 10 (inr (inl (inl (refl, tt), refl)))
+
+-- checkcast isn't
+cast_untold : (rule : ℕ) → LinkViolates [] (codes "D") pool (instrs.Class 192 2) rule → (rule ≡ 17) ⊎ (rule ≡ 18)
+cast_untold rule v = no_other _ _ rule v.1
+
+-- ---- where a handler's line stands
+
+range : Protected
+range = record { start = 0; end = 1; handler = 1; catch_type = 2 }
+
+labelled : Labelled
+labelled = record { code = instrs.Simple 0 ∷ instrs.Simple 177 ∷ []; ranges = range ∷ [] }
+
+no_error : CatchesError pool 2 → ⊥
+unfolding pool
+no_error (inl e) = (let few : 1 ≡ 21 = ap (λ (t : List ℕ). length t) e in absurd (omega (arith, few)))
+no_error (inr (inl e)) = (let few : 1 ≡ 29 = ap (λ (t : List ℕ). length t) e in absurd (omega (arith, few)))
+no_error (inr (inr (inl e))) = (let few : 1 ≡ 28 = ap (λ (t : List ℕ). length t) e in absurd (omega (arith, few)))
+no_error (inr (inr (inr e))) = (let few : 1 ≡ 26 = ap (λ (t : List ℕ). length t) e in absurd (omega (arith, few)))
+
+handler_line : HandlerLinkViolates [] pool labelled 1 18
+unfolding pool range labelled type_in
+handler_line = record { range = range; own = (0, omega arith, refl); begins = refl; such = (no_error, catch_told [] pool 2 18 refl (λ e. absurd (omega (arith, e)))) }
+
+only_range : (r : Protected) → Contains (range ∷ []) r → range ≡ r
+only_range r m = elim (contains_cases range [] r m) [ inl is ↦ is | inr none ↦ absurd (contains_none r none) ]
+
+-- not at the start of its range
+start_not : (program : Program) (rule : ℕ) → HandlerLinkViolates program pool labelled 0 rule → ⊥
+unfolding range labelled
+start_not program rule v =
+    let handler : 1 ≡ v.range.handler = ap (λ (r : Protected). r.handler) (only_range v.range v.own) in
+    let begins = v.begins in
+    absurd (omega (arith, handler, begins))

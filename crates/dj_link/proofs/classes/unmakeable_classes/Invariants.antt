@@ -1,0 +1,7 @@
+use Rattle.std.proofs.Common.{◌≡◌, map, take}
+use Rattle.dj_link.specs.Known.{is_unmakeable}
+use Rattle.dj_link.proofs.classes.unmakeable_classes.Given as goal
+
+-- the classes so far
+abbrev pub invariant-loop-class : goal.invariant-loop-class
+invariant-loop-class l = l.marks.items ≡ map is_unmakeable (take l.class l.table)

@@ -1,0 +1,223 @@
+ghost use Rattle.std.specs.Prelude.{◌≡◌, ◌<◌, [], length, Some, nat_eq, if◌then◌else◌, IfOk, IfSome};
+ghost use Rattle.std.specs.Option.{option_map};
+ghost use Rattle.dj_pool.specs.Pool.{IsPool, IsClassText, IsLinked, NamesText, text_at};
+ghost use Rattle.dj_pool.specs.Views.{constant_of};
+ghost use Rattle.dj_model.specs.Types.{object_name};
+ghost use Rattle.dj_classes.specs.Tables.{class_number};
+ghost use Rattle.dj_declared.specs.Members.{IsDescriptor};
+ghost use Rattle.dj_check.specs.Classes.{class_text_index, names_at};
+ghost use Rattle.dj_link.specs.Named.{named_type, named_member};
+ghost use Rattle.dj_link.specs.Judged.{tag_of, judged_class, judged_member, judged, AreJudged};
+ghost use Rattle.dj_link.specs.Constants.{text_class, static_in, AreSeen};
+
+use crate::class_text::{class_text, is_of_library, object_name};
+use crate::error::LinkError;
+use crate::named::{NamedClass, NamedConstant, NamedMember, Tag};
+use crate::statics::is_static_at;
+use dj_linking::Linker;
+use dj_pool::{Entry, Pool};
+use std::alloc::Global;
+
+fn tag_of(entry: Entry<'_>) -> Tag
+    ensures { result ≡ tag_of (constant_of entry.entry) }
+{
+    match entry {
+        Entry::Integer(_)
+        | Entry::Float(_)
+        | Entry::Text(_)
+        | Entry::Handle(_, _)
+        | Entry::MethodType(_) => Tag::Short,
+        Entry::Long(_) | Entry::Double(_) => Tag::Long,
+        Entry::Class(_) => Tag::Class,
+        Entry::Field(_, _) => Tag::Field,
+        Entry::Method(_, _) => Tag::Method,
+        Entry::InterfaceMethod(_, _) => Tag::InterfaceMethod,
+        Entry::Dynamic(_, _) => Tag::Dynamic,
+        _ => Tag::Other,
+    }
+}
+
+// ---- classes
+
+// The index of the text of the class that a constant names.
+fn class_text_index(pool: &Pool<'_>, entry: Entry<'_>) -> Option<u16>
+    ensures { result ≡ class_text_index pool.now (constant_of entry.entry) }
+{
+    let class = match entry {
+        Entry::Class(name) => return Some(name),
+        Entry::Field(class, _) => class,
+        Entry::Method(class, _) => class,
+        Entry::InterfaceMethod(class, _) => class,
+        _ => return None,
+    };
+    match pool.get(class) {
+        Some(Entry::Class(name)) => Some(name),
+        _ => None,
+    }
+}
+
+// The class for which a text stands.
+fn judge_class(linker: &Linker, text: &[u8]) -> NamedClass
+    requires { IsClassText text.now }
+    ensures { result ≡ text_class linker.now.program text.now }
+{
+    let stands = class_text(text);
+    NamedClass {
+        dims: stands.dims,
+        number: linker.classes().class_named(stands.class),
+        of_library: is_of_library(stands.class),
+    }
+}
+
+// The class for which the text of an index stands: seen before, or from now on.
+fn see_class(
+    linker: &Linker,
+    pool: &Pool<'_>,
+    seen: &mut [Option<NamedClass>],
+    index: u16,
+) -> NamedClass
+    requires seen { AreSeen linker.now.program pool.now seen.old }
+    requires text { NamesText IsClassText pool.now index }
+    ensures seen { AreSeen linker.now.program pool.now seen.new }
+    ensures class { Some result ≡ option_map (text_class linker.now.program) (text_at pool.now index) }
+{
+    if let Some(class) = seen[usize::from(index)] {
+        return class;
+    }
+    let Some(text) = pool.text(index) else {
+        unreachable!()
+    };
+    let class = judge_class(linker, text);
+    seen[usize::from(index)] = Some(class);
+    class
+}
+
+// The class that a constant names.
+fn class_of(
+    linker: &Linker,
+    pool: &Pool<'_>,
+    seen: &mut [Option<NamedClass>],
+    entry: Entry<'_>,
+) -> Option<NamedClass>
+    requires valid { IsPool pool.now }
+    requires linked { IsLinked pool.now (constant_of entry) }
+    requires seen { AreSeen linker.now.program pool.now seen.old }
+    ensures seen { AreSeen linker.now.program pool.now seen.new }
+    ensures class { result ≡ option_map (judged_class linker.now.program) (named_type pool.now (constant_of entry.entry)) }
+{
+    match class_text_index(pool, entry) {
+        Some(index) => Some(see_class(linker, pool, seen, index)),
+        None => None,
+    }
+}
+
+// ---- members
+
+// The name and the descriptor of the member that a constant names.
+fn names_of<'p>(pool: &Pool<'p>, entry: Entry<'_>) -> Option<(&'p [u8], &'p [u8])>
+    ensures { option_map (λ x. (x.0.now, x.1.now)) result ≡ names_at pool.now (constant_of entry.entry) }
+{
+    match entry {
+        Entry::Field(_, names) => pool.name_and_type(names),
+        Entry::Method(_, names) => pool.name_and_type(names),
+        Entry::InterfaceMethod(_, names) => pool.name_and_type(names),
+        _ => None,
+    }
+}
+
+// The number of the class in which members of a class are looked for: those of an array are Object's.
+fn member_class(object: Option<u32>, class: NamedClass) -> Option<u32>
+    ensures { result ≡ if nat_eq class.dims 0 then class.number else object }
+{
+    if class.dims == 0 {
+        class.number
+    } else {
+        object
+    }
+}
+
+// Whether what a constant names in the class of a number is static, where there is such a class.
+fn is_static_in(
+    linker: &Linker,
+    entry: Entry<'_>,
+    class: Option<u32>,
+    name: &[u8],
+    desc: &[u8],
+) -> Option<bool>
+    requires there { IfSome class (λ number. number < length linker.now.program) }
+    requires described { IsDescriptor desc.now }
+    ensures { result ≡ static_in linker.now (constant_of entry.entry) class name.now desc.now }
+{
+    is_static_at(linker, entry, class?, name, desc)
+}
+
+// The member that a constant names, where its class is this one.
+fn member_of(
+    linker: &Linker,
+    pool: &Pool<'_>,
+    object: Option<u32>,
+    entry: Entry<'_>,
+    class: Option<NamedClass>,
+) -> Option<NamedMember>
+    requires plain { linker.now.prefix ≡ [] }
+    requires object { object ≡ class_number linker.now.program (object_name []) }
+    requires linked { IsLinked pool.now (constant_of entry) }
+    requires class { class ≡ option_map (judged_class linker.now.program) (named_type pool.now (constant_of entry)) }
+    ensures { result ≡ option_map (judged_member linker.now.program (constant_of entry.entry)) (named_member pool.now (constant_of entry.entry)) }
+{
+    let class = class?;
+    let (name, desc) = names_of(pool, entry)?;
+    Some(NamedMember {
+        is_static: is_static_in(linker, entry, member_class(object, class), name, desc),
+        is_constructor: name == b"<init>".as_slice(),
+        is_initialiser: name == b"<clinit>".as_slice(),
+    })
+}
+
+// ---- constants
+
+// What a constant names.
+fn judge_constant(
+    linker: &Linker,
+    pool: &Pool<'_>,
+    object: Option<u32>,
+    seen: &mut [Option<NamedClass>],
+    entry: Entry<'_>,
+) -> NamedConstant
+    requires plain { linker.now.prefix ≡ [] }
+    requires object { object ≡ class_number linker.now.program (object_name []) }
+    requires valid { IsPool pool.now }
+    requires linked { IsLinked pool.now (constant_of entry) }
+    requires seen { AreSeen linker.now.program pool.now seen.old }
+    ensures seen { AreSeen linker.now.program pool.now seen.new }
+    ensures constant { result ≡ judged linker.now.program pool.now (constant_of entry.entry) }
+{
+    let class = class_of(linker, pool, seen, entry);
+    let member = member_of(linker, pool, object, entry, class);
+    NamedConstant {
+        tag: tag_of(entry),
+        class,
+        member,
+    }
+}
+
+/// What each constant of a pool names, by its index. Each text of a class is looked at once.
+pub fn judge_constants(
+    alloc: Global,
+    linker: &Linker,
+    pool: &Pool<'_>,
+) -> Result<Vec<Option<NamedConstant>>, LinkError>
+    requires plain { linker.now.prefix ≡ [] }
+    requires valid { IsPool pool.now }
+    ensures { IfOk result (λ kept. AreJudged linker.now.program pool.now kept.items) }
+{
+    let object = linker.classes().class_named(object_name());
+    let entries = pool.as_slice();
+    let mut seen = vec![in alloc; None; entries.len() + 1]?;
+    let mut kept = vec![in alloc; None]?;
+    for entry in entries {
+        let constant = judge_constant(linker, pool, object, &mut seen, *entry);
+        kept.push(Some(constant))?;
+    }
+    Ok(kept)
+}

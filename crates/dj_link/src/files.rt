@@ -1,0 +1,47 @@
+ghost use Rattle.std.specs.Prelude.{◌≡◌, ◌<◌, ◌^◌, [], length, map, All, IfOk, OnOk};
+ghost use Rattle.dj_report.specs.Lines.{Adds, AreExactly};
+ghost use Rattle.dj_rules.specs.Views.{path_file_view};
+ghost use Rattle.dj_check.specs.Malformed.{IsRefused};
+ghost use Rattle.dj_link.specs.Lines.{IsLinkLine};
+
+use crate::class::add_file_lines;
+use crate::classes::unmakeable_classes;
+use crate::error::LinkError;
+use dj_linking::Linker;
+use dj_report::{PathFile, Violation, Violations, in_order};
+use std::alloc::Global;
+
+/// Appends all lines of the rules 17 and 18. No file violates rule 1.
+pub fn add_link_lines(
+    alloc: Global,
+    found: &mut Vec<Violation>,
+    linker: &Linker,
+    files: &[PathFile<'_>],
+) -> Result<(), LinkError>
+    requires plain { linker.now.prefix ≡ [] }
+    requires short { All (λ file. length file.bytes.now < 2 ^ 32) files.now }
+    requires whole { All (λ file. IsRefused file.bytes.now → ⊥) files.now }
+    ensures { OnOk result (Adds (IsLinkLine linker.now.program (map path_file_view files.now)) found.old.items found.new.items) }
+{
+    let unmakeable = unmakeable_classes(alloc, linker.classes())?;
+    for file in files {
+        add_file_lines(alloc, found, linker, &unmakeable, file)?;
+    }
+    Ok(())
+}
+
+/// All violations of the rules 17 and 18, in order, each once. No file violates rule 1.
+pub fn links(
+    alloc: Global,
+    linker: &Linker,
+    files: &[PathFile<'_>],
+) -> Result<Violations, LinkError>
+    requires plain { linker.now.prefix ≡ [] }
+    requires short { All (λ file. length file.bytes.now < 2 ^ 32) files.now }
+    requires whole { All (λ file. IsRefused file.bytes.now → ⊥) files.now }
+    ensures { IfOk result (AreExactly (IsLinkLine linker.now.program (map path_file_view files.now))) }
+{
+    let mut found = Vec::new(alloc);
+    add_link_lines(alloc, &mut found, linker, files)?;
+    Ok(in_order(found))
+}

@@ -1,0 +1,21 @@
+//! The rules 17 and 18 on a set of class files: what instructions and handlers name is there, and is what they ask.
+#![tactic(auto)]
+
+mod above;
+mod asks;
+mod class;
+mod class_text;
+mod classes;
+mod constants;
+mod error;
+mod files;
+mod judge;
+mod kept;
+mod known;
+mod methods;
+mod named;
+mod passes;
+mod statics;
+
+pub use error::LinkError;
+pub use files::{add_link_lines, links};

@@ -1,0 +1,80 @@
+ghost use Rattle.std.specs.Prelude.{OnOk};
+ghost use Rattle.std.specs.List.{AllByRecursion};
+ghost use Rattle.dj_class.specs.ClassFile.{IsAttribute, IsValid};
+ghost use Rattle.dj_class.specs.Members.{member_of};
+ghost use Rattle.dj_class.specs.Views.{class_of};
+ghost use Rattle.dj_report.specs.Lines.{Gains};
+ghost use Rattle.dj_rules.specs.Violations.{this_name};
+ghost use Rattle.dj_check.specs.Judged.{AreTexts};
+ghost use Rattle.dj_check.specs.Malformed.{IsFaultyMethod, HasFaultyMethod};
+ghost use Rattle.dj_check.specs.Marks.{names_in, MarksOf, AreMarksOf};
+ghost use Rattle.dj_check.specs.Passes.{IsWholeMethod};
+ghost use Rattle.dj_link.specs.Lines.{MethodLinkViolates};
+ghost use Rattle.dj_link.specs.Known.{IsKnown};
+
+use crate::error::LinkError;
+use crate::known::Known;
+use crate::passes::add_code_marks;
+use dj_check::{JudgedText, Mark, MethodCode, WholeCode, code_of_method, names_of};
+use dj_class::{ClassView, MemberView};
+use std::alloc::Global;
+
+// Appends the marks of a method with code.
+fn add_whole_marks(
+    marks: &mut Vec<Mark>,
+    view: &ClassView<'_>,
+    texts: &[JudgedText],
+    known: &Known<'_>,
+    method: &MemberView<'_>,
+    code: &WholeCode<'_>,
+) -> Result<(), LinkError>
+    requires texts { AreTexts view.now.pool texts.now }
+    requires known { IsKnown (this_name (class_of view.now)) view.now.pool known.now }
+    requires code { IsWholeMethod view.now.pool (member_of method.now) code.now }
+    ensures { OnOk result (Gains (MarksOf (names_in texts.now (member_of method.now)) (MethodLinkViolates known.now.table.now (class_of view.now) (member_of method.now))) marks.old.items marks.new.items) }
+{
+    let names = names_of(&view.pool, texts, method);
+    add_code_marks(marks, names, &view.pool, texts, known, &code.labelled)
+}
+
+// Appends the marks of a method.
+fn add_method_mark(
+    alloc: Global,
+    marks: &mut Vec<Mark>,
+    view: &ClassView<'_>,
+    texts: &[JudgedText],
+    known: &Known<'_>,
+    method: &MemberView<'_>,
+) -> Result<(), LinkError>
+    requires texts { AreTexts view.now.pool texts.now }
+    requires known { IsKnown (this_name (class_of view.now)) view.now.pool known.now }
+    requires attributes { AllByRecursion (IsAttribute view.now.pool) (member_of method.now).attributes }
+    requires sound { IsFaultyMethod view.now.pool (member_of method.now) → ⊥ }
+    ensures { OnOk result (Gains (MarksOf (names_in texts.now (member_of method.now)) (MethodLinkViolates known.now.table.now (class_of view.now) (member_of method.now))) marks.old.items marks.new.items) }
+{
+    match code_of_method(alloc, &view.pool, method)? {
+        MethodCode::Faulty => unreachable!(),
+        MethodCode::Bodiless => Ok(()),
+        MethodCode::Whole(code) => add_whole_marks(marks, view, texts, known, method, &code),
+    }
+}
+
+/// Appends the marks of all methods of a class file without faulty ones.
+pub fn add_method_marks(
+    alloc: Global,
+    marks: &mut Vec<Mark>,
+    view: &ClassView<'_>,
+    texts: &[JudgedText],
+    known: &Known<'_>,
+) -> Result<(), LinkError>
+    requires texts { AreTexts view.now.pool texts.now }
+    requires known { IsKnown (this_name (class_of view.now)) view.now.pool known.now }
+    requires valid { IsValid (class_of view.now) }
+    requires sound { HasFaultyMethod (class_of view.now) → ⊥ }
+    ensures { OnOk result (Gains (AreMarksOf texts.now (MethodLinkViolates known.now.table.now (class_of view.now)) (class_of view.now).methods) marks.old.items marks.new.items) }
+{
+    for method in view.methods.as_slice() {
+        add_method_mark(alloc, marks, view, texts, known, method)?;
+    }
+    Ok(())
+}

@@ -1,0 +1,134 @@
+ghost use Rattle.std.specs.Prelude.{◌<◌, ◌^◌, length, OnOk};
+ghost use Rattle.dj_report.specs.Lines.{Gains};
+ghost use Rattle.dj_check.specs.Judged.{AreTexts};
+ghost use Rattle.dj_check.specs.Marks.{MarksAt, MarksOf};
+ghost use Rattle.dj_link.specs.Known.{IsRuled, KnownInstr, KnownBelow, KnownRange, KnownCode};
+ghost use Rattle.dj_link.specs.Marks.{AreRangeMarks};
+
+use crate::error::LinkError;
+use crate::judge::{is_foreign, is_foreign_catch, is_unlinked, is_unlinked_catch};
+use crate::known::Known;
+use dj_check::{JudgedText, Mark, Place, add_mark_if, catches_error, violates_instr};
+use dj_labels::{Labelled, Protected};
+use dj_ops::Instr;
+use dj_pool::Pool;
+
+// The numbers of the rules.
+const WHITELIST: u8 = 17;
+
+const UNRESOLVED: u8 = 18;
+
+// Appends the mark of the first of the two rules that is violated, if no other rule is.
+fn add_rule_mark(
+    marks: &mut Vec<Mark>,
+    place: Place,
+    told: bool,
+    foreign: bool,
+    unlinked: bool,
+) -> Result<(), LinkError>
+    ensures { OnOk result (Gains (MarksAt place (IsRuled told foreign unlinked)) marks.old.items marks.new.items) }
+{
+    if told {
+        return Ok(());
+    }
+    if foreign {
+        return Ok(add_mark_if(marks, place, WHITELIST, foreign)?);
+    }
+    Ok(add_mark_if(marks, place, UNRESOLVED, unlinked)?)
+}
+
+// Appends the mark of an instruction at its place.
+fn add_instr_mark(
+    marks: &mut Vec<Mark>,
+    place: Place,
+    pool: &Pool<'_>,
+    texts: &[JudgedText],
+    known: &Known<'_>,
+    instr: &Instr,
+) -> Result<(), LinkError>
+    requires { AreTexts pool.now texts.now }
+    ensures { OnOk result (Gains (MarksAt place (KnownInstr known.now pool.now instr.now)) marks.old.items marks.new.items) }
+{
+    let told = violates_instr(pool, texts, instr);
+    let foreign = is_foreign(known, instr);
+    let unlinked = is_unlinked(known, instr);
+    add_rule_mark(marks, place, told, foreign, unlinked)
+}
+
+// Appends the marks of all instructions of a method of these names.
+fn add_instr_marks(
+    marks: &mut Vec<Mark>,
+    names: (u16, u16),
+    pool: &Pool<'_>,
+    texts: &[JudgedText],
+    known: &Known<'_>,
+    code: &[Instr],
+) -> Result<(), LinkError>
+    requires texts { AreTexts pool.now texts.now }
+    requires few { length code.now < 2 ^ 32 }
+    ensures { OnOk result (Gains (MarksOf names (KnownBelow (length code.now) known.now pool.now code.now)) marks.old.items marks.new.items) }
+{
+    for at in 0..code.len() {
+        let place = Place {
+            name: names.0,
+            desc: names.1,
+            number: Some(at as u32),
+        };
+        add_instr_mark(marks, place, pool, texts, known, &code[at])?;
+    }
+    Ok(())
+}
+
+// Appends the mark of a handler at its first instruction.
+fn add_handler_mark(
+    marks: &mut Vec<Mark>,
+    names: (u16, u16),
+    pool: &Pool<'_>,
+    known: &Known<'_>,
+    range: Protected,
+) -> Result<(), LinkError>
+    ensures { OnOk result (Gains (MarksOf names (KnownRange known.now pool.now range)) marks.old.items marks.new.items) }
+{
+    let place = Place {
+        name: names.0,
+        desc: names.1,
+        number: Some(range.handler),
+    };
+    let told = catches_error(pool, range.catch_type);
+    let foreign = is_foreign_catch(known, range.catch_type);
+    let unlinked = is_unlinked_catch(known, range.catch_type);
+    add_rule_mark(marks, place, told, foreign, unlinked)
+}
+
+// Appends the marks of all handlers of a method of these names.
+fn add_handler_marks(
+    marks: &mut Vec<Mark>,
+    names: (u16, u16),
+    pool: &Pool<'_>,
+    known: &Known<'_>,
+    ranges: &[Protected],
+) -> Result<(), LinkError>
+    ensures { OnOk result (Gains (AreRangeMarks names known.now pool.now ranges.now) marks.old.items marks.new.items) }
+{
+    for range in ranges {
+        add_handler_mark(marks, names, pool, known, *range)?;
+    }
+    Ok(())
+}
+
+/// Appends the marks of labelled code of a method of these names.
+pub fn add_code_marks(
+    marks: &mut Vec<Mark>,
+    names: (u16, u16),
+    pool: &Pool<'_>,
+    texts: &[JudgedText],
+    known: &Known<'_>,
+    labelled: &Labelled,
+) -> Result<(), LinkError>
+    requires texts { AreTexts pool.now texts.now }
+    requires few { length labelled.now.code < 2 ^ 32 }
+    ensures { OnOk result (Gains (MarksOf names (KnownCode known.now pool.now labelled.now)) marks.old.items marks.new.items) }
+{
+    add_instr_marks(marks, names, pool, texts, known, labelled.code.as_slice())?;
+    add_handler_marks(marks, names, pool, known, labelled.ranges.as_slice())
+}

@@ -1,0 +1,11 @@
+pub mod Climbs
+pub mod Finding
+pub mod Knowing
+pub mod Levels
+pub mod Lists
+pub mod Marks
+pub mod Resolution
+pub mod Searches
+pub mod Specials
+pub mod Subclasses
+pub mod Walks

@@ -1,0 +1,17 @@
+use Rattle.std.proofs.Common.{◌<◌, length, subst, sym, ◌∙◌, arith}
+use Rattle.dj_linking.specs.declared.above.Known.{Known}
+use Rattle.dj_linking.specs.Numbers.{AreKnown, lists_of}
+use Rattle.dj_linking.proofs.Knowing.{known_learnt}
+use Rattle.dj_linking.proofs.Marks.{mark_at}
+use Rattle.dj_linking.proofs.above.Known.learn.Goals as goal
+use Rattle.dj_linking.proofs.above.Known.learn.Goals.{then-not-index+in_ok-list, else-not-index}
+
+pub returns : goal.returns
+returns c = elim c.if-not-index.branch [
+  | then-not-index+in_ok-list w ↦
+      (let within : c.args.class < length c.args.self.now.marks.items = omega (arith, c.requires.there, c.requires.known.marks_count) in
+      subst (λ (known : Known). AreKnown c.args.table.now (lists_of known.lists.items) known.marks.items) (sym w.self-is)
+      (known_learnt c.args.table.now c.args.self.now.lists.items c.args.self.now.marks.items c.args.class w.in_ok-list.list c.requires.known c.requires.there
+      (mark_at c.args.self.now.marks.items c.args.class c.index.result.now within c.index.ensures ∙ w.if-not-index.true) w.in_ok-list.ensures.list w.in_ok-list.ensures.enough))
+  | else-not-index w ↦ subst (λ (known : Known). AreKnown c.args.table.now (lists_of known.lists.items) known.marks.items) (sym w.self-is) c.requires.known
+]

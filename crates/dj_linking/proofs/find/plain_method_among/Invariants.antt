@@ -1,0 +1,9 @@
+use Rattle.dj_model.specs.Linking.{is_plain}
+use Rattle.dj_declared.specs.Files.{desc_in}
+use Rattle.dj_linking.specs.Numbers.{method_found}
+use Rattle.dj_linking.proofs.Finding.{IsSearched}
+use Rattle.dj_linking.proofs.find.plain_method_among.Given as goal
+
+-- nothing so far
+abbrev pub invariant-loop-class : goal.invariant-loop-class
+invariant-loop-class l = IsSearched (method_found l.table is_plain l.name (desc_in l.desc)) l.classes l.class-index

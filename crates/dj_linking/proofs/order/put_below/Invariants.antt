@@ -1,0 +1,7 @@
+use Rattle.std.proofs.Common.{length}
+use Rattle.dj_linking.specs.Numbers.{AreInside, lists_of}
+use Rattle.dj_linking.proofs.order.put_below.Given as goal
+
+-- so far
+abbrev pub invariant-loop-interface : goal.invariant-loop-interface
+invariant-loop-interface l = AreInside (length l.initial.below) (lists_of l.below)

@@ -1,0 +1,7 @@
+use Rattle.std.proofs.Common.{length}
+use Rattle.dj_linking.specs.Numbers.{AreBelow}
+use Rattle.dj_linking.proofs.order.release.Given as goal
+
+-- so far
+abbrev pub invariant-loop-class : goal.invariant-loop-class
+invariant-loop-class l = AreBelow (length l.initial.left) l.order.items

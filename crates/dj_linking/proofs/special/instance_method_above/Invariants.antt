@@ -1,0 +1,10 @@
+use Rattle.dj_model.specs.Linking.{is_not_static}
+use Rattle.dj_declared.specs.Files.{desc_in}
+use Rattle.dj_classes.specs.Tables.{super_number}
+use Rattle.dj_linking.specs.Numbers.{method_found, most_above}
+use Rattle.dj_linking.proofs.Climbs.{IsClimbed}
+use Rattle.dj_linking.proofs.special.instance_method_above.Given as goal
+
+-- nothing so far
+abbrev pub invariant-loop : goal.invariant-loop
+invariant-loop l = IsClimbed (method_found l.table is_not_static l.name (desc_in l.desc)) l.table most_above (super_number l.table l.class) l.counter l.next

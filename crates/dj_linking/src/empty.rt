@@ -1,0 +1,16 @@
+ghost use Rattle.std.specs.Prelude.{◌≡◌, [], replicate, IfOk};
+ghost use Rattle.dj_linking.specs.Numbers.{lists_of};
+
+use dj_classes::TableError;
+use std::alloc::Global;
+
+/// As many lists, with nothing in them.
+pub fn empty_lists(alloc: Global, count: usize) -> Result<Vec<Vec<u32>>, TableError>
+    ensures { IfOk result (λ lists. lists_of lists.items ≡ replicate count []) }
+{
+    let mut lists = Vec::new(alloc);
+    for _ in 0..count {
+        lists.push(Vec::new(alloc))?;
+    }
+    Ok(lists)
+}

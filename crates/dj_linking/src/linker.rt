@@ -1,0 +1,128 @@
+ghost use Rattle.std.specs.Prelude.{◌≡◌, ◌<◌, length, Some, IfOk};
+ghost use Rattle.std.specs.Option.{option_map};
+ghost use Rattle.dj_classes.specs.Tables.{method_there, field_there};
+ghost use Rattle.dj_declared.specs.Members.{IsDescriptor};
+ghost use Rattle.dj_model.specs.Types.{object_name};
+ghost use Rattle.dj_model.specs.Linking.{FoundMethod, is_subclass, special_method};
+ghost use Rattle.dj_declared.specs.Files.{desc_in};
+ghost use Rattle.dj_linking.specs.Numbers.{IsNamed, TellsMethod};
+ghost use Rattle.dj_linking.specs.Linked.{Linked, prefix_of, class_name, resolved_method, resolved_field};
+
+use crate::above::interfaces_above;
+use crate::ancestors::is_above;
+use crate::find::{field_up, method_first, plain_method_up};
+use crate::special::{instance_method_above, is_superclass};
+use dj_classes::{ClassTable, Place, TableError};
+use std::alloc::Global;
+use std::marker::Model;
+
+/// Under which names Object, String and the library's other classes stand.
+#[derive(Clone, Copy, Debug, PartialEq, Eq)]
+pub enum BaseNames {
+    /// Their own.
+    Plain,
+    /// Those of rewritten classes, within the package `sandbox`.
+    Sandbox,
+}
+
+/// Classes among which fields and methods are resolved.
+#[derive(Drop)]
+pub struct Linker {
+    table: ClassTable,
+    base: BaseNames,
+    above: Vec<Vec<u32>>,
+}
+
+impl Model for Linker {
+    ghost use Rattle.dj_linking.specs.Linked.{Linked, prefix_of};
+
+    ghost Value = { Linked };
+
+    ghost use Rattle.dj_linking.specs.Numbers.{AreAbove, lists_of};
+
+    ghost view = { λ linker. record { program = linker.table; prefix = prefix_of linker.base } };
+
+    ghost invariant = { λ linker. AreAbove linker.table (lists_of linker.above.items) };
+}
+
+// The name of Object.
+fn object_of(base: BaseNames) -> &'static [u8]
+    ensures { result.now ≡ object_name (prefix_of base) }
+{
+    match base {
+        BaseNames::Plain => b"java/lang/Object",
+        BaseNames::Sandbox => b"sandbox/java/lang/Object",
+    }
+}
+
+impl Linker {
+    /// Makes what resolution needs of the classes.
+    pub fn of(alloc: Global, table: ClassTable, base: BaseNames) -> Result<Linker, TableError>
+        ensures { IfOk result (λ linker. linker ≡ record { program = table; prefix = prefix_of base }) }
+    {
+        let above = interfaces_above(alloc, &table)?;
+        Ok(Linker { table, base, above })
+    }
+
+    /// The classes.
+    pub fn classes(&self) -> &ClassTable
+        ensures { result.now ≡ self.now.program }
+    {
+        &self.table
+    }
+
+    /// The method to which a name and a descriptor resolve in a class (JVMS 5.4.3.3 and 5.4.3.4).
+    pub fn resolve_method(&self, class: u32, name: &[u8], desc: &[u8]) -> Option<Place>
+        requires there { class < length self.now.program }
+        requires described { IsDescriptor desc.now }
+        ensures { option_map (method_there self.now.program) result ≡ option_map Some (resolved_method self.now class name.now desc.now) }
+    {
+        self.table.names_differ();
+        let object = self.table.class_named(object_of(self.base));
+        match method_first(&self.table, object, class, name, desc) {
+            Some(place) => Some(place),
+            None => plain_method_up(&self.table, &self.above, class, name, desc),
+        }
+    }
+
+    /// The field to which a name and a descriptor resolve in a class (JVMS 5.4.3.2).
+    pub fn resolve_field(&self, class: u32, name: &[u8], desc: &[u8]) -> Option<Place>
+        requires there { class < length self.now.program }
+        requires described { IsDescriptor desc.now }
+        ensures { option_map (field_there self.now.program) result ≡ option_map Some (resolved_field self.now class name.now desc.now) }
+    {
+        self.table.names_differ();
+        field_up(&self.table, &self.above, class, name, desc)
+    }
+
+    /// Whether a class is the other one, or has it above it (JVMS 4.10.1.2).
+    pub fn is_subclass(&self, class: u32, ancestor: u32) -> bool
+        requires there { class < length self.now.program }
+        requires ancestor { ancestor < length self.now.program }
+        ensures { result ≡ is_subclass self.now.program (class_name self.now.program class) (class_name self.now.program ancestor) }
+    {
+        self.table.names_differ();
+        is_above(&self.table, &self.above, class, ancestor)
+    }
+
+    /// The method that `invokespecial` takes in a class for the one to which its operand resolves (JVMS 6.5): the method has this name and this descriptor.
+    pub fn special_method(
+        &self,
+        class: u32,
+        resolved: Place,
+        name: &[u8],
+        desc: &[u8],
+    ) -> Option<Place>
+        requires there { class < length self.now.program }
+        requires described { IsDescriptor desc.now }
+        ensures { (found : FoundMethod) → IsNamed self.now.program resolved found name.now (desc_in desc.now)
+            → TellsMethod self.now.program result (special_method self.now.program (class_name self.now.program class) found) }
+    {
+        self.table.names_differ();
+        if name != b"<init>".as_slice() && is_superclass(&self.table, class, resolved.class) {
+            instance_method_above(&self.table, class, name, desc)
+        } else {
+            Some(resolved)
+        }
+    }
+}

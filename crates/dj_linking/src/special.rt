@@ -1,0 +1,67 @@
+ghost use Rattle.std.specs.Prelude.{◌≡◌, ◌<◌, length};
+ghost use Rattle.dj_model.specs.Linking.{is_not_static};
+ghost use Rattle.dj_declared.specs.Members.{IsDescriptor};
+ghost use Rattle.dj_declared.specs.Files.{desc_in};
+ghost use Rattle.dj_classes.specs.Tables.{super_number};
+ghost use Rattle.dj_linking.specs.Numbers.{TellsMethod, first_some, has, method_found, most_above, numbers_up};
+
+use crate::find::STATIC;
+use dj_classes::{ClassTable, Place};
+
+// So many levels are above a class at most.
+const MOST_ABOVE: u64 = 4_294_967_295;
+
+// The method of the name and the descriptor that a class declares, where it isn't static.
+fn instance_method_in(table: &ClassTable, class: u32, name: &[u8], desc: &[u8]) -> Option<Place>
+    requires there { class < length table.now }
+    requires described { IsDescriptor desc.now }
+    ensures { TellsMethod table.now result (method_found table.now is_not_static name.now (desc_in desc.now) class) }
+{
+    let member = table.method_named(class, name, desc)?;
+    let flags = table.method_flags(class, member);
+    if flags & STATIC == 0 {
+        Some(Place { class, member })
+    } else {
+        None
+    }
+}
+
+/// The first method of the superclasses of a class that isn't static.
+pub fn instance_method_above(
+    table: &ClassTable,
+    class: u32,
+    name: &[u8],
+    desc: &[u8],
+) -> Option<Place>
+    requires there { class < length table.now }
+    requires described { IsDescriptor desc.now }
+    ensures { TellsMethod table.now result (first_some (method_found table.now is_not_static name.now (desc_in desc.now)) (numbers_up most_above table.now (super_number table.now class))) }
+{
+    let mut next = table.super_of(class);
+    for _ in 0..MOST_ABOVE {
+        let at = next?;
+        if let Some(place) = instance_method_in(table, at, name, desc) {
+            return Some(place);
+        }
+        next = table.super_of(at);
+    }
+    None
+}
+
+/// Whether a class is one of the superclasses of another.
+pub fn is_superclass(table: &ClassTable, class: u32, other: u32) -> bool
+    requires { class < length table.now }
+    ensures { result ≡ has (numbers_up most_above table.now (super_number table.now class)) other }
+{
+    let mut next = table.super_of(class);
+    for _ in 0..MOST_ABOVE {
+        let Some(at) = next else {
+            return false;
+        };
+        if at == other {
+            return true;
+        }
+        next = table.super_of(at);
+    }
+    false
+}

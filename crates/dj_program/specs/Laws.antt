@@ -1,0 +1,22 @@
+-- Laws of programs of class files.
+use Rattle.std.specs.Prelude.{◌≡◌, ⊤, List, [], ◌∷◌, map}
+use Rattle.dj_names.specs.Library.{Library}
+use Rattle.dj_class.specs.ClassFile.{ClassFile}
+use Rattle.dj_model.specs.Program.{Program}
+use Rattle.dj_check.specs.Malformed.{IsFaulty}
+use Rattle.dj_classes.specs.Tables.{declared_program}
+use Rattle.dj_declared.specs.Files.{bare_class}
+use Rattle.dj_program.specs.Programs.{IsProgramIn}
+
+-- none of the files has a faulty part
+abbrev pub AreWhole : List ClassFile → Type 0
+AreWhole [] = ⊤
+AreWhole (c ∷ files) = (IsFaulty c → ⊥) × AreWhole files
+
+-- files without faulty parts have one program at most
+abbrev pub OneProgram : Type 0
+OneProgram = (library : Library) (files : List ClassFile) (a b : Program) → AreWhole files → IsProgramIn library files a → IsProgramIn library files b → a ≡ b
+
+-- without its code and its constants it is the program as the files declare it
+abbrev pub BareIsDeclared : Type 0
+BareIsDeclared = (library : Library) (files : List ClassFile) (program : Program) → IsProgramIn library files program → map bare_class program ≡ declared_program library files

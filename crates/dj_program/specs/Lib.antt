@@ -1,0 +1,4 @@
+pub mod Naming
+pub mod Codes
+pub mod Programs
+pub mod Laws

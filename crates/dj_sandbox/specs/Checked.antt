@@ -1,0 +1,35 @@
+-- What `check` judges: the rules 1 to 16, and the rules 17 and 18 where the rules 1 to 6 hold of the whole set.
+use Rattle.std.specs.Prelude.{◌<◌, ◌⊎◌, ⊤, List, [], ◌∷◌}
+use Rattle.dj_edge.specs.Held.{File}
+use Rattle.dj_names.specs.Library.{deterministic_library}
+use Rattle.dj_class.specs.ClassFile.{ClassFile}
+use Rattle.dj_report.specs.declared.report.Violation.{Violation}
+use Rattle.dj_report.specs.Lines.{AreExactly}
+use Rattle.dj_check.specs.Malformed.{IsGood}
+use Rattle.dj_check.specs.Rules.{IsEarlyLine}
+use Rattle.dj_classes.specs.Tables.{declared_program}
+use Rattle.dj_link.specs.Lines.{IsLinkLine}
+
+-- the class files of the files, side by side; none violates rule 1
+abbrev pub AreGoodFiles : List File → List ClassFile → Type 0
+AreGoodFiles [] [] = ⊤
+AreGoodFiles (file ∷ files) (c ∷ classes) = IsGood file.1 c × AreGoodFiles files classes
+AreGoodFiles files classes = ⊥
+
+-- none of the rules 1 to 6 is violated
+abbrev pub HoldsHierarchy : List File → Type 0
+HoldsHierarchy files = (v : Violation) → IsEarlyLine files v → 6 < v.rule
+
+-- a line of the rules 17 and 18, of the program of all classes and the deterministic library
+pub record IsLateLine (files : List File) (v : Violation) : Type 0 where
+  pub hierarchy : HoldsHierarchy files
+  pub classes : List ClassFile
+  pub good : AreGoodFiles files classes
+  pub line : IsLinkLine (declared_program deterministic_library classes) files v
+
+abbrev pub IsCheckLine : List File → Violation → Type 0
+IsCheckLine files v = IsEarlyLine files v ⊎ IsLateLine files v
+
+-- all violations that are judged, in order, each once
+abbrev pub AreCheckViolations : List File → List Violation → Type 0
+AreCheckViolations files = AreExactly (IsCheckLine files)
