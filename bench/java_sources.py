@@ -137,16 +137,16 @@ def source(draw, package, name, other):
 
 
 def compile_classes(draw, count, batches, sources, classes):
-    """Makes so many class files in the folder `classes`; their paths in an order in which each prefix is a mixture."""
+    """Makes so many class files in the folder `classes`; their paths in an order in which each prefix is a mixture, and names no class after it."""
     paths = []
     for batch in range(batches):
         package = "real.p%02d" % batch
         names = ["C%05d" % number for number in range(batch, count, batches)]
         here = os.path.join(sources, package.replace(".", os.sep))
         os.makedirs(here)
-        for name in names:
+        for place, name in enumerate(names):
             with open(os.path.join(here, name + ".java"), "w", encoding="ascii") as file:
-                file.write(source(draw, package, name, draw.choice(names)))
+                file.write(source(draw, package, name, draw.choice(names[: place + 1])))
         listed = [os.path.join(here, name + ".java") for name in names]
         compiler = ["javac", "-J-XX:+UseSerialGC", "-J-XX:TieredStopAtLevel=1", "-Xlint:-options", "-nowarn", "-proc:none"]
         ran = subprocess.run([*compiler, "--release", "8", "-d", classes, *listed])
