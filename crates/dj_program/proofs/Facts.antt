@@ -1,5 +1,5 @@
 -- What indexes name, instructions, and constants of fields by plain values.
-use Rattle.std.proofs.Common.{◌≡◌, ℕ, pos, List, [], ◌∷◌, map, Some, None, refl, codes}
+use Rattle.std.proofs.Common.{◌≡◌, ℕ, pos, List, [], ◌∷◌, map, Some, None, refl, inl, inr, codes}
 use Rattle.dj_names.specs.declared.descriptor.Base.TheVariants as bases
 use Rattle.dj_names.specs.declared.descriptor.Desc.TheVariants as descs
 use Rattle.dj_names.specs.declared.run.Value.TheVariants as values
@@ -12,12 +12,14 @@ use Rattle.dj_ops.specs.declared.instruction.Instr.TheVariants as instrs
 use Rattle.dj_pool.specs.Pool.{Constant, Utf8, Integer, Float, Long, Hole, Class, Text, Field, Method, InterfaceMethod, NameAndType, Dynamic}
 use Rattle.dj_class.specs.ClassFile.{MemberInfo}
 use Rattle.dj_model.specs.Types.{Member}
-use Rattle.dj_model.specs.Instructions.{AnInt, ALong, AText, AClass, AField, AMethod, AnInterfaceMethod, Another, Nop, Push, Goto, GetField, Invoke, Virtual, Other}
+use Rattle.dj_model.specs.Instructions.{AnInt, ALong, AText, AClass, AField, AMethod, AnInterfaceMethod, Another, Nop, Push, Goto, Return, GetField, Invoke, Virtual, Other}
 use Rattle.dj_model.specs.Opcodes.{instruction_of, simple}
 use Rattle.dj_model.specs.Program as programs
+use Rattle.dj_model.specs.Program.{Code, Abstract, Runs}
 use Rattle.dj_declared.specs.Files.{desc_in, type_in}
 use Rattle.dj_program.specs.Naming.{units_in, named_at, named_by, instruction_in, constant_in}
-use Rattle.dj_program.specs.Codes.{catches_in, HasFrames}
+use Rattle.dj_program.specs.Codes.{CodeParts, code_in, catches_in, HasFrames}
+use Rattle.dj_program.specs.Programs.{IsBodyIn}
 
 -- 1 and 2 the class A, 3 to 5 a field of it, 6 an int, 7 and 8 a long, 9 and 10 a string, 11 a float, 12 to 15 a method of an array, 16 its like of an
 -- interface, 17 what invokedynamic names, 18 the name of constants of fields
@@ -74,6 +76,44 @@ other_instructions = refl
 catches : (catches_in pool 0 ≡ None) × (catches_in pool 2 ≡ Some (AClass (class_type (codes "A"))))
 unfolding pool named_by desc_in type_in dims_read name_read class_read of_read type_read params_read field_read return_read method_read desc_read reads_class_name
 catches = (refl, refl)
+
+-- nop, nop and return, a range over the first two, and its handler, which is the second
+abbrev parts : CodeParts
+parts = record {
+  max_stack = 4;
+  max_locals = 3;
+  labelled = record { code = instrs.Simple 0 ∷ instrs.Simple 0 ∷ instrs.Simple 177 ∷ []; ranges = record { start = 0; end = 2; handler = 1; catch_type = 2 } ∷ [] };
+  frames = Some [];
+}
+
+abbrev code_there : Code
+code_there = record {
+  max_stack = 4;
+  max_locals = 3;
+  instructions = Nop ∷ Nop ∷ Return None ∷ [];
+  ranges = record { start = 0; end = 2; handler = 1; catches = Some (AClass (class_type (codes "A"))) } ∷ [];
+  frames = Some [];
+}
+
+whole_code : code_in pool parts ≡ code_there
+unfolding pool code_in named_by desc_in type_in dims_read name_read class_read of_read type_read params_read field_read return_read method_read desc_read reads_class_name instruction_of simple
+whole_code = refl
+
+-- ---- bodies
+
+abbrev with_flags : ℕ → MemberInfo
+with_flags flags = record { flags = flags; name = 1; desc = 19; attributes = [] }
+
+-- native (0x0100) and abstract (0x0400)
+bodiless : IsBodyIn pool (with_flags 257) Abstract × IsBodyIn pool (with_flags 1025) Abstract
+bodiless = (inl (refl, refl), inl (refl, refl))
+
+-- a static method has code, and a native one has none
+bodies_not : (IsBodyIn pool (with_flags 9) Abstract → ⊥) × (IsBodyIn pool (with_flags 257) (Runs code_there) → ⊥)
+bodies_not = (
+  λ is. elim is [ inl (t, e) ↦ absurd cc | inr (f, code, tells, e) ↦ absurd cc ],
+  λ is. elim is [ inl (t, e) ↦ absurd cc | inr (f, code, tells, e) ↦ absurd cc ],
+)
 
 -- without a stack map the frames are an empty list, and they are not none
 no_map : HasFrames (0 ∷ []) [] (Some []) × (HasFrames (0 ∷ []) [] None → ⊥)
