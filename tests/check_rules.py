@@ -1,5 +1,5 @@
 """The rules 1 to 16, by which `djvm check` judges a set of class files; part of the reference implementation, reference.py. Those
-of what instructions name, 17 and 18, stand in link_rules.py.
+of what instructions name, 17 and 18, stand in link_rules.py, and 19 in shape_rules.py.
 
 They were written from the description of the rules and from the JVM Specification SE 8, chapters 4 and 6, and share nothing
 with the program. A line is a path, a member (empty for none), an instruction's number (-1 for none), and a rule's number.
@@ -46,6 +46,7 @@ RULES = {
     16: "INTERFACE_CODE",
     17: "WHITELIST",
     18: "UNRESOLVED",
+    19: "SHAPE",
 }
 
 # Flags of classes and methods (JVMS tables 4.1-B and 4.6-A).
@@ -95,7 +96,7 @@ class Code(Reader):
 
     def __init__(self, body, pool):
         super().__init__(body)
-        self.bytes(4)  # max_stack and max_locals
+        self.max_stack, self.max_locals = self.number(2), self.number(2)
         length = self.number(4)
         if not 0 < length < 65536:
             raise Malformed
@@ -145,11 +146,11 @@ INVOKEINTERFACE, INVOKEDYNAMIC, NEWARRAY, WIDE, MULTIANEWARRAY, BREAKPOINT = 185
 
 
 class Instruction:
-    """Its address, its opcode (behind `wide` that of what is wide), the index of a constant or None, the base type of
-    newarray or None, and the addresses to which it may go."""
+    """Its address, its opcode (behind `wide` that of what is wide), the index of a constant, the base type of newarray, the slot
+    of a local variable and the count of invokeinterface, each or None, and the addresses to which it may go."""
 
     def __init__(self, at, op):
-        self.at, self.op, self.constant, self.base, self.targets = at, op, None, None, []
+        self.at, self.op, self.constant, self.base, self.slot, self.count, self.targets = at, op, None, None, None, None, []
 
 
 def instructions(code):
@@ -167,7 +168,8 @@ def instruction(reader):
         made.op = reader.number(1)
         if made.op not in (*WITH_SLOT, IINC):
             raise Malformed
-        reader.bytes(4 if made.op == IINC else 2)
+        made.slot = reader.number(2)
+        reader.bytes(2 if made.op == IINC else 0)
     elif made.op in OPERANDS:
         read_operands(made, reader.bytes(OPERANDS[made.op]))
     else:
@@ -185,6 +187,10 @@ def read_operands(made, operands):
         made.targets = [made.at + int.from_bytes(operands, "big", signed=True)]
     elif op == NEWARRAY:
         made.base = operands[0]
+    elif op in WITH_SLOT or op == IINC:
+        made.slot = operands[0]
+    if op == INVOKEINTERFACE:
+        made.count = operands[2]
     is_bad = op == NEWARRAY and not 4 <= operands[0] <= 11
     is_bad = is_bad or op == INVOKEINTERFACE and (operands[2] == 0 or operands[3] != 0)
     is_bad = is_bad or op == INVOKEDYNAMIC and operands[2:] != b"\0\0"
@@ -224,19 +230,22 @@ TYPE_FLOAT, TYPE_DOUBLE, TYPE_OBJECT, TYPE_UNINITIALIZED = 2, 3, 7, 8
 
 
 class StackMap(Reader):
-    """The types of all frames of a stack map, whose frames stand at instructions."""
+    """The frames of a stack map, which stand at instructions: the address of each, its tag, and its lists of types. A type is its tag
+    and the number that stands behind it, or None."""
 
     def __init__(self, body, starts):
         super().__init__(body)
-        self.starts, self.types, address = set(starts), [], -1
+        self.starts, self.frames, address = set(starts), [], -1
         for _ in range(self.number(2)):
-            address += 1 + self.frame()
+            delta, tag, lists = self.frame()
+            address += 1 + delta
             if address not in self.starts:
                 raise Malformed
+            self.frames.append((address, tag, lists))
         self.end()
 
     def frame(self):
-        """The delta of a frame, whose types are read."""
+        """The delta of a frame, its tag and its types."""
         tag = self.number(1)
         if 128 <= tag <= 246:
             raise Malformed
@@ -245,26 +254,26 @@ class StackMap(Reader):
         else:
             delta = self.number(2)
             counts = {247: [1], 252: [1], 253: [2], 254: [3], 255: [None, None]}.get(tag, [])
-        for count in counts:
-            self.read_types(self.number(2) if count is None else count)
-        return delta
+        return delta, tag, [self.read_types(self.number(2) if count is None else count) for count in counts]
 
     def read_types(self, count):
-        for _ in range(count):
-            tag = self.number(1)
-            index = self.number(2) if tag in (TYPE_OBJECT, TYPE_UNINITIALIZED) else None
-            if tag > 8 or tag == TYPE_UNINITIALIZED and index not in self.starts:
-                raise Malformed
-            self.types.append(tag)
+        return [self.read_type() for _ in range(count)]
+
+    def read_type(self):
+        tag = self.number(1)
+        index = self.number(2) if tag in (TYPE_OBJECT, TYPE_UNINITIALIZED) else None
+        if tag > 8 or tag == TYPE_UNINITIALIZED and index not in self.starts:
+            raise Malformed
+        return tag, index
 
 
 def has_float_frame(code):
     """Whether the stack map has a float or a double; bytes that are no stack map have none."""
     try:
-        found = [type for body in code.maps for type in StackMap(body, code.starts).types]
+        frames = [frame for body in code.maps for frame in StackMap(body, code.starts).frames]
     except Malformed:
         return False
-    return TYPE_FLOAT in found or TYPE_DOUBLE in found
+    return any(tag in (TYPE_FLOAT, TYPE_DOUBLE) for _, _, lists in frames for types in lists for tag, _ in types)
 
 
 # ConstantValue (JVMS 4.7.2).

@@ -31,6 +31,7 @@ from class_files import (
     u4,
 )
 from rule_cases import A_CLASS, AN_INTERFACE, FINAL, NOP, NULL, POP, RETURN, ZERO, case, method
+from shaped_code import Method
 
 GETSTATIC, GETFIELD, INVOKEVIRTUAL, INVOKESTATIC, INVOKEINTERFACE, INVOKEDYNAMIC = 178, 180, 182, 184, 185, 186
 NEW, ANEWARRAY, CHECKCAST, INSTANCEOF, MULTIANEWARRAY, BREAKPOINT = 187, 189, 192, 193, 197, 202
@@ -576,23 +577,20 @@ case(
 
 def rich_class():
     pool = Pool()
-    map_name = pool.text("StackMapTable")
+    pool.text("StackMapTable")
     death, throwable = pool.class_name(ERRORS[0]), pool.class_name("java/lang/Throwable")
     call = pool.add(invoke_dynamic(0, pool.name_and_type("call", "()V")))
     handle, getter = pool.add(method_handle(6, pool.member(METHOD, "Rich", "m", "()V"))), pool.member(METHOD, "Rich", *GET_CLASS)
     matrix, number, text = pool.class_name("[[I"), pool.add(LONG), pool.string("x")
-    switches = [
-        *(ZERO, NOP, b"\xaa\0", u4(14 + 8), u4(1), u4(2), u4(22), u4(2**32 - 2)),  # tableswitch, at 2
-        *(ZERO, NOP, NOP, b"\xab", u4(25), u4(2), u4(3), u4(25), u4(4), u4(2**32 - 27)),  # lookupswitch, at 27
-        *(b"\xc4\x84\0\1\0\1", b"\xc4\x15\0\1", b"\x99\0\3", b"\xc8\0\0\0\5", RETURN),
-    ]
-    frames = u2(3) + b"\x18" + b"\x5b\x01" + b"\xff\0\x0c\0\2\1\4\0\1\7" + u2(throwable)
+    switches = "Top: {same} iconst_0, nop, tableswitch 1 Next Top Next, Next: {same} iconst_0, dup, istore_1, lookupswitch 3 Then 4 Then Then,"
+    switches += "Then: {append top int} wide iinc 1 1, wide iload 1, {stack int} ifeq Last, lconst_0, lstore_2, aconst_null, goto_w Far,"
+    switches += "Far: {full top int long / ref:java/lang/Throwable} pop, Last: {chop 1} return"
     operands = [
         *(names(INVOKEDYNAMIC, call, 0, 0), names(LDC, handle), NULL, names(INVOKEVIRTUAL, getter), names(LDC2_W, number), names(LDC_W, text)),
         *(names(MULTIANEWARRAY, matrix, 2), b"\xbc\x08", names(NEW, throwable), b"\xca", b"\xa8\0\3", b"\xa9\1", RETURN),
     ]
     methods = [
-        method("m", *switches, listed=row(1, map_name) + u4(len(frames)) + frames),
+        Method("m", switches).made(pool)[0],
         method("n", *operands, handlers=[(0, 5, 7, death), (5, 7, 8, throwable), (0, 8, 8, 0)]),
         ("finalize", "()V", PUBLIC | ABSTRACT),
         native("o", "(J[I)V"),

@@ -426,3 +426,17 @@ case(
     "A reflection(Ljava/lang/Throwable;)V 0 11",
     "A reflection(Ljava/lang/Throwable;)V 0 18",
 )
+
+
+# No line of these rules where superclasses go round, and no search for members among them.
+
+pool, below = Pool(), Pool()
+named = {"field": (GETSTATIC, "%s f I"), "method": (STATICALLY, "%s m ()V"), "virtual": (VIRTUAL, "%s n ()V"), "interface": (INTERFACE, "%s o ()V")}
+case(
+    "06-cycle-whose-members-are-named",
+    one("A", pool, *members(pool, **{name: (op, form % "A") for name, (op, form) in named.items()}), super_name="B")
+    | {"B": class_file("B", super_name="A")}
+    | one("C", below, *members(below, **{name: (op, form % "C") for name, (op, form) in named.items()}), super_name="B"),
+    "A 6",
+    "B 6",
+)

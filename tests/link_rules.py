@@ -27,13 +27,13 @@ TAKES |= dict.fromkeys((NEW, ANEWARRAY, CHECKCAST, INSTANCEOF), (CLASS,))
 OF_STATICS = (GETSTATIC, PUTSTATIC, INVOKESTATIC)
 
 
-def lines(files):
-    """The lines of a set by the rules 1 to 18. The last two are judged where the first six hold of all files."""
-    found, good = check_rules.lines(files)
-    if any(rule <= 6 for _, _, _, rule in found):
-        return found
-    classes = {one.name: one for one in LIBRARY} | {view.this_class: SetClass(view) for _, view in good}
-    return found.union(*(lines_of_file(path, view, classes) for path, view in good))
+def lines(good, classes):
+    """The lines of the files without rule 1; they are judged where the first six rules hold of all files."""
+    return set().union(*(lines_of_file(path, view, classes) for path, view in good))
+
+
+def classes_of(good):
+    return {one.name: one for one in LIBRARY} | {view.this_class: SetClass(view) for _, view in good}
 
 
 class SetClass:

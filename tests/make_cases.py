@@ -2,8 +2,8 @@
 """Makes the folders of tests/cases anew.
 
 The class files come from class_files.py, the cases of `djvm verify` from verify_cases.py, those on constant pools from
-pool_cases.py, and those on the rules of `djvm check` from rule_cases.py, code_rule_cases.py, link_rule_cases.py and
-resolution_cases.py. The expected output and status of each case are those of reference.py, a small reference implementation
+pool_cases.py, and those on the rules of `djvm check` from rule_cases.py, code_rule_cases.py, link_rule_cases.py,
+resolution_cases.py, shape_rule_cases.py and shape_instruction_cases.py. The expected output and status of each case are those of reference.py, a small reference implementation
 that was written from the description of the commands and not from the program. The cases on rules say by hand which lines
 they have, and nothing is made where reference.py tells others.
 
@@ -19,11 +19,13 @@ import sys
 sys.dont_write_bytecode = True
 
 import check_rules
-import code_rule_cases  # It adds its cases to those of rule_cases, as the next two and resolution_cases do.
+import code_rule_cases  # It adds its cases to those of rule_cases, as link_rule_cases and those of resolution and shape do.
 import link_rule_cases
 import pool_cases
 import resolution_cases
 import rule_cases
+import shape_instruction_cases
+import shape_rule_cases
 import verify_cases
 from class_files import (
     ABSTRACT,

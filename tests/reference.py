@@ -8,7 +8,7 @@ program:
 
     DJVM=tests/reference.py tests/run
 
-Class files are read by class_reader.py, and the rules of `check` stand in check_rules.py and link_rules.py.
+Class files are read by class_reader.py, and the rules of `check` stand in check_rules.py, link_rules.py and shape_rules.py.
 """
 
 import os
@@ -18,7 +18,7 @@ import sys
 sys.dont_write_bytecode = True
 
 import check_rules
-import link_rules
+import shape_rules
 from class_reader import UTF8, ClassFile, Malformed, Reader, units_of, utf16
 
 MOST_FILES = 4096
@@ -30,8 +30,8 @@ MOST_LEVELS = 64
 
 EXCEPTION, REJECTED, THRESHOLD, LIMIT, USAGE, FAULT, SINK, LATER = 1, 2, 3, 7, 64, 65, 66, 75
 
-# The names of the rules that `verify` judges alone; check_rules.py has the others.
-RULES = {**check_rules.RULES, 19: "SHAPE", 20: "ENTRY"}
+# The name of the rule that `verify` judges alone; check_rules.py has the others.
+RULES = {**check_rules.RULES, 20: "ENTRY"}
 
 # The options of `verify`: the most that each may be, and what stands for it where it isn't given. Straight code is charged for
 # its arrays alone.
@@ -454,7 +454,7 @@ def number_of(options, name):
 def check(folder):
     folder = without_slash(folder)
     files = class_files(folder, listed(folder))
-    lines = link_rules.lines(files)
+    lines = shape_rules.lines(files)
     if lines:
         return rejected(lines)
     return b"ACCEPTED %d\n" % len(files), 0

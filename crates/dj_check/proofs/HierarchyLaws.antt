@@ -1,14 +1,13 @@
 -- The lines of the rule HIERARCHY.
-use Rattle.std.proofs.Common.{◌≡◌, ℕ, ◌+◌, ◌⊎◌, ◌↔◌, Bool, List, [], map, length, Some, refl, sym, ap, ◌∙◌, subst, inl, inr, Contains, IsTrue, slice_get, Bor, Option, None, option_map, option_copied}
+use Rattle.std.proofs.Common.{◌≡◌, ℕ, ◌+◌, ◌⊎◌, ◌↔◌, Bool, List, map, length, Some, refl, sym, ap, ◌∙◌, subst, inl, inr, Contains, IsTrue, slice_get, Bor, Option, None, option_map, option_copied}
 use Rattle.std.proofs.lemmas.Option.{slice_get_within, slice_get-get_or}
 use Rattle.dj_edge.specs.Held.{File}
 use Rattle.dj_labels.proofs.Lists.{contains_at}
 use Rattle.dj_class.specs.ClassFile.{ClassFile}
 use Rattle.dj_report.specs.declared.report.Violation.{Violation}
 use Rattle.dj_report.specs.declared.report.PathFile.{PathFile}
-use Rattle.dj_report.specs.Lines.{Adds, IsLineAmong, file_line}
-use Rattle.dj_report.specs.Order.{IsInOrder}
-use Rattle.dj_report.proofs.Adding.{adds_same, adds_both, exactly_found, contains_map, from_contains_map}
+use Rattle.dj_report.specs.Lines.{Adds, file_line}
+use Rattle.dj_report.proofs.Adding.{adds_same, adds_both, contains_map, from_contains_map}
 use Rattle.dj_rules.specs.Views.{path_file_view}
 use Rattle.dj_library.specs.Heads.{Head}
 use Rattle.dj_hierarchy.specs.declared.head.ClassHead.{ClassHead}
@@ -17,14 +16,12 @@ use Rattle.dj_hierarchy.specs.Judged.{AreJudged}
 use Rattle.dj_hierarchy.specs.Views.{text_of, head_view}
 use Rattle.dj_hierarchy.proofs.Alike.{IsAlike, HaveAlike, alike_itself, alike_back, alike_violate}
 use Rattle.dj_check.specs.declared.hierarchy.Owner.{Owner}
-use Rattle.dj_check.specs.declared.files.Kept.{Kept}
 use Rattle.dj_check.specs.Malformed.{IsGood}
 use Rattle.dj_check.specs.Heads.{head_of, StandsAmong}
-use Rattle.dj_check.specs.Rules.{IsAmongLoneLines, IsDuplicateLine, IsHierarchyLine, IsEarlyLine, AreEarlyViolations}
-use Rattle.dj_check.specs.Doubles.{IsRepeatedLine}
+use Rattle.dj_check.specs.Rules.{IsHierarchyLine}
 use Rattle.dj_check.specs.Gathered.{IsHeadOf}
-use Rattle.dj_check.specs.Kept.{IsMarkedAt, IsMarkedLine, IsOwnersLine, IsOwned, AreOwned, AreKept}
-use Rattle.dj_check.proofs.DoubleLaws.{more_below, beside, from_slice_get_map, to_slice_get_map, duplicate_lines}
+use Rattle.dj_check.specs.Kept.{IsMarkedAt, IsMarkedLine, IsOwnersLine, IsOwned, AreOwned}
+use Rattle.dj_check.proofs.DoubleLaws.{more_below, beside, from_slice_get_map, to_slice_get_map}
 
 -- ---- lines of marks
 
@@ -187,17 +184,6 @@ from_hierarchy files heads owners are v is =
       line = is.line ∙ ap (λ (f : File). file_line f.0 6) (sym seen.2) ∙ ap (λ (p : List ℕ). file_line p 6) (sym at.1.is.path);
     }
 
-hierarchy_lines : (files : List PathFile) (heads : List ClassHead) (owners : List Owner) (a b : List Violation) → AreOwned files heads owners → Adds (IsOwnersLine (map head_view heads) owners) a b → Adds (IsHierarchyLine (map path_file_view files)) a b
+pub hierarchy_lines : (files : List PathFile) (heads : List ClassHead) (owners : List Owner) (a b : List Violation) → AreOwned files heads owners → Adds (IsOwnersLine (map head_view heads) owners) a b → Adds (IsHierarchyLine (map path_file_view files)) a b
 hierarchy_lines files heads owners a b are =
     adds_same (IsOwnersLine (map head_view heads) owners) (IsHierarchyLine (map path_file_view files)) a b (λ v. (to_hierarchy files heads owners are v, from_hierarchy files heads owners are v))
-
--- all lines, put in order
-pub all_early_lines : (files : List PathFile) (kept : Kept) (start lone doubles found lines : List Violation) → start ≡ [] → Adds (IsAmongLoneLines (map path_file_view files)) start lone → AreKept files kept
-    → Adds (IsLineAmong (IsRepeatedLine kept.named.items) kept.named.items) lone doubles → Adds (IsOwnersLine (map head_view kept.heads.items) kept.owners.items) doubles found
-    → IsInOrder lines → ((v : Violation) → Contains lines v ↔ Contains found v) → AreEarlyViolations (map path_file_view files) lines
-all_early_lines files kept start lone doubles found lines none lone_are are doubles_are owners_are in_order members =
-    let seen = map path_file_view files in
-    let rest : Adds (λ v. IsDuplicateLine seen v ⊎ IsHierarchyLine seen v) lone found =
-    adds_both (IsDuplicateLine seen) (IsHierarchyLine seen) lone doubles found (duplicate_lines files kept.named.items lone doubles are.named doubles_are) (hierarchy_lines files kept.heads.items kept.owners.items doubles found are.owned owners_are) in
-    exactly_found (IsEarlyLine seen) found lines
-    (subst (λ (xs : List Violation). Adds (IsEarlyLine seen) xs found) none (adds_both (IsAmongLoneLines seen) (λ v. IsDuplicateLine seen v ⊎ IsHierarchyLine seen v) start lone found lone_are rest)) in_order members

@@ -11,9 +11,9 @@ pub mod Marked
 pub mod Keys
 pub mod DoubleLaws
 pub mod Noted
+pub mod MarkedNames
 pub mod HeadLaws
 pub mod RepeatLaws
-pub mod KeptLaws
 pub mod HierarchyLaws
 mod Facts
 mod BodyFacts

@@ -1,5 +1,5 @@
 -- Texts that are noted, each with an index of it.
-use Rattle.std.proofs.Common.{◌≡◌, ℕ, ◌+◌, ◌≤◌, Bool, true, false, cond, List, Option, Some, None, IsSome, IsSomeAnd, IsTrue, ◌↔◌, option_copied, Bor, [], refl, sym, ap, ◌∙◌, subst, inl, inr, arith, unwrap_or, Ordering}
+use Rattle.std.proofs.Common.{◌≡◌, ℕ, ◌+◌, ◌<◌, ◌≤◌, length, slice_get, Bool, true, false, cond, List, Option, Some, None, IsSome, IsSomeAnd, IsTrue, ◌↔◌, option_copied, Bor, [], refl, sym, ap, ◌∙◌, subst, inl, inr, arith, unwrap_or, Ordering}
 use Rattle.std.specs.declared.cmp.Ordering.TheVariants.{Less, Equal, Greater}
 use Rattle.std.specs.Ordering.{nat_cmp, is_eq}
 use Rattle.std.specs.Cmp.Lexicographic.{slice_cmp}
@@ -12,7 +12,7 @@ use Rattle.dj_pool.specs.Pool.{Constant, text_at}
 use Rattle.dj_check.specs.declared.judged.JudgedText.{JudgedText}
 use Rattle.dj_check.specs.Floats.{HasFloat, NamesFloat}
 use Rattle.dj_check.specs.Classes.{IsReflectiveText, NamesReflectiveText}
-use Rattle.dj_check.specs.Judged.{Indexes, noted_at, number_in, AreNoted, IsNumberedText}
+use Rattle.dj_check.specs.Judged.{Indexes, noted_at, number_in, IsMarked, AreNoted, StandsForIndex, IsNumberedText}
 use Rattle.dj_check.proofs.Judging.{not_told}
 
 abbrev pub bor : List ℕ → Bor (List ℕ)
@@ -54,44 +54,51 @@ not_so : (b : Bool) → b ≡ true → b ≡ false → ⊥
 not_so true t f = absurd cc
 not_so false t f = absurd cc
 
-pub noted_more : (pool : List Constant) (i : ℕ) (old new : Indexes) (key : List ℕ) → text_at pool i ≡ Some key → ((text : List ℕ) → noted_at new text ≡ cond (is_key key text) (Some i) (noted_at old text)) → AreNoted pool i old → AreNoted pool (i + 1) new
-noted_more pool i old new key at updates before = record {
+pub noted_more : (pool : List Constant) (marks : List Bool) (i : ℕ) (old new : Indexes) (key : List ℕ) → text_at pool i ≡ Some key → ((text : List ℕ) → noted_at new text ≡ cond (is_key key text) (Some i) (noted_at old text)) → AreNoted pool marks i old → AreNoted pool marks (i + 1) new
+noted_more pool marks i old new key at updates before = record {
   right = λ text n e. right_more pool i key text n (noted_at old text) (is_key key text) refl at (sym (updates text) ∙ e) (before.right text n);
-  all = λ j text lt is. subst (λ (o : Option ℕ). IsSome o) (sym (updates text)) (there_more i (noted_at old text) (is_key key text) (λ f. elim (cases_eq j i) [
+  all = λ j text lt marked is. subst (λ (o : Option ℕ). IsSome o) (sym (updates text)) (there_more i (noted_at old text) (is_key key text) (λ f. elim (cases_eq j i) [
     | inl same ↦ absurd (not_so (is_key key text) (own_key key text (some_text key text (sym at ∙ subst (λ (k : ℕ). text_at pool k ≡ Some text) same is))) f)
-    | inr apart ↦ before.all j text (omega (arith, lt, apart)) is
+    | inr apart ↦ before.all j text (omega (arith, lt, apart)) marked is
   ]));
 }
 
--- there is no text, or it was noted already
-pub noted_same : (pool : List Constant) (i : ℕ) (indexes : Indexes) → ((text : List ℕ) → text_at pool i ≡ Some text → IsSome (noted_at indexes text)) → AreNoted pool i indexes → AreNoted pool (i + 1) indexes
-noted_same pool i indexes there before = record {
+-- there is no text, or it was noted already, or it isn't marked
+pub noted_same : (pool : List Constant) (marks : List Bool) (i : ℕ) (indexes : Indexes) → ((text : List ℕ) → IsMarked marks i → text_at pool i ≡ Some text → IsSome (noted_at indexes text)) → AreNoted pool marks i indexes
+    → AreNoted pool marks (i + 1) indexes
+noted_same pool marks i indexes there before = record {
   right = before.right;
-  all = λ j text lt is. elim (cases_eq j i) [
-    | inl same ↦ there text (subst (λ (k : ℕ). text_at pool k ≡ Some text) same is)
-    | inr apart ↦ before.all j text (omega (arith, lt, apart)) is
+  all = λ j text lt marked is. elim (cases_eq j i) [
+    | inl same ↦ there text (subst (IsMarked marks) same marked) (subst (λ (k : ℕ). text_at pool k ≡ Some text) same is)
+    | inr apart ↦ before.all j text (omega (arith, lt, apart)) marked is
   ];
 }
+
+not_marked : (found : Option Bool) → found ≡ Some false → found ≡ Some true → ⊥
+not_marked found f t = let e : Some false ≡ Some true = sym f ∙ t in absurd cc
+
+pub noted_unmarked : (pool : List Constant) (marks : List Bool) (i : ℕ) (indexes : Indexes) → slice_get marks i ≡ Some false → AreNoted pool marks i indexes → AreNoted pool marks (i + 1) indexes
+noted_unmarked pool marks i indexes unmarked = noted_same pool marks i indexes (λ text marked is. absurd (not_marked (slice_get marks i) unmarked marked))
 
 none_is : (found : Option (List ℕ)) (text : List ℕ) → found ≡ None → found ≡ Some text → ⊥
 none_is found text none some = let e : None ≡ Some text = sym none ∙ some in absurd cc
 
-pub noted_none : (pool : List Constant) (i : ℕ) (indexes : Indexes) → text_at pool i ≡ None → AreNoted pool i indexes → AreNoted pool (i + 1) indexes
-noted_none pool i indexes none = noted_same pool i indexes (λ text is. absurd (none_is (text_at pool i) text none is))
+pub noted_none : (pool : List Constant) (marks : List Bool) (i : ℕ) (indexes : Indexes) → text_at pool i ≡ None → AreNoted pool marks i indexes → AreNoted pool marks (i + 1) indexes
+noted_none pool marks i indexes none = noted_same pool marks i indexes (λ text marked is. absurd (none_is (text_at pool i) text none is))
 
-pub noted_again : (pool : List Constant) (i : ℕ) (indexes : Indexes) (key : List ℕ) → text_at pool i ≡ Some key → IsSome (noted_at indexes key) → AreNoted pool i indexes → AreNoted pool (i + 1) indexes
-noted_again pool i indexes key at there = noted_same pool i indexes (λ text is. subst (λ (t : List ℕ). IsSome (noted_at indexes t)) (some_text key text (sym at ∙ is)) there)
+pub noted_again : (pool : List Constant) (marks : List Bool) (i : ℕ) (indexes : Indexes) (key : List ℕ) → text_at pool i ≡ Some key → IsSome (noted_at indexes key) → AreNoted pool marks i indexes → AreNoted pool marks (i + 1) indexes
+noted_again pool marks i indexes key at there = noted_same pool marks i indexes (λ text marked is. subst (λ (t : List ℕ). IsSome (noted_at indexes t)) (some_text key text (sym at ∙ is)) there)
 
 -- before the first index
-pub none_noted : (pool : List Constant) (indexes : Indexes) → indexes.entries ≡ [] → AreNoted pool 0 indexes
-none_noted pool indexes empty = record {
+pub none_noted : (pool : List Constant) (marks : List Bool) (indexes : Indexes) → indexes.entries ≡ [] → AreNoted pool marks 0 indexes
+none_noted pool marks indexes empty = record {
   right = λ text index e. (let none : None ≡ Some index = sym (ap (λ (es : List (Bor (List ℕ) × ℕ)). lookup (is_at (λ (key : Bor (List ℕ)). slice_cmp nat_cmp text key.now)) es) empty) ∙ e in absurd cc);
-  all = λ index text lt is. absurd (omega (arith, lt));
+  all = λ index text lt marked is. absurd (omega (arith, lt));
 }
 
 -- past the last index
-pub all_noted : (pool : List Constant) (count i : ℕ) (indexes : Indexes) → count ≤ i → AreNoted pool i indexes → AreNoted pool count indexes
-all_noted pool count i indexes le are = record { right = are.right; all = λ index text lt is. are.all index text (omega (arith, lt, le)) is }
+pub all_noted : (pool : List Constant) (marks : List Bool) (count i : ℕ) (indexes : Indexes) → count ≤ i → AreNoted pool marks i indexes → AreNoted pool marks count indexes
+all_noted pool marks count i indexes le are = record { right = are.right; all = λ index text lt marked is. are.all index text (omega (arith, lt, le)) marked is }
 
 -- the text of a look-up
 pub copied_some : (found : Option (Bor (List ℕ))) (at : Option (List ℕ)) (key : Bor (List ℕ)) → option_copied found ≡ at → found ≡ Some key → at ≡ Some key.now
@@ -113,23 +120,36 @@ is_number pool index n indexes key text at noted is = number_of (noted_at indexe
 told_some : (P : List ℕ → Type 0) (b : Bool) (found : Option (List ℕ)) (key : List ℕ) → found ≡ Some key → (IsTrue b ↔ P key) → IsTrue b ↔ IsSomeAnd found P
 told_some P b found key at told = subst (λ (o : Option (List ℕ)). IsTrue b ↔ IsSomeAnd o P) (sym at) told
 
-pub numbered_some : (pool : List Constant) (index : ℕ) (indexes : Indexes) (count : ℕ) (key : List ℕ) (text : JudgedText) → text_at pool index ≡ Some key → AreNoted pool count indexes → (IsTrue text.float ↔ HasFloat key)
-    → (IsTrue text.reflective ↔ IsReflectiveText key) → noted_at indexes key ≡ Some text.first → IsNumberedText (number_in indexes) pool index text
-numbered_some pool index indexes count key text at are float reflective noted = record {
+pub numbered_some : (pool : List Constant) (marks : List Bool) (index : ℕ) (indexes : Indexes) (count : ℕ) (key : List ℕ) (text : JudgedText) (marked : Bool) → slice_get marks index ≡ Some marked → text_at pool index ≡ Some key
+    → AreNoted pool marks count indexes → (IsTrue text.float ↔ HasFloat key) → (IsTrue text.reflective ↔ IsReflectiveText key) → StandsForIndex (noted_at indexes key) index marked text.first → IsNumberedText (number_in indexes) marks pool index text
+numbered_some pool marks index indexes count key text true here at are float reflective noted = record {
   means = record {
     float = told_some HasFloat text.float (text_at pool index) key at float;
     reflective = told_some IsReflectiveText text.reflective (text_at pool index) key at reflective;
     first = are.right key text.first noted ∙ sym at;
   };
-  number = λ t is. is_number pool index text.first indexes key t at noted is;
+  number = λ t own is. is_number pool index text.first indexes key t at noted is;
+}
+numbered_some pool marks index indexes count key text false here at are float reflective same = record {
+  means = record {
+    float = told_some HasFloat text.float (text_at pool index) key at float;
+    reflective = told_some IsReflectiveText text.reflective (text_at pool index) key at reflective;
+    first = ap (text_at pool) same;
+  };
+  number = λ t own is. absurd (not_marked (slice_get marks index) here own);
 }
 
-pub numbered_none : (numbers : List ℕ → ℕ) (pool : List Constant) (index : ℕ) (text : JudgedText) → text_at pool index ≡ None → text.float ≡ false → text.reflective ≡ false → text.first ≡ index → IsNumberedText numbers pool index text
-numbered_none numbers pool index text none float reflective first = record {
+-- an index that is marked has its text noted
+pub noted_where_marked : (pool : List Constant) (marks : List Bool) (index : ℕ) (indexes : Indexes) (key : List ℕ) (marked : Bool) → slice_get marks index ≡ Some marked → index < length marks → text_at pool index ≡ Some key
+    → AreNoted pool marks (length marks) indexes → IsTrue marked → IsSome (noted_at indexes key)
+noted_where_marked pool marks index indexes key marked here lt at are t = are.all index key lt (here ∙ ap Some t) at
+
+pub numbered_none : (numbers : List ℕ → ℕ) (marks : List Bool) (pool : List Constant) (index : ℕ) (text : JudgedText) → text_at pool index ≡ None → text.float ≡ false → text.reflective ≡ false → text.first ≡ index → IsNumberedText numbers marks pool index text
+numbered_none numbers marks pool index text none float reflective first = record {
   means = record {
     float = subst (λ (b : Bool). IsTrue b ↔ NamesFloat pool index) (sym float) (not_told (text_at pool index) HasFloat none);
     reflective = subst (λ (b : Bool). IsTrue b ↔ NamesReflectiveText pool index) (sym reflective) (not_told (text_at pool index) IsReflectiveText none);
     first = ap (text_at pool) first;
   };
-  number = λ t is. absurd (none_is (text_at pool index) t none is);
+  number = λ t own is. absurd (none_is (text_at pool index) t none is);
 }

@@ -1,11 +1,11 @@
 -- Members that have the same names.
-use Rattle.std.proofs.Common.{◌≡◌, ℕ, ◌+◌, ◌<◌, ◌≤◌, ◌⊎◌, ◌↔◌, Bool, true, false, not, cond, List, [], map, length, get_or, Some, None, refl, sym, ap, ◌∙◌, subst, inl, inr, arith, IsTrue, slice_get, Ordering}
+use Rattle.std.proofs.Common.{◌≡◌, ℕ, ◌+◌, ◌<◌, ◌≤◌, ◌⊎◌, ◌↔◌, Bool, true, false, not, cond, List, [], map, length, get_or, Some, refl, sym, ap, ◌∙◌, subst, inl, inr, arith, IsTrue, Contains, slice_get, Ordering}
 use Rattle.std.specs.declared.cmp.Ordering.TheVariants.{Less, Equal, Greater}
 use Rattle.std.specs.List.{AllByRecursion, list_any}
 use Rattle.std.specs.BTreeMap.{is_at}
 use Rattle.std.specs.Ordering.{nat_cmp, is_eq, ordering_then}
 use Rattle.std.specs.BTreeSet.{BTreeSet, contains}
-use Rattle.std.proofs.lemmas.Bool.{cases_lt, cases_eq}
+use Rattle.std.proofs.lemmas.Bool.{cases_eq}
 use Rattle.std.proofs.lemmas.Cmp.{nat_cmp_total, tied_itself}
 use Rattle.std.proofs.lemmas.List.{length-map}
 use Rattle.std.proofs.lemmas.List.Elements.{All-from_recursion}
@@ -13,15 +13,15 @@ use Rattle.std.proofs.lemmas.Option.{slice_get_within, slice_get-get_or, get_or_
 use Rattle.std.proofs.lemmas.Map.Lookups.{exact_pairs, exact_unsigned}
 use Rattle.dj_pool.specs.Pool.{Constant, text_at}
 use Rattle.dj_class.specs.declared.class.MemberView.{MemberView}
-use Rattle.dj_class.specs.ClassFile.{MemberInfo, IsMember}
+use Rattle.dj_class.specs.ClassFile.{MemberInfo, ClassFile, IsMember}
+use Rattle.dj_labels.proofs.Lists.{contains_at}
 use Rattle.dj_class.specs.Members.{member_of}
 use Rattle.dj_check.specs.declared.judged.JudgedText.{JudgedText}
-use Rattle.dj_check.specs.Judged.{AreTexts, first_in, first_of}
+use Rattle.dj_check.specs.Judged.{AreTexts, AreNumbered, IsMemberOf}
 use Rattle.dj_check.specs.Marks.{names_in}
 use Rattle.dj_check.specs.Heads.{AreRepeated}
 use Rattle.dj_check.specs.Gathered.{names_of, HasAgain}
 use Rattle.dj_check.specs.Doubles.{IsBelow}
-use Rattle.dj_check.proofs.Judging.{past_texts}
 use Rattle.dj_check.proofs.FileLaws.{first_text}
 use Rattle.dj_check.proofs.DoubleLaws.{none_below, more_below, from_some, from_slice_get_map, to_slice_get_map}
 
@@ -141,26 +141,6 @@ names_length texts views = simp length-map
 
 -- ---- names and texts
 
-no_text : JudgedText
-no_text = record { float = false; reflective = false; first = 0 }
-
-within_pool : (pool : List Constant) (index : ℕ) (t : List ℕ) → text_at pool index ≡ Some t → index ≤ length pool
-within_pool pool index t at = elim (cases_lt (length pool) index) [
-  | inl past ↦ (let e : None ≡ Some t = sym (past_texts pool index past) ∙ at in absurd cc)
-  | inr le ↦ le
-]
-
-number_at : (pool : List Constant) (texts : List JudgedText) (are : AreTexts pool texts) (index : ℕ) (t : List ℕ) → text_at pool index ≡ Some t → first_in texts index ≡ are.numbers t
-number_at pool texts are index t at =
-    let le = within_pool pool index t at in
-    let all = are.all in
-    let found = slice_get-get_or texts index no_text (omega (arith, le, all)) in
-    ap (first_of index) found ∙ are.number index (get_or texts index no_text) t found at
-
--- indexes of one text have one first index
-same_first : (pool : List Constant) (texts : List JudgedText) → AreTexts pool texts → (i j : ℕ) (t : List ℕ) → text_at pool i ≡ Some t → text_at pool j ≡ Some t → first_in texts i ≡ first_in texts j
-same_first pool texts are i j t at_i at_j = number_at pool texts are i t at_i ∙ sym (number_at pool texts are j t at_j)
-
 -- there are texts at the names of the member
 record IsNamed (pool : List Constant) (m : MemberInfo) : Type 0 where
   name : List ℕ
@@ -195,11 +175,13 @@ from_again pool texts members are again =
       desc = sym (first_text pool texts one.0.desc are) ∙ ap (λ (p : Pair). text_at pool p.1) same ∙ first_text pool texts two.0.desc are;
     }
 
-to_again : (pool : List Constant) (texts : List JudgedText) (members : List MemberInfo) → AreTexts pool texts → ((k : ℕ) (m : MemberInfo) → slice_get members k ≡ Some m → IsNamed pool m) → AreRepeated pool members → HasAgain (names_of texts members)
-to_again pool texts members are named is =
+to_again : (c : ClassFile) (texts : List JudgedText) (members : List MemberInfo) → AreNumbered c texts → ((m : MemberInfo) → Contains members m → IsMemberOf c m) → ((k : ℕ) (m : MemberInfo) → slice_get members k ≡ Some m → IsNamed c.pool m) → AreRepeated c.pool members → HasAgain (names_of texts members)
+to_again c texts members are member named is =
     let own = named is.first is.one is.one_is in
-    let name = same_first pool texts are is.one.name is.two.name own.name own.name_is (sym is.name ∙ own.name_is) in
-    let desc = same_first pool texts are is.one.desc is.two.desc own.desc own.desc_is (sym is.desc ∙ own.desc_is) in
+    let one = member is.one (contains_at is.first members is.one is.one_is) in
+    let two = member is.two (contains_at is.other members is.two is.two_is) in
+    let name = are.name is.one own.name one own.name_is ∙ sym (are.name is.two own.name two (sym is.name ∙ own.name_is)) in
+    let desc = are.desc is.one own.desc one own.desc_is ∙ sym (are.desc is.two own.desc two (sym is.desc ∙ own.desc_is)) in
     let same : names_in texts is.two ≡ names_in texts is.one = λ i. (sym name i, sym desc i) in
     record {
       first = is.first;
@@ -210,11 +192,11 @@ to_again pool texts members are named is =
       there = to_slice_get_map (names_in texts) members is.other is.two is.two_is ∙ ap Some same;
     }
 
-pub again_repeated : (N D : List ℕ → Type 0) (pool : List Constant) (texts : List JudgedText) (members : List MemberInfo) (b : Bool) → AreTexts pool texts → AllByRecursion (IsMember N D pool) members
-    → (IsTrue b ↔ HasAgain (names_of texts members)) → IsTrue b ↔ AreRepeated pool members
-again_repeated N D pool texts members b are all told = (
-  λ t. from_again pool texts members are (told.0 t),
-  λ is. told.1 (to_again pool texts members are (members_named N D pool members all) is),
+pub again_repeated : (N D : List ℕ → Type 0) (c : ClassFile) (texts : List JudgedText) (members : List MemberInfo) (b : Bool) → AreTexts c.pool texts → AreNumbered c texts → ((m : MemberInfo) → Contains members m → IsMemberOf c m)
+    → AllByRecursion (IsMember N D c.pool) members → (IsTrue b ↔ HasAgain (names_of texts members)) → IsTrue b ↔ AreRepeated c.pool members
+again_repeated N D c texts members b are numbered member all told = (
+  λ t. from_again c.pool texts members are (told.0 t),
+  λ is. told.1 (to_again c texts members numbered member (members_named N D c.pool members all) is),
 )
 
 -- ---- two fields or two methods

@@ -1,5 +1,7 @@
 -- What the text of a class constant stands for.
-use Rattle.std.proofs.Common.{◌≡◌, ℕ, zero, suc, ◌≤◌, Bool, false, List, ◌∷◌, ◌++◌, Option, replicate, refl, subst, inl, inr, arith, IsTrue, ◌↔◌}
+use Rattle.std.proofs.Common.{◌≡◌, ℕ, zero, suc, ◌≤◌, Bool, true, false, ◌&&◌, nat_eq, List, [], ◌∷◌, ◌++◌, Option, replicate, refl, sym, ap, ◌∙◌, subst, inl, inr, arith, IsTrue, ◌↔◌}
+use Rattle.std.specs.List.{starts_with}
+use Rattle.std.proofs.lemmas.Bool.{eqb-true}
 use Rattle.dj_names.specs.declared.descriptor.Ty.{Ty}
 use Rattle.dj_names.specs.declared.descriptor.Desc.TheVariants as descs
 use Rattle.dj_names.specs.Names.{IsClassName}
@@ -23,13 +25,35 @@ array_no_name text (suc dims) rest some e is =
 pub class_no_array : (text class : List ℕ) → IsClassName text → IsArrayOf text class → ⊥
 class_no_array text class is array = array_no_name text array.ty.dims (of_text array.ty.of) array.array array.described.text_is is
 
--- a class's name stands for itself
-pub reflective_class : (text : List ℕ) (b : Bool) → IsClassName text → (IsTrue b ↔ IsReflective text) → IsTrue b ↔ IsReflectiveText text
-reflective_class text b is told = (
-  λ t. record { class = text; stands = inl (is, refl); reflective = told.0 t },
+-- ---- by the first byte
+
+both_true : (a b : Bool) → IsTrue (a && b) → IsTrue a
+both_true true b t = refl
+both_true false b t = absurd cc
+
+-- a text that begins with a bracket is no class's name
+pub bracket_name : (text : List ℕ) → IsTrue (starts_with nat_eq text (91 ∷ [])) → IsClassName text → ⊥
+bracket_name [] t is = absurd cc
+bracket_name (b ∷ rest) t is =
+    let same = eqb-true 91 b (both_true (nat_eq 91 b) _ t) in
+    bracket_no_name rest ((class_name_test-decides (91 ∷ rest)).1 (subst (λ (x : ℕ). IsClassName (x ∷ rest)) (sym same) is))
+
+array_begins : (dims : ℕ) (rest : List ℕ) → 1 ≤ dims → starts_with nat_eq (replicate dims 91 ++ rest) (91 ∷ []) ≡ true
+array_begins zero rest some = absurd (omega (arith, some))
+array_begins (suc n) rest some = refl
+
+no_bracket : (text class : List ℕ) → starts_with nat_eq text (91 ∷ []) ≡ false → IsArrayOf text class → ⊥
+no_bracket text class other array =
+    let begins : true ≡ false = sym (array_begins array.ty.dims (of_text array.ty.of) array.array) ∙ sym (ap (λ (t : List ℕ). starts_with nat_eq t (91 ∷ [])) array.described.text_is) ∙ other in
+    absurd cc
+
+-- of another text, where it is a class's name
+pub reflective_name : (text : List ℕ) (b : Bool) → starts_with nat_eq text (91 ∷ []) ≡ false → (IsTrue b ↔ (IsReflective text × IsClassName text)) → IsTrue b ↔ IsReflectiveText text
+reflective_name text b other told = (
+  λ t. let is = told.0 t in record { class = text; stands = inl (is.1, refl); reflective = is.0 },
   λ has. elim has.stands [
-    | inl same ↦ told.1 (subst IsReflective same.1 has.reflective)
-    | inr array ↦ absurd (class_no_array text has.class is array)
+    | inl same ↦ told.1 (subst IsReflective same.1 has.reflective, same.0)
+    | inr array ↦ absurd (no_bracket text has.class other array)
   ],
 )
 

@@ -1,10 +1,11 @@
 -- The code's own: what is kept beside the texts of a pool.
-use Rattle.std.specs.Prelude.{◌≡◌, ◌↔◌, ℕ, ◌<◌, List, length, Option, Some, None, IsSome, IsTrue, slice_get, unwrap_or}
+use Rattle.std.specs.Prelude.{◌≡◌, ◌↔◌, ℕ, ◌+◌, ◌<◌, ◌⊎◌, Bool, true, false, List, [], ◌∷◌, length, Contains, Option, Some, None, IsSome, IsTrue, slice_get, unwrap_or}
 use Rattle.std.specs.Borrow.{Bor}
 use Rattle.std.specs.Ordering.{nat_cmp}
 use Rattle.std.specs.Cmp.Lexicographic.{slice_cmp}
 use Rattle.std.specs.BTreeMap.{BTreeMap, get_by}
 use Rattle.dj_pool.specs.Pool.{Constant, text_at}
+use Rattle.dj_class.specs.ClassFile.{MemberInfo, ClassFile}
 use Rattle.dj_check.specs.declared.judged.JudgedText.{JudgedText}
 use Rattle.dj_check.specs.Floats.{NamesFloat}
 use Rattle.dj_check.specs.Classes.{NamesReflectiveText}
@@ -15,12 +16,10 @@ pub record IsTextAt (pool : List Constant) (index : ℕ) (text : JudgedText) : T
   pub reflective : IsTrue text.reflective ↔ NamesReflectiveText pool index
   pub first : text_at pool text.first ≡ text_at pool index
 
--- of each index from 0 on that the pool has; and the first index of a text is one for all indexes of that text
+-- of each index from 0 on that the pool has
 pub record AreTexts (pool : List Constant) (texts : List JudgedText) : Type 0 where
   pub all : length pool < length texts
   pub each : (index : ℕ) (text : JudgedText) → slice_get texts index ≡ Some text → IsTextAt pool index text
-  pub numbers : List ℕ → ℕ
-  pub number : (index : ℕ) (text : JudgedText) (t : List ℕ) → slice_get texts index ≡ Some text → text_at pool index ≡ Some t → text.first ≡ numbers t
 
 -- the index itself where nothing is told
 abbrev pub first_of : ℕ → Option JudgedText → ℕ
@@ -30,6 +29,41 @@ first_of index (Some text) = text.first
 -- the index that stands for all of the same text
 abbrev pub first_in : List JudgedText → ℕ → ℕ
 first_in texts index = first_of index (slice_get texts index)
+
+-- the text begins as the descriptor of a method, of an array, of a float or of a double does
+abbrev pub BeginsFloat : List ℕ → Type 0
+BeginsFloat [] = ⊥
+BeginsFloat (byte ∷ more) = (byte ≡ 40) ⊎ ((byte ≡ 91) ⊎ ((byte ≡ 70) ⊎ (byte ≡ 68)))
+
+-- ---- names of members
+
+abbrev pub IsMemberOf : ClassFile → MemberInfo → Type 0
+IsMemberOf c m = Contains c.fields m ⊎ Contains c.methods m
+
+-- of the texts that are names and descriptors of members, one index stands for all indexes of one text
+pub record AreNumbered (c : ClassFile) (texts : List JudgedText) : Type 0 where
+  pub numbers : List ℕ → ℕ
+  pub name : (m : MemberInfo) (t : List ℕ) → IsMemberOf c m → text_at c.pool m.name ≡ Some t → first_in texts m.name ≡ numbers t
+  pub desc : (m : MemberInfo) (t : List ℕ) → IsMemberOf c m → text_at c.pool m.desc ≡ Some t → first_in texts m.desc ≡ numbers t
+
+-- the index is marked
+abbrev pub IsMarked : List Bool → ℕ → Type 0
+IsMarked marks index = slice_get marks index ≡ Some true
+
+-- marks stay, and there are as many
+pub record StayMarked (old new : List Bool) : Type 0 where
+  pub same : length new ≡ length old
+  pub kept : (index : ℕ) → IsMarked old index → IsMarked new index
+
+-- the indexes of the member's names are marked, where they have a place
+pub record AreNamesMarked (marks : List Bool) (m : MemberInfo) : Type 0 where
+  pub name : m.name < length marks → IsMarked marks m.name
+  pub desc : m.desc < length marks → IsMarked marks m.desc
+
+-- those of all members are
+pub record AreMembersMarked (c : ClassFile) (marks : List Bool) : Type 0 where
+  pub count : length marks ≡ length c.pool + 1
+  pub each : (m : MemberInfo) → IsMemberOf c m → AreNamesMarked marks m
 
 -- ---- texts that are noted
 
@@ -45,17 +79,22 @@ noted_at indexes text = get_by (λ key. slice_cmp nat_cmp text key.now) indexes
 abbrev pub number_in : Indexes → List ℕ → ℕ
 number_in indexes text = unwrap_or (noted_at indexes text) 0
 
--- the texts of the first indexes, so many, were noted, and of each an index of it
-pub record AreNoted (pool : List Constant) (count : ℕ) (indexes : Indexes) : Type 0 where
+-- the texts of the first indexes, so many, were noted where they are marked, and of each an index of it
+pub record AreNoted (pool : List Constant) (marks : List Bool) (count : ℕ) (indexes : Indexes) : Type 0 where
   pub right : (text : List ℕ) (index : ℕ) → noted_at indexes text ≡ Some index → text_at pool index ≡ Some text
-  pub all : (index : ℕ) (text : List ℕ) → index < count → text_at pool index ≡ Some text → IsSome (noted_at indexes text)
+  pub all : (index : ℕ) (text : List ℕ) → index < count → IsMarked marks index → text_at pool index ≡ Some text → IsSome (noted_at indexes text)
 
--- what is told of the text of the index, and that its first index is the text's number
-pub record IsNumberedText (numbers : List ℕ → ℕ) (pool : List Constant) (index : ℕ) (text : JudgedText) : Type 0 where
+-- the index that stands for a text at an index: of one that is marked that of the text, and else its own
+abbrev pub StandsForIndex : Option ℕ → ℕ → Bool → ℕ → Type 0
+StandsForIndex noted index true first = noted ≡ Some first
+StandsForIndex noted index false first = first ≡ index
+
+-- what is told of the text of the index, and that its first index is the text's number where it is marked
+pub record IsNumberedText (numbers : List ℕ → ℕ) (marks : List Bool) (pool : List Constant) (index : ℕ) (text : JudgedText) : Type 0 where
   pub means : IsTextAt pool index text
-  pub number : (t : List ℕ) → text_at pool index ≡ Some t → text.first ≡ numbers t
+  pub number : (t : List ℕ) → IsMarked marks index → text_at pool index ≡ Some t → text.first ≡ numbers t
 
 -- the first indexes are told of, so many
-pub record AreFirstTexts (numbers : List ℕ → ℕ) (count : ℕ) (pool : List Constant) (texts : List JudgedText) : Type 0 where
+pub record AreFirstTexts (numbers : List ℕ → ℕ) (marks : List Bool) (count : ℕ) (pool : List Constant) (texts : List JudgedText) : Type 0 where
   pub all : length texts ≡ count
-  pub each : (index : ℕ) (text : JudgedText) → slice_get texts index ≡ Some text → IsNumberedText numbers pool index text
+  pub each : (index : ℕ) (text : JudgedText) → slice_get texts index ≡ Some text → IsNumberedText numbers marks pool index text

@@ -1,6 +1,5 @@
 -- The code's own: what is kept of files, for the rules that look at all of them.
-use Rattle.std.specs.Prelude.{◌≡◌, ◌↔◌, ℕ, ◌<◌, ◌⊎◌, Bool, IsTrue, List, [], ◌∷◌, ◌++◌, length, Contains, Option, Some, None, slice_get}
-use Rattle.std.specs.Borrow.{Bor}
+use Rattle.std.specs.Prelude.{◌≡◌, ◌↔◌, ℕ, ◌<◌, ◌⊎◌, Bool, IsTrue, List, length, Contains, Some, slice_get}
 use Rattle.dj_class.specs.ClassFile.{ClassFile}
 use Rattle.dj_report.specs.declared.report.Violation.{Violation}
 use Rattle.dj_report.specs.declared.report.PathFile.{PathFile}
@@ -8,14 +7,11 @@ use Rattle.dj_report.specs.Lines.{file_line}
 use Rattle.dj_library.specs.Heads.{Head}
 use Rattle.dj_hierarchy.specs.declared.head.ClassHead.{ClassHead}
 use Rattle.dj_hierarchy.specs.Hierarchy.{Stands, ViolatesHierarchy}
-use Rattle.dj_check.specs.declared.doubles.NamedFile.{NamedFile}
-use Rattle.dj_check.specs.declared.good.GoodFile.{GoodFile}
 use Rattle.dj_check.specs.declared.hierarchy.Owner.{Owner}
-use Rattle.dj_check.specs.declared.files.Kept.{Kept}
 use Rattle.dj_check.specs.Malformed.{IsGood}
 use Rattle.dj_check.specs.Heads.{HasRepeats}
 use Rattle.dj_check.specs.Gathered.{IsHeadOf}
-use Rattle.dj_check.specs.Doubles.{IsBelow, AreNamed}
+use Rattle.dj_check.specs.Doubles.{IsBelow}
 
 -- ---- heads and their files
 
@@ -69,31 +65,3 @@ pub record AreOwned (files : List PathFile) (heads : List ClassHead) (owners : L
   pub all : length owners ≡ length heads
   pub each : (place : ℕ) → place < length heads → IsOwnedAt files heads owners place
   pub whole : (file : PathFile) (c : ClassFile) → Contains files file → IsGood file.bytes.now c → (place : ℕ) × OwnsAt heads owners file c place
-
--- ---- what is kept
-
-abbrev pub name_in : Option GoodFile → Option (Bor (List ℕ))
-name_in None = None
-name_in (Some part) = Some part.head.name
-
-abbrev pub heads_in : Option GoodFile → List ClassHead
-heads_in None = []
-heads_in (Some part) = part.head ∷ []
-
-abbrev pub owners_in : Bor (List ℕ) → Option GoodFile → List Owner
-owners_in path None = []
-owners_in path (Some part) = record { path = path; repeats = part.repeats } ∷ []
-
-abbrev pub named_as : Bor (List ℕ) → Option GoodFile → NamedFile
-named_as path part = record { path = path; name = name_in part }
-
--- a file of this path is kept, of which this is known
-pub record Keeps (path : Bor (List ℕ)) (part : Option GoodFile) (old new : Kept) : Type 0 where
-  pub named : new.named.items ≡ old.named.items ++ named_as path part ∷ []
-  pub heads : new.heads.items ≡ old.heads.items ++ heads_in part
-  pub owners : new.owners.items ≡ old.owners.items ++ owners_in path part
-
--- the files are named, and the heads are theirs
-pub record AreKept (files : List PathFile) (kept : Kept) : Type 0 where
-  pub named : AreNamed files kept.named.items
-  pub owned : AreOwned files kept.heads.items kept.owners.items

@@ -1,8 +1,8 @@
 -- The code's own: marks of the rules that parts of a file violate, before lines are made of them.
-use Rattle.std.specs.Prelude.{◌≡◌, ℕ, ◌<◌, ◌⊎◌, Bool, true, false, IsTrue, List, Option, Some, None, slice_get, Contains}
+use Rattle.std.specs.Prelude.{◌≡◌, ℕ, ◌<◌, ◌⊎◌, Bool, IsTrue, List, Option, Some, None, slice_get, Contains}
 use Rattle.dj_ops.specs.declared.instruction.Instr.{Instr}
 use Rattle.dj_pool.specs.Pool.{Constant}
-use Rattle.dj_class.specs.ClassFile.{MemberInfo, ClassFile}
+use Rattle.dj_class.specs.ClassFile.{MemberInfo}
 use Rattle.dj_labels.specs.declared.labelled.Protected.{Protected}
 use Rattle.dj_labels.specs.declared.labelled.Labelled.{Labelled}
 use Rattle.dj_report.specs.declared.report.Violation.{Violation}
@@ -11,9 +11,7 @@ use Rattle.dj_check.specs.declared.marks.Place.{Place}
 use Rattle.dj_check.specs.declared.marks.Mark.{Mark}
 use Rattle.dj_check.specs.declared.judged.JudgedText.{JudgedText}
 use Rattle.dj_check.specs.Judged.{first_in}
-use Rattle.dj_check.specs.Methods.{InstrViolates, CatchesError, CodeViolates, MethodViolates}
-use Rattle.dj_report.specs.Lines.{Gains}
-use Rattle.dj_check.specs.Malformed.{IsFaultyMethod, HasFaultyMethod}
+use Rattle.dj_check.specs.Methods.{InstrViolates, CatchesError, CodeViolates}
 use Rattle.dj_check.specs.Rules.{line_at}
 
 abbrev pub mark_at : Place → ℕ → Mark
@@ -74,13 +72,3 @@ RuledWhole float interface_code number rule =
 -- marks of members that violate rules
 abbrev pub AreMarksOf : List JudgedText → (MemberInfo → Option ℕ → ℕ → Type 0) → List MemberInfo → Mark → Type 0
 AreMarksOf texts Violates members mark = (m : MemberInfo) × Contains members m × MarksOf (names_in texts m) (Violates m) mark
-
--- the method isn't faulty, and its marks were added; or it is
-abbrev pub IsJudgedMethod : ClassFile → List JudgedText → MemberInfo → List Mark → List Mark → Bool → Type 0
-IsJudgedMethod c texts m old new true = (IsFaultyMethod c.pool m → ⊥) × Gains (MarksOf (names_in texts m) (MethodViolates c m)) old new
-IsJudgedMethod c texts m old new false = IsFaultyMethod c.pool m
-
--- the same of all methods
-abbrev pub AreJudgedMethods : ClassFile → List JudgedText → List Mark → List Mark → Bool → Type 0
-AreJudgedMethods c texts old new true = (HasFaultyMethod c → ⊥) × Gains (AreMarksOf texts (MethodViolates c) c.methods) old new
-AreJudgedMethods c texts old new false = HasFaultyMethod c

@@ -5,12 +5,8 @@ use Rattle.std.specs.Borrow.{Bor}
 use Rattle.dj_ops.specs.declared.rows.CatchRow.{CatchRow}
 use Rattle.dj_pool.specs.Pool.{Constant}
 use Rattle.dj_class.specs.ClassFile.{MemberInfo, ClassFile}
-use Rattle.dj_report.specs.declared.report.Violation.{Violation}
 use Rattle.dj_report.specs.declared.report.PathFile.{PathFile}
-use Rattle.dj_report.specs.Lines.{Adds, file_line}
 use Rattle.dj_rules.specs.Violations.{this_name}
-use Rattle.dj_check.specs.Rules.{IsOwnLine, IsLoneLine}
-use Rattle.dj_rules.specs.Views.{path_file_view}
 use Rattle.dj_class.specs.Code.{CodeInfo, IsCode}
 use Rattle.dj_labels.specs.declared.labelled.Labelled.{Labelled}
 use Rattle.dj_labels.specs.declared.errors.CodeError.{CodeError}
@@ -26,7 +22,7 @@ use Rattle.dj_check.specs.Heads.{HasRepeats}
 use Rattle.dj_check.specs.Gathered.{IsHeadOf}
 use Rattle.dj_check.specs.Attributes.{codes_of, maps_of}
 use Rattle.dj_check.specs.Code.{IsFloatMap}
-use Rattle.dj_check.specs.Malformed.{IsFaulty, IsRefused, IsGood, LacksLabels, IsFaultyCode, IsFaultyBody, IsFaultyMethod}
+use Rattle.dj_check.specs.Malformed.{IsRefused, IsGood, LacksLabels, IsFaultyCode, IsFaultyBody, IsFaultyMethod}
 
 -- ---- code
 
@@ -52,12 +48,16 @@ bodies_in (Some body) = body.now ∷ []
 
 -- what is told of whole code
 pub record IsWholeCode (pool : List Constant) (info : CodeInfo) (code : WholeCode) : Type 0 where
+  pub stack : code.max_stack ≡ info.max_stack
+  pub locals : code.max_locals ≡ info.max_locals
   pub bytes : code.code.now ≡ info.code
   pub labels : IsLabelled info.code info.table code.labelled
   pub maps : maps_of pool info ≡ bodies_in code.map
 
 -- what is told of code with these bodies of a stack map, at most one, or that it has no labels
 pub record IsMappedCode (info : CodeInfo) (maps : List (List ℕ)) (code : WholeCode) : Type 0 where
+  pub stack : code.max_stack ≡ info.max_stack
+  pub locals : code.max_locals ≡ info.max_locals
   pub bytes : code.code.now ≡ info.code
   pub labels : IsLabelled info.code info.table code.labelled
   pub maps_are : maps ≡ bodies_in code.map
@@ -130,37 +130,7 @@ pub record IsGoodPart (c : ClassFile) (part : GoodFile) : Type 0 where
   pub head_is : IsHeadOf c part.head
   pub told : IsTrue part.repeats ↔ HasRepeats c
 
--- the class file has no faulty part, and its lines were added; or it has one, and nothing was
-abbrev pub IsJudgedClass : List ℕ → ClassFile → List Violation → List Violation → Option GoodFile → Type 0
-IsJudgedClass path c old new (Some part) = (IsFaulty c → ⊥) × (IsGoodPart c part × Adds (IsOwnLine path c) old new)
-IsJudgedClass path c old new None = IsFaulty c × (new ≡ old)
-
--- the file is this good class file, and its lines were added
-pub record IsGoodFile (file : PathFile) (old new : List Violation) (part : GoodFile) : Type 0 where
-  pub class : ClassFile
-  pub good : IsGood file.bytes.now class
-  pub kept : IsGoodPart class part
-  pub lines : Adds (IsOwnLine file.path.now class) old new
-
--- rule 1 is violated, and its line was added
-pub record IsRefusedFile (file : PathFile) (old new : List Violation) : Type 0 where
-  pub refused : IsRefused file.bytes.now
-  pub line : Adds (λ v. v ≡ file_line file.path.now 1) old new
-
-abbrev pub IsJudgedFile : PathFile → List Violation → List Violation → Option GoodFile → Type 0
-IsJudgedFile file old new None = IsRefusedFile file old new
-IsJudgedFile file old new (Some part) = IsGoodFile file old new part
-
 -- the class's name, and none where rule 1 is violated
 abbrev pub TellsName : PathFile → Option (Bor (List ℕ)) → Type 0
 TellsName file None = IsRefused file.bytes.now
 TellsName file (Some name) = (c : ClassFile) × IsGood file.bytes.now c × (name.now ≡ this_name c)
-
--- what is kept of the file, and nothing where rule 1 is violated
-abbrev pub TellsPart : PathFile → Option GoodFile → Type 0
-TellsPart file None = IsRefused file.bytes.now
-TellsPart file (Some part) = (c : ClassFile) × IsGood file.bytes.now c × IsGoodPart c part
-
--- the lines of the file by itself were added, and what is kept of it is told
-abbrev pub IsToldFile : PathFile → List Violation → List Violation → Option GoodFile → Type 0
-IsToldFile file old new part = Adds (IsLoneLine (path_file_view file)) old new × TellsPart file part

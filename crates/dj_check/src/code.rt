@@ -14,9 +14,11 @@ use dj_pool::Pool;
 use dj_rules::{RulesError, is_memory};
 use std::alloc::Global;
 
-/// Code that is whole: its bytes, what it is with numbers for addresses, and the body of its stack map, if it has one.
+/// Code that is whole: its room, its bytes, what it is with numbers for addresses, and the body of its stack map, if it has one.
 #[derive(Debug, Drop)]
 pub struct WholeCode<'a> {
+    pub max_stack: u16,
+    pub max_locals: u16,
     pub code: &'a [u8],
     pub labelled: Labelled,
     pub map: Option<&'a [u8]>,
@@ -77,6 +79,8 @@ fn code_with_map<'a>(
 {
     match labelling_of(alloc, view.code, view.table.as_slice()) {
         Ok(Some(labelled)) => Ok(Some(WholeCode {
+            max_stack: view.max_stack,
+            max_locals: view.max_locals,
             code: view.code,
             labelled,
             map,

@@ -1,7 +1,7 @@
 ghost use Rattle.std.specs.Prelude.{IfOk};
 ghost use Rattle.dj_class.specs.ClassFile.{IsValid};
 ghost use Rattle.dj_class.specs.Views.{class_of};
-ghost use Rattle.dj_check.specs.Judged.{AreTexts};
+ghost use Rattle.dj_check.specs.Judged.{AreTexts, AreNumbered};
 ghost use Rattle.dj_check.specs.Passes.{IsGoodPart};
 
 use crate::heads::class_head;
@@ -28,6 +28,7 @@ pub fn good_file<'a>(
     texts: &[JudgedText],
 ) -> Result<GoodFile<'a>, RulesError>
     requires texts { AreTexts view.now.pool texts.now }
+    requires numbered { AreNumbered (class_of view.now) texts.now }
     requires valid { IsValid (class_of view.now) }
     ensures { IfOk result (IsGoodPart (class_of view.now)) }
 {

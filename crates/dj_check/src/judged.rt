@@ -1,8 +1,13 @@
-ghost use Rattle.std.specs.Prelude.{◌≡◌, ◌↔◌, ◌+◌, ◌<◌, ◌≤◌, ◌^◌, length, Some, IsSome, IsTrue, IfOk, OnOk};
+ghost use Rattle.std.specs.Prelude.{◌≡◌, ◌↔◌, ◌+◌, ◌<◌, ◌≤◌, ◌^◌, [], ◌∷◌, map, length, slice_get, Contains, Some, IsSome, IsTrue, IfOk, OnOk};
+ghost use Rattle.dj_names.specs.Names.{IsClassName};
+ghost use Rattle.dj_class.specs.ClassFile.{MemberInfo};
+ghost use Rattle.dj_class.specs.Members.{member_of};
+ghost use Rattle.dj_class.specs.Views.{class_of};
 ghost use Rattle.dj_check.specs.Floats.{HasFloat, IsFloating, HasFloating, MentionsFloat};
 ghost use Rattle.dj_check.specs.Classes.{IsReflective, IsReflectiveText, element_class};
-ghost use Rattle.dj_check.specs.Judged.{IsTextAt, AreTexts, first_in, noted_at, number_in, AreNoted, IsNumberedText};
+ghost use Rattle.dj_check.specs.Judged.{IsTextAt, AreTexts, first_in, BeginsFloat, AreNumbered, IsMarked, StayMarked, AreNamesMarked, AreMembersMarked, noted_at, number_in, AreNoted, StandsForIndex, IsNumberedText};
 
+use dj_class::{ClassView, MemberView};
 use dj_names::{Base, Desc, DescError, Of, Ty, is_class_name, read_desc};
 use dj_pool::{Entry, Pool};
 use dj_rules::RulesError;
@@ -52,10 +57,30 @@ fn mentions_float(desc: &Desc) -> bool
     }
 }
 
-// Whether the text is a descriptor with a float or a double.
+// Whether the descriptor of a method, of an array, of a float or of a double begins so.
+fn begins_float(byte: u8) -> bool
+    ensures { IsTrue result ↔ BeginsFloat (byte ∷ []) }
+{
+    byte == b'(' || byte == b'[' || byte == b'F' || byte == b'D'
+}
+
+// Whether the text begins so.
+fn may_have_float(text: &[u8]) -> bool
+    ensures { IsTrue result ↔ BeginsFloat text.now }
+{
+    match text {
+        [byte, ..] => begins_float(*byte),
+        [] => false,
+    }
+}
+
+// Whether the text is a descriptor with a float or a double. Most texts are seen to be none by their first byte.
 fn has_float(alloc: Global, text: &[u8]) -> Result<bool, RulesError>
     ensures { IfOk result (λ float. IsTrue float ↔ HasFloat text.now) }
 {
+    if !may_have_float(text) {
+        return Ok(false);
+    }
     match read_desc(alloc, text) {
         Ok(desc) => Ok(mentions_float(&desc)),
         Err(DescError::NotADescriptor) => Ok(false),
@@ -89,13 +114,11 @@ fn is_reflective_array(ty: &Ty) -> bool
     ty.dims != 0 && is_reflective_element(&ty.of)
 }
 
-// Whether the text of a class constant stands for a class of reflection.
-fn is_reflective_text(alloc: Global, text: &[u8]) -> Result<bool, RulesError>
+// Whether the text is the descriptor of an array of elements whose class is of reflection.
+fn is_reflective_desc(alloc: Global, text: &[u8]) -> Result<bool, RulesError>
+    requires { IsClassName text.now → ⊥ }
     ensures { IfOk result (λ reflective. IsTrue reflective ↔ IsReflectiveText text.now) }
 {
-    if is_class_name(text) {
-        return Ok(is_reflective(text));
-    }
     match read_desc(alloc, text) {
         Ok(Desc::Field(ty)) => Ok(is_reflective_array(&ty)),
         Ok(Desc::Method { params: _, ret: _ }) => Ok(false),
@@ -104,15 +127,72 @@ fn is_reflective_text(alloc: Global, text: &[u8]) -> Result<bool, RulesError>
     }
 }
 
-// Notes the text of an index, where there is one and it wasn't noted yet.
+// Whether the text is the name of a class of reflection.
+fn is_reflective_name(text: &[u8]) -> bool
+    ensures { IsTrue result ↔ (IsReflective text.now × IsClassName text.now) }
+{
+    is_reflective(text) && is_class_name(text)
+}
+
+// Whether the text of a class constant stands for a class of reflection. Most texts are neither an array's descriptor nor the name of such a class.
+fn is_reflective_text(alloc: Global, text: &[u8]) -> Result<bool, RulesError>
+    ensures { IfOk result (λ reflective. IsTrue reflective ↔ IsReflectiveText text.now) }
+{
+    if text.starts_with(b"[") {
+        return is_reflective_desc(alloc, text);
+    }
+    Ok(is_reflective_name(text))
+}
+
+// ---- names of members
+
+// Marks an index, where it has a place.
+fn mark_index(marks: &mut [bool], index: u16)
+    ensures stay { StayMarked marks.old marks.new }
+    ensures own { index < length marks.new → IsMarked marks.new index }
+{
+    if usize::from(index) < marks.len() {
+        marks[usize::from(index)] = true;
+    }
+}
+
+// Marks the indexes of the names and the descriptors of members.
+fn mark_names(marks: &mut [bool], members: &[MemberView<'_>])
+    ensures stay { StayMarked marks.old marks.new }
+    ensures own { (m : MemberInfo) → Contains (map member_of members.now) m → AreNamesMarked marks.new m }
+{
+    for member in members {
+        mark_index(marks, member.name);
+        mark_index(marks, member.desc);
+    }
+}
+
+// Of each index, whether it is that of a name or a descriptor of a member.
+fn marked_names(alloc: Global, view: &ClassView<'_>) -> Result<Vec<bool>, RulesError>
+    ensures { IfOk result (λ marks. AreMembersMarked (class_of view.now) marks.items) }
+{
+    let mut marks = vec![in alloc; false; view.pool.as_slice().len() + 1]?;
+    mark_names(&mut marks, view.fields.as_slice());
+    mark_names(&mut marks, view.methods.as_slice());
+    Ok(marks)
+}
+
+// ---- texts
+
+// Notes the text of an index that is marked, where there is one and it wasn't noted yet.
 fn note_text<'p>(
     indexes: &mut BTreeMap<&'p [u8], u16>,
     pool: &Pool<'p>,
+    marks: &[bool],
     index: u16,
 ) -> Result<(), RulesError>
-    requires { AreNoted pool.now index indexes.now }
-    ensures { OnOk result (AreNoted pool.now (index + 1) indexes.new) }
+    requires noted { AreNoted pool.now marks.now index indexes.old }
+    requires within { index < length marks.now }
+    ensures { OnOk result (AreNoted pool.now marks.now (index + 1) indexes.new) }
 {
+    if !marks[usize::from(index)] {
+        return Ok(());
+    }
     if let Some(text) = pool.text(index) {
         if indexes.get(text).is_none() {
             indexes.insert(text, index)?;
@@ -121,15 +201,18 @@ fn note_text<'p>(
     Ok(())
 }
 
-// The first index of each text of the pool.
-fn first_indexes<'p>(alloc: Global, pool: &Pool<'p>) -> Result<BTreeMap<&'p [u8], u16>, RulesError>
-    requires { length pool.now + 1 < 2 ^ 16 }
-    ensures { IfOk result (AreNoted pool.now (length pool.now + 1)) }
+// The first index of each text of the pool that is marked.
+fn first_indexes<'p>(
+    alloc: Global,
+    pool: &Pool<'p>,
+    marks: &[bool],
+) -> Result<BTreeMap<&'p [u8], u16>, RulesError>
+    requires few { length marks.now < 2 ^ 16 }
+    ensures { IfOk result (AreNoted pool.now marks.now (length marks.now)) }
 {
     let mut indexes = BTreeMap::new(alloc);
-    let count = pool.as_slice().len() + 1;
-    for index in 0..count {
-        note_text(&mut indexes, pool, index as u16)?;
+    for index in 0..marks.len() {
+        note_text(&mut indexes, pool, marks, index as u16)?;
     }
     Ok(indexes)
 }
@@ -145,22 +228,43 @@ fn noted_index(indexes: &BTreeMap<&[u8], u16>, text: &[u8]) -> u16
     }
 }
 
+// The index that stands for a text at an index.
+fn first_index(indexes: &BTreeMap<&[u8], u16>, text: &[u8], index: u16, marked: bool) -> u16
+    requires { IsTrue marked → IsSome (noted_at indexes.now text.now) }
+    ensures { StandsForIndex (noted_at indexes.now text.now) index marked result }
+{
+    if marked {
+        noted_index(indexes, text)
+    } else {
+        index
+    }
+}
+
+fn is_marked(marks: &[bool], index: u16) -> bool
+    requires { index < length marks.now }
+    ensures { slice_get marks.now index ≡ Some result }
+{
+    marks[usize::from(index)]
+}
+
 // What the rules ask of the text of an index.
 fn judge_text(
     alloc: Global,
     indexes: &BTreeMap<&[u8], u16>,
     pool: &Pool<'_>,
+    marks: &[bool],
     index: u16,
 ) -> Result<JudgedText, RulesError>
-    requires noted { AreNoted pool.now (length pool.now + 1) indexes.now }
-    requires within { index ≤ length pool.now }
-    ensures { IfOk result (IsNumberedText (number_in indexes.now) pool.now index) }
+    requires noted { AreNoted pool.now marks.now (length marks.now) indexes.now }
+    requires within { index < length marks.now }
+    ensures { IfOk result (IsNumberedText (number_in indexes.now) marks.now pool.now index) }
 {
+    let marked = is_marked(marks, index);
     match pool.text(index) {
         Some(text) => Ok(JudgedText {
             float: has_float(alloc, text)?,
             reflective: is_reflective_text(alloc, text)?,
-            first: noted_index(indexes, text),
+            first: first_index(indexes, text, index, marked),
         }),
         None => Ok(JudgedText {
             float: false,
@@ -170,16 +274,17 @@ fn judge_text(
     }
 }
 
-/// What the rules ask of the texts of a pool, by index. Each text is looked at once.
-pub fn judge_texts(alloc: Global, pool: &Pool<'_>) -> Result<Vec<JudgedText>, RulesError>
-    requires { length pool.now + 1 < 2 ^ 16 }
-    ensures { IfOk result (λ texts. AreTexts pool.now texts.items) }
+/// What the rules ask of the texts of a class file's pool, by index. Each text is looked at once, and compared where it is a name or a descriptor of a member.
+pub fn judge_texts(alloc: Global, view: &ClassView<'_>) -> Result<Vec<JudgedText>, RulesError>
+    requires { length view.now.pool + 1 < 2 ^ 16 }
+    ensures texts { IfOk result (λ texts. AreTexts view.now.pool texts.items) }
+    ensures numbered { IfOk result (λ texts. AreNumbered (class_of view.now) texts.items) }
 {
-    let indexes = first_indexes(alloc, pool)?;
+    let marks = marked_names(alloc, view)?;
+    let indexes = first_indexes(alloc, &view.pool, &marks)?;
     let mut texts = Vec::new(alloc);
-    let count = pool.as_slice().len() + 1;
-    for index in 0..count {
-        let text = judge_text(alloc, &indexes, pool, index as u16)?;
+    for index in 0..marks.len() {
+        let text = judge_text(alloc, &indexes, &view.pool, &marks, index as u16)?;
         texts.push(text)?;
     }
     Ok(texts)

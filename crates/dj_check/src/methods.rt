@@ -1,6 +1,4 @@
-ghost use Rattle.std.specs.Prelude.{◌≡◌, ◌↔◌, ◌<◌, ◌^◌, [], length, codes, Some, MatchBool, IsTrue, IfOk, OnOk};
-ghost use Rattle.std.specs.List.{AllByRecursion};
-ghost use Rattle.dj_class.specs.ClassFile.{IsAttribute, IsValid};
+ghost use Rattle.std.specs.Prelude.{◌≡◌, ◌↔◌, [], codes, Some, IsTrue, IfOk, OnOk};
 ghost use Rattle.dj_class.specs.Members.{member_of};
 ghost use Rattle.dj_class.specs.Views.{class_of};
 ghost use Rattle.dj_report.specs.Lines.{Gains};
@@ -10,10 +8,10 @@ ghost use Rattle.dj_check.specs.Judged.{AreTexts};
 ghost use Rattle.dj_check.specs.Members.{IsFloatMethod, IsInterfaceMethod};
 ghost use Rattle.dj_check.specs.Rules.{FieldViolates};
 ghost use Rattle.dj_check.specs.Methods.{MethodViolates};
-ghost use Rattle.dj_check.specs.Marks.{names_in, MarksOf, RuledWhole, AreMarksOf, IsJudgedMethod, AreJudgedMethods};
+ghost use Rattle.dj_check.specs.Marks.{names_in, MarksOf, RuledWhole, AreMarksOf};
 ghost use Rattle.dj_check.specs.Passes.{IsWholeMethod, IsShortCode, HasMapOf};
 
-use crate::code::{MethodCode, WholeCode, code_of_method};
+use crate::code::WholeCode;
 use crate::judged::{JudgedText, text_in};
 use crate::maps::is_float_map;
 use crate::marks::{Mark, Place, add_mark_if};
@@ -103,8 +101,8 @@ fn is_interface_method(view: &ClassView<'_>, method: &MemberView<'_>) -> bool
     view.access().is_interface() && !is_initialiser(&view.pool, method.name)
 }
 
-// Appends the marks of a method with code.
-fn add_own_marks(
+/// Appends the marks of a method with code.
+pub fn add_own_marks(
     alloc: Global,
     marks: &mut Vec<Mark>,
     view: &ClassView<'_>,
@@ -123,8 +121,8 @@ fn add_own_marks(
     add_code_marks(marks, names, &view.pool, texts, &code.labelled)
 }
 
-// Appends the marks of a native or abstract method.
-fn add_bodiless_marks(
+/// Appends the marks of a native or abstract method.
+pub fn add_bodiless_marks(
     marks: &mut Vec<Mark>,
     view: &ClassView<'_>,
     texts: &[JudgedText],
@@ -137,51 +135,6 @@ fn add_bodiless_marks(
     let names = names_of(&view.pool, texts, method);
     let described = text_in(&view.pool, texts, method.desc).float;
     add_whole_marks(marks, names, described, false)
-}
-
-// Appends the marks of a method, or answers false where it is faulty.
-fn judge_method(
-    alloc: Global,
-    marks: &mut Vec<Mark>,
-    view: &ClassView<'_>,
-    texts: &[JudgedText],
-    method: &MemberView<'_>,
-) -> Result<bool, RulesError>
-    requires texts { AreTexts view.now.pool texts.now }
-    requires attributes { AllByRecursion (IsAttribute view.now.pool) (member_of method.now).attributes }
-    ensures { IfOk result (IsJudgedMethod (class_of view.now) texts.now (member_of method.now) marks.old.items marks.new.items) }
-{
-    match code_of_method(alloc, &view.pool, method)? {
-        MethodCode::Faulty => Ok(false),
-        MethodCode::Bodiless => {
-            add_bodiless_marks(marks, view, texts, method)?;
-            Ok(true)
-        }
-        MethodCode::Whole(code) => {
-            add_own_marks(alloc, marks, view, texts, method, &code)?;
-            Ok(true)
-        }
-    }
-}
-
-/// Appends the marks of all methods, or answers false where one is faulty.
-pub fn judge_methods(
-    alloc: Global,
-    marks: &mut Vec<Mark>,
-    view: &ClassView<'_>,
-    texts: &[JudgedText],
-) -> Result<bool, RulesError>
-    requires texts { AreTexts view.now.pool texts.now }
-    requires valid { IsValid (class_of view.now) }
-    ensures { IfOk result (AreJudgedMethods (class_of view.now) texts.now marks.old.items marks.new.items) }
-{
-    for method in view.methods.as_slice() {
-        let sound = judge_method(alloc, marks, view, texts, method)?;
-        if !sound {
-            return Ok(false);
-        }
-    }
-    Ok(true)
 }
 
 // Appends the mark of a field whose descriptor has a float or a double.

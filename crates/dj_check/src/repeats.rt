@@ -2,7 +2,7 @@ ghost use Rattle.std.specs.Prelude.{◌≡◌, ◌↔◌, map, IsTrue, IfOk};
 ghost use Rattle.dj_class.specs.ClassFile.{IsValid};
 ghost use Rattle.dj_class.specs.Members.{member_of};
 ghost use Rattle.dj_class.specs.Views.{class_of};
-ghost use Rattle.dj_check.specs.Judged.{AreTexts};
+ghost use Rattle.dj_check.specs.Judged.{AreTexts, AreNumbered};
 ghost use Rattle.dj_check.specs.Heads.{HasRepeats};
 ghost use Rattle.dj_check.specs.Gathered.{names_of, HasAgain};
 
@@ -41,6 +41,7 @@ pub fn has_repeats(
     texts: &[JudgedText],
 ) -> Result<bool, RulesError>
     requires texts { AreTexts view.now.pool texts.now }
+    requires numbered { AreNumbered (class_of view.now) texts.now }
     requires valid { IsValid (class_of view.now) }
     ensures { IfOk result (λ repeats. IsTrue repeats ↔ HasRepeats (class_of view.now)) }
 {

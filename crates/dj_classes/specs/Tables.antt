@@ -23,6 +23,9 @@ name_of c = c.name
 abbrev pub flags_in : Class → ℕ
 flags_in c = c.flags
 
+abbrev pub unnamed_fields_in : Class → ℕ
+unnamed_fields_in c = c.unnamed_fields
+
 -- the place of the class of this name
 abbrev pub class_number : Program → Name → Option ℕ
 class_number [] name = None

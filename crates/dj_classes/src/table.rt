@@ -1,11 +1,13 @@
-ghost use Rattle.std.specs.Prelude.{◌≡◌, ℕ, ◌<◌, ◌^◌, [], length, Some, IfOk, IsErrOf, slice_get};
+ghost use Rattle.std.specs.Prelude.{◌≡◌, ℕ, ◌<◌, ◌^◌, false, [], length, Some, is_some, IfOk, IfSome, IsErrOf, slice_get};
 ghost use Rattle.std.specs.Option.{option_map};
 ghost use Rattle.dj_names.specs.Types.{Name};
+ghost use Rattle.dj_names.specs.Descriptors.{Describes};
 ghost use Rattle.dj_model.specs.Program.{method_in, field_in};
+ghost use Rattle.dj_model.specs.Linking.{count_fields, fields_before};
 ghost use Rattle.dj_model.specs.Libraries.{joined};
 ghost use Rattle.dj_declared.specs.Files.{desc_in};
-ghost use Rattle.dj_declared.specs.Members.{IsDescriptor, method_flags, field_flags, has_method_named};
-ghost use Rattle.dj_classes.specs.Tables.{class_number, name_at, flags_in, super_number, interface_numbers, methods_at, fields_at, IsShared, IsLeastShared};
+ghost use Rattle.dj_declared.specs.Members.{IsDescriptor, method_flags, method_name, method_has_body, field_flags, field_name, has_method_named, method_place, field_place};
+ghost use Rattle.dj_classes.specs.Tables.{class_number, name_at, flags_in, unnamed_fields_in, super_number, interface_numbers, methods_at, fields_at, IsShared, IsLeastShared};
 ghost use Rattle.dj_classes.specs.declared.error.TableError.TheVariants.{Duplicate};
 
 use crate::error::TableError;
@@ -115,7 +117,8 @@ impl ClassTable {
     pub fn method_named(&self, class: u32, name: &[u8], desc: &[u8]) -> Option<u32>
         requires there { class < length self.now }
         requires described { IsDescriptor desc.now }
-        ensures { option_map (slice_get (methods_at self.now class)) result ≡ option_map Some (method_in (methods_at self.now class) name.now (desc_in desc.now)) }
+        ensures found { option_map (slice_get (methods_at self.now class)) result ≡ option_map Some (method_in (methods_at self.now class) name.now (desc_in desc.now)) }
+        ensures first { result ≡ method_place (methods_at self.now class) name.now (desc_in desc.now) }
     {
         self.rows[class as usize].method_named(name, desc)
     }
@@ -124,7 +127,8 @@ impl ClassTable {
     pub fn field_named(&self, class: u32, name: &[u8], desc: &[u8]) -> Option<u32>
         requires there { class < length self.now }
         requires described { IsDescriptor desc.now }
-        ensures { option_map (slice_get (fields_at self.now class)) result ≡ option_map Some (field_in (fields_at self.now class) name.now (desc_in desc.now)) }
+        ensures found { option_map (slice_get (fields_at self.now class)) result ≡ option_map Some (field_in (fields_at self.now class) name.now (desc_in desc.now)) }
+        ensures first { result ≡ field_place (fields_at self.now class) name.now (desc_in desc.now) }
     {
         self.rows[class as usize].field_named(name, desc)
     }
@@ -147,11 +151,105 @@ impl ClassTable {
         self.rows[class as usize].field_flags(member)
     }
 
+    /// Whether a class declares a field with a name of its own: of a class of a library only the number of fields is known.
+    pub fn has_fields(&self, class: u32) -> bool
+        requires { class < length self.now }
+        ensures { result ≡ is_some (slice_get (fields_at self.now class) 0) }
+    {
+        self.rows[class as usize].has_fields()
+    }
+
     /// Whether a class has a method of this name, whatever its descriptor is.
     pub fn has_method(&self, class: u32, name: &[u8]) -> bool
         requires { class < length self.now }
         ensures { result ≡ has_method_named (methods_at self.now class) name.now }
     {
         self.rows[class as usize].has_method(name)
+    }
+
+    /// The number of instance fields of a class that only native methods use.
+    pub fn unnamed_fields(&self, class: u32) -> u16
+        requires { class < length self.now }
+        ensures { Some result ≡ option_map unnamed_fields_in (slice_get self.now class) }
+    {
+        self.rows[class as usize].unnamed_fields()
+    }
+
+    /// The number of methods that a class declares.
+    pub fn method_count(&self, class: u32) -> usize
+        requires { class < length self.now }
+        ensures { result ≡ length (methods_at self.now class) }
+    {
+        self.rows[class as usize].method_count()
+    }
+
+    /// The number of fields that a class declares.
+    pub fn field_count(&self, class: u32) -> usize
+        requires { class < length self.now }
+        ensures { result ≡ length (fields_at self.now class) }
+    {
+        self.rows[class as usize].field_count()
+    }
+
+    /// The name of a method, by its place among those of its class.
+    pub fn method_name(&self, class: u32, member: u32) -> &[u8]
+        requires there { class < length self.now }
+        requires within { member < length (methods_at self.now class) }
+        ensures { Some result.now ≡ option_map method_name (slice_get (methods_at self.now class) member) }
+    {
+        self.rows[class as usize].method_name(member)
+    }
+
+    /// The text of the descriptor of a method, by its place among those of its class.
+    pub fn method_desc(&self, class: u32, member: u32) -> &[u8]
+        requires there { class < length self.now }
+        requires within { member < length (methods_at self.now class) }
+        ensures { IfSome (slice_get (methods_at self.now class) member) (λ m. Describes result.now m.desc) }
+    {
+        self.rows[class as usize].method_desc(member)
+    }
+
+    /// Whether a method, by its place among those of its class, has code, or a library answers it.
+    pub fn method_has_body(&self, class: u32, member: u32) -> bool
+        requires there { class < length self.now }
+        requires within { member < length (methods_at self.now class) }
+        ensures { Some result ≡ option_map method_has_body (slice_get (methods_at self.now class) member) }
+    {
+        self.rows[class as usize].method_has_body(member)
+    }
+
+    /// The name of a field, by its place among those of its class.
+    pub fn field_name(&self, class: u32, member: u32) -> &[u8]
+        requires there { class < length self.now }
+        requires within { member < length (fields_at self.now class) }
+        ensures { Some result.now ≡ option_map field_name (slice_get (fields_at self.now class) member) }
+    {
+        self.rows[class as usize].field_name(member)
+    }
+
+    /// The text of the descriptor of a field, by its place among those of its class.
+    pub fn field_desc(&self, class: u32, member: u32) -> &[u8]
+        requires there { class < length self.now }
+        requires within { member < length (fields_at self.now class) }
+        ensures { IfSome (slice_get (fields_at self.now class) member) (λ f. Describes result.now f.desc) }
+    {
+        self.rows[class as usize].field_desc(member)
+    }
+
+    /// How many of the fields that a class declares are instance fields.
+    pub fn instance_fields(&self, class: u32) -> u32
+        requires { class < length self.now }
+        ensures { result ≡ count_fields false (fields_at self.now class) }
+    {
+        self.rows[class as usize].instance_fields()
+    }
+
+    /// How many instance fields of a class stand before the first one that has the name and the descriptor of the one at a place.
+    pub fn instance_fields_before(&self, class: u32, member: u32) -> u32
+        requires there { class < length self.now }
+        requires within { member < length (fields_at self.now class) }
+        ensures { IfSome (slice_get (fields_at self.now class) member) (λ f. result ≡ fields_before false f.name f.desc (fields_at self.now class)) }
+    {
+        self.rows[class as usize].instance_fields_before(member)
     }
 }

@@ -6,4 +6,5 @@ pub mod MarkLaws
 pub mod FileLaws
 pub mod LibraryLaws
 pub mod ListLaws
+pub mod CountLaws
 mod Facts

@@ -10,7 +10,7 @@ use Rattle.dj_names.specs.Types.{Name, same_name, same_desc}
 use Rattle.dj_model.specs.Program.{is_named, method_in, field_in}
 use Rattle.dj_declared.specs.declared.members.MemberRow.{MemberRow}
 use Rattle.dj_declared.specs.Files.{desc_in}
-use Rattle.dj_declared.specs.Members.{IsDescriptor, method_flags, field_flags, has_method_named}
+use Rattle.dj_declared.specs.Members.{IsDescriptor, method_place, field_place, method_flags, field_flags, has_method_named}
 use Rattle.dj_declared.specs.Texts.{Numbers, number_in, text_in, LeadBack}
 use Rattle.dj_declared.specs.Rows.{row_method, row_field, IsSound, is_row, first_row, place_named}
 use Rattle.dj_declared.proofs.DescTests.{same_name_is, same_name_itself, same_texts, same_descriptors, descriptor_read}
@@ -51,7 +51,7 @@ module _ (numbers : Numbers) (back : LeadBack numbers) where
       (λ e. eq-eqb row.desc d (same_number row.desc d desc sound.desc is (same_texts (text_in numbers row.desc) desc (descriptor_read (text_in numbers row.desc) sound.described) valid e)))
       (λ e. same_descriptors (text_in numbers row.desc) desc (same_text row.desc d desc is (eqb-true row.desc d e)))
 
-  named_same : (row : MemberRow) (name desc : Name) (n d : ℕ) → IsSound numbers row → IsDescriptor desc → number_in numbers name ≡ Some n → number_in numbers desc ≡ Some d
+  pub named_same : (row : MemberRow) (name desc : Name) (n d : ℕ) → IsSound numbers row → IsDescriptor desc → number_in numbers name ≡ Some n → number_in numbers desc ≡ Some d
       → is_row n d row ≡ is_named name (desc_in desc) (text_in numbers row.name) (desc_in (text_in numbers row.desc))
   named_same row name desc n d sound valid is_name is_desc =
       ap (λ (b : Bool). b && eqb row.desc d) (sym (name_same row name n sound is_name))
@@ -140,6 +140,60 @@ module _ (numbers : Numbers) (back : LeadBack numbers) (name desc : Name) (valid
   fields_found rows place sound is =
       ap (option_map (slice_get (map (row_field numbers) rows))) is
       ∙ fields_by rows (recursion_from_All (IsSound numbers) rows sound) (number_in numbers name) (number_in numbers desc) refl refl
+
+-- ---- places
+
+place_step : (b c : Bool) (first rest : Option ℕ) → b ≡ c → first ≡ rest → cond b (Some 0) (option_map later first) ≡ cond c (Some 0) (option_map later rest)
+place_step b c first rest same e = ap (λ (t : Bool). cond t (Some 0) (option_map later first)) same ∙ ap (λ (r : Option ℕ). cond c (Some 0) (option_map later r)) e
+
+module _ (numbers : Numbers) (back : LeadBack numbers) (name desc : Name) (valid : IsDescriptor desc) where
+  placed_methods : (n d : ℕ) → number_in numbers name ≡ Some n → number_in numbers desc ≡ Some d → (rows : List MemberRow) → AllByRecursion (IsSound numbers) rows
+      → first_row n d rows ≡ method_place (map (row_method numbers) rows) name (desc_in desc)
+  placed_methods n d is_name is_desc [] all = refl
+  placed_methods n d is_name is_desc (r ∷ rows) all =
+      place_step (is_row n d r) (is_such numbers back name desc valid r) (first_row n d rows) (method_place (map (row_method numbers) rows) name (desc_in desc))
+      (named_same numbers back r name desc n d all.0 valid is_name is_desc) (placed_methods n d is_name is_desc rows all.1)
+
+  placed_fields : (n d : ℕ) → number_in numbers name ≡ Some n → number_in numbers desc ≡ Some d → (rows : List MemberRow) → AllByRecursion (IsSound numbers) rows
+      → first_row n d rows ≡ field_place (map (row_field numbers) rows) name (desc_in desc)
+  placed_fields n d is_name is_desc [] all = refl
+  placed_fields n d is_name is_desc (r ∷ rows) all =
+      place_step (is_row n d r) (is_such numbers back name desc valid r) (first_row n d rows) (field_place (map (row_field numbers) rows) name (desc_in desc))
+      (named_same numbers back r name desc n d all.0 valid is_name is_desc) (placed_fields n d is_name is_desc rows all.1)
+
+  no_method_place : ((row : MemberRow) → IsSound numbers row → is_such numbers back name desc valid row ≡ false) → (rows : List MemberRow) → AllByRecursion (IsSound numbers) rows
+      → None ≡ method_place (map (row_method numbers) rows) name (desc_in desc)
+  no_method_place none [] all = refl
+  no_method_place none (r ∷ rows) all =
+      place_step false (is_such numbers back name desc valid r) None (method_place (map (row_method numbers) rows) name (desc_in desc)) (sym (none r all.0)) (no_method_place none rows all.1)
+
+  no_field_place : ((row : MemberRow) → IsSound numbers row → is_such numbers back name desc valid row ≡ false) → (rows : List MemberRow) → AllByRecursion (IsSound numbers) rows
+      → None ≡ field_place (map (row_field numbers) rows) name (desc_in desc)
+  no_field_place none [] all = refl
+  no_field_place none (r ∷ rows) all =
+      place_step false (is_such numbers back name desc valid r) None (field_place (map (row_field numbers) rows) name (desc_in desc)) (sym (none r all.0)) (no_field_place none rows all.1)
+
+  method_place_by : (rows : List MemberRow) → AllByRecursion (IsSound numbers) rows → (of_name of_desc : Option ℕ) → number_in numbers name ≡ of_name → number_in numbers desc ≡ of_desc
+      → option_and_then (λ n. option_and_then (λ d. first_row n d rows) of_desc) of_name ≡ method_place (map (row_method numbers) rows) name (desc_in desc)
+  method_place_by rows all None of_desc is_name is_desc = no_method_place (without_name numbers back name desc valid is_name) rows all
+  method_place_by rows all (Some n) None is_name is_desc = no_method_place (without_desc numbers back name desc valid is_desc) rows all
+  method_place_by rows all (Some n) (Some d) is_name is_desc = placed_methods n d is_name is_desc rows all
+
+  field_place_by : (rows : List MemberRow) → AllByRecursion (IsSound numbers) rows → (of_name of_desc : Option ℕ) → number_in numbers name ≡ of_name → number_in numbers desc ≡ of_desc
+      → option_and_then (λ n. option_and_then (λ d. first_row n d rows) of_desc) of_name ≡ field_place (map (row_field numbers) rows) name (desc_in desc)
+  field_place_by rows all None of_desc is_name is_desc = no_field_place (without_name numbers back name desc valid is_name) rows all
+  field_place_by rows all (Some n) None is_name is_desc = no_field_place (without_desc numbers back name desc valid is_desc) rows all
+  field_place_by rows all (Some n) (Some d) is_name is_desc = placed_fields n d is_name is_desc rows all
+
+  -- the place of the first method with these texts
+  pub method_placed : (rows : List MemberRow) (place : Option ℕ) → All (IsSound numbers) rows → place ≡ place_named numbers rows name desc
+      → place ≡ method_place (map (row_method numbers) rows) name (desc_in desc)
+  method_placed rows place sound is = is ∙ method_place_by rows (recursion_from_All (IsSound numbers) rows sound) (number_in numbers name) (number_in numbers desc) refl refl
+
+  -- and of the first field
+  pub field_placed : (rows : List MemberRow) (place : Option ℕ) → All (IsSound numbers) rows → place ≡ place_named numbers rows name desc
+      → place ≡ field_place (map (row_field numbers) rows) name (desc_in desc)
+  field_placed rows place sound is = is ∙ field_place_by rows (recursion_from_All (IsSound numbers) rows sound) (number_in numbers name) (number_in numbers desc) refl refl
 
 -- ---- a name alone
 

@@ -1,7 +1,7 @@
 -- Texts and their numbers, with one text more.
-use Rattle.std.proofs.Common.{◌≡◌, ℕ, ◌+◌, ◌<◌, Bool, true, false, cond, eqb, List, [], ◌∷◌, length, All, Option, Some, None, Result, Ok, Err, refl, sym, ap, ◌∙◌, subst, arith, Ordering}
+use Rattle.std.proofs.Common.{◌≡◌, ℕ, zero, suc, ◌+◌, ◌<◌, Bool, true, false, cond, eqb, List, [], ◌∷◌, ◌++◌, length, All, get_or, Option, Some, None, Result, Ok, Err, refl, sym, ap, ◌∙◌, subst, arith, Ordering}
 use Rattle.std.specs.declared.cmp.Ordering.TheVariants.{Less, Equal, Greater}
-use Rattle.std.specs.Prelude.{OnOk, OnErr}
+use Rattle.std.specs.Prelude.{OnOk, OnErr, slice_get}
 use Rattle.std.specs.Global.{Vec}
 use Rattle.std.specs.Ordering.{nat_cmp, is_eq, match_ordering}
 use Rattle.std.specs.Cmp.Lexicographic.{slice_cmp}
@@ -10,11 +10,13 @@ use Rattle.std.specs.Map.{lookup, values_of}
 use Rattle.std.specs.BTreeMap.{is_at, insert_entry}
 use Rattle.std.specs.FinMap.{slice_cmp-IsAntisymmetric, nat_cmp-IsAntisymmetric}
 use Rattle.std.proofs.lemmas.Bool.{eq-eqb, ne_eqb}
+use Rattle.std.proofs.lemmas.Option.{same_Some}
+use Rattle.std.proofs.lemmas.List.{length_push}
 use Rattle.std.proofs.lemmas.Cmp.{nat_list_cmp_total, tied_itself}
 use Rattle.std.proofs.lemmas.List.Elements.{recursion_from_All, All-from_recursion}
 use Rattle.std.proofs.lemmas.Map.Views.{All-values-insert_entry}
 use Rattle.dj_names.specs.Types.{Name}
-use Rattle.dj_declared.specs.Texts.{Numbers, number_in, text_among, LeadBack, Keep}
+use Rattle.dj_declared.specs.Texts.{Numbers, number_in, text_among, LeadBack, AreKept, Keep}
 
 abbrev Entries : Type 0
 Entries = List (Vec ℕ × ℕ)
@@ -97,6 +99,17 @@ found_below (e ∷ es) text n j all is = found_below_by e (found_in es text) n j
 
 -- ---- with one text more
 
+equal_texts : (a b : Name) (r : Ordering) → slice_cmp nat_cmp a b ≡ r → is_eq r ≡ true → a ≡ b
+equal_texts a b Less e t = absurd cc
+equal_texts a b Equal e t = same_items a b e
+equal_texts a b Greater e t = absurd cc
+
+one_number : (a b : ℕ) → Some a ≡ Some b → a ≡ b
+one_number a b e = cc
+
+differing_texts : (a b : Name) → a ≡ b → is_eq (slice_cmp nat_cmp a b) ≡ false → ⊥
+differing_texts a b e f = let bad : true ≡ false = sym (ap is_eq (tied a b e)) ∙ f in absurd cc
+
 absent_other : (text key : Name) (found : Name → Option ℕ) (j : ℕ) → found key ≡ None → found text ≡ Some j → text ≡ key → ⊥
 absent_other text key found j none some same = let bad : Some j ≡ None = sym some ∙ ap found same ∙ none in absurd cc
 
@@ -109,23 +122,14 @@ kept_more old new key n none is text j found =
 back_at : (old : Entries) (key : Vec ℕ) (n : ℕ) (text : Name) (j : ℕ) → AllByRecursion (λ (k : ℕ). k < n) (values_of old) → found_in old key.items ≡ None → ((t : Name) (k : ℕ) → found_in old t ≡ Some k → text_among old k ≡ t)
     → (b : Bool) → is_eq (slice_cmp nat_cmp text key.items) ≡ b → found_in (insert_entry order old key n) text ≡ Some j → found_in (insert_entry order old key n) key.items ≡ Some n → text_among (insert_entry order old key n) j ≡ text
 back_at old key n text j all none back true same found own =
-    let is : text ≡ key.items = equal (slice_cmp nat_cmp text key.items) refl same in
-    let number : n ≡ j = one n j (sym own ∙ ap (found_in (insert_entry order old key n)) (sym is) ∙ found) in
-    ap (text_among (insert_entry order old key n)) (sym number) ∙ own_text old key n all ∙ sym is where
-      equal : (r : Ordering) → slice_cmp nat_cmp text key.items ≡ r → is_eq r ≡ true → text ≡ key.items
-      equal Less e t = absurd cc
-      equal Equal e t = same_items text key.items e
-      equal Greater e t = absurd cc
-
-      one : (a b : ℕ) → Some a ≡ Some b → a ≡ b
-      one a b e = cc
+    let is : text ≡ key.items = equal_texts text key.items (slice_cmp nat_cmp text key.items) refl same in
+    let number : n ≡ j = one_number n j (sym own ∙ ap (found_in (insert_entry order old key n)) (sym is) ∙ found) in
+    ap (text_among (insert_entry order old key n)) (sym number) ∙ own_text old key n all ∙ sym is
 back_at old key n text j all none back false same found own =
-    let other : text ≡ key.items → ⊥ = λ (e : text ≡ key.items). differs e same in
+    let other : text ≡ key.items → ⊥ = λ (e : text ≡ key.items). differing_texts text key.items e same in
     let before : found_in old text ≡ Some j = sym (found_other old key n text other) ∙ found in
     let below : j < n = found_below old text n j all before in
-    other_text old key n j (λ same. absurd (omega arith)) none ∙ back text j before where
-      differs : text ≡ key.items → is_eq (slice_cmp nat_cmp text key.items) ≡ false → ⊥
-      differs e f = let bad : true ≡ false = sym (ap is_eq (tied text key.items e)) ∙ f in absurd cc
+    other_text old key n j (λ same. absurd (omega arith)) none ∙ back text j before
 
 pub back_more : (old new : Numbers) (key : Vec ℕ) (n : ℕ) → All (λ (k : ℕ). k < n) (values_of old.entries) → number_in old key.items ≡ None → number_in new key.items ≡ Some n → new.entries ≡ insert_entry order old.entries key n → LeadBack old → LeadBack new
 back_more old new key n all none own is back text j found =
@@ -142,35 +146,77 @@ below_more old new key n m lt all is =
     let wide : All (λ (k : ℕ). k < m) (values_of old.entries) = All-from_recursion (λ (k : ℕ). k < m) (values_of old.entries) (wider n m (values_of old.entries) lt (recursion_from_All (λ (k : ℕ). k < n) (values_of old.entries) all)) in
     subst (λ (es : Entries). All (λ (k : ℕ). k < m) (values_of es)) (sym is) (All-values-insert_entry order key n (λ (k : ℕ). k < m) old.entries wide lt)
 
-length_by : (e : Vec ℕ × ℕ) (es : Entries) (key : Vec ℕ) (n : ℕ) (r : Ordering) → order key e.0 ≡ r → found_in (e ∷ es) key.items ≡ None → length (insert_entry order es key n) ≡ length es + 1
-    → length (match_ordering r ((key, n) ∷ e ∷ es) ((e.0, n) ∷ es) (e ∷ insert_entry order es key n)) ≡ length (e ∷ es) + 1
-length_by e es key n Less is none rest = omega arith
-length_by e es key n Equal is none rest = absurd (none_at e es key.items none is)
-length_by e es key n Greater is none rest = omega (arith, rest)
+-- ---- the texts by their numbers
 
-length_more : (es : Entries) (key : Vec ℕ) (n : ℕ) → found_in es key.items ≡ None → length (insert_entry order es key n) ≡ length es + 1
-length_more [] key n none = refl
-length_more (e ∷ es) key n none = length_by e es key n (order key e.0) refl none (length_more es key n (none_later e es key.items none))
+get_before : (texts : List Name) (text : Name) (j : ℕ) (key : Name) → slice_get texts j ≡ Some text → slice_get (texts ++ key ∷ []) j ≡ Some text
+get_before [] text j key e = absurd cc
+get_before (t ∷ texts) text zero key e = e
+get_before (t ∷ texts) text (suc j) key e = get_before texts text j key e
+
+get_last : (texts : List Name) (key : Name) (j : ℕ) → length texts ≡ j → slice_get (texts ++ key ∷ []) j ≡ Some key
+get_last [] key zero e = refl
+get_last [] key (suc j) e = absurd (omega (arith, e))
+get_last (t ∷ texts) key zero e = absurd (omega (arith, e))
+get_last (t ∷ texts) key (suc j) e = get_last texts key j (omega (arith, e))
+
+kept_at : (old : Entries) (texts : List Name) (key : Vec ℕ) (n : ℕ) (text : Name) (j : ℕ) → length texts ≡ n → ((t : Name) (k : ℕ) → found_in old t ≡ Some k → slice_get texts k ≡ Some t)
+    → (b : Bool) → is_eq (slice_cmp nat_cmp text key.items) ≡ b → found_in (insert_entry order old key n) text ≡ Some j → found_in (insert_entry order old key n) key.items ≡ Some n → slice_get (texts ++ key.items ∷ []) j ≡ Some text
+kept_at old texts key n text j count kept true same found own =
+    let is : text ≡ key.items = equal_texts text key.items (slice_cmp nat_cmp text key.items) refl same in
+    let number : n ≡ j = one_number n j (sym own ∙ ap (found_in (insert_entry order old key n)) (sym is) ∙ found) in
+    get_last texts key.items j (count ∙ number) ∙ ap Some (sym is)
+kept_at old texts key n text j count kept false same found own =
+    let other : text ≡ key.items → ⊥ = λ (e : text ≡ key.items). differing_texts text key.items e same in
+    get_before texts text j key.items (kept text j (sym (found_other old key n text other) ∙ found))
 
 -- what a table of texts keeps
-pub record Holds (numbers : Numbers) : Type 0 where
+pub record Holds (numbers : Numbers) (texts : List Name) : Type 0 where
   pub back : LeadBack numbers
-  pub below : All (λ (k : ℕ). k < length numbers.entries) (values_of numbers.entries)
+  pub below : All (λ (k : ℕ). k < length texts) (values_of numbers.entries)
+  pub kept : AreKept numbers texts
 
-pub holds_more : (old new : Numbers) (key : Vec ℕ) (n : ℕ) → n ≡ length old.entries → Holds old → number_in old key.items ≡ None → number_in new key.items ≡ Some n → new.entries ≡ insert_entry order old.entries key n → Holds new
-holds_more old new key n count holds none own is =
+pub holds_more : (old new : Numbers) (texts more : List Name) (key : Vec ℕ) (n : ℕ) → n ≡ length texts → more ≡ texts ++ key.items ∷ [] → Holds old texts → number_in old key.items ≡ None → number_in new key.items ≡ Some n
+    → new.entries ≡ insert_entry order old.entries key n → Holds new more
+holds_more old new texts more key n count longer holds none own is =
     let all : All (λ (k : ℕ). k < n) (values_of old.entries) = subst (λ (m : ℕ). All (λ (k : ℕ). k < m) (values_of old.entries)) (sym count) holds.below in
-    let long : length new.entries ≡ length old.entries + 1 = ap length is ∙ length_more old.entries key n none in
+    let long : length more ≡ n + 1 = ap length longer ∙ length_push texts key.items ∙ ap (λ (m : ℕ). m + 1) (sym count) in
     record {
       back = back_more old new key n all none own is holds.back;
-      below = below_more old new key n (length new.entries) (omega (arith, long, count)) all is;
+      below = below_more old new key n (length more) (omega (arith, long)) all is;
+      kept = λ text j found. subst (λ (ts : List Name). slice_get ts j ≡ Some text) (sym longer)
+          (kept_at old.entries texts key n text j (sym count) holds.kept (is_eq (slice_cmp nat_cmp text key.items)) refl
+          (sym (ap (λ (es : Entries). found_in es text) is) ∙ found) (sym (ap (λ (es : Entries). found_in es key.items) is) ∙ own));
     }
 
-pub holds_same : (old new : Numbers) → new.entries ≡ old.entries → Holds old → Holds new
-holds_same old new is holds = record {
-  back = λ text j found. ap (λ (es : Entries). text_among es j) is ∙ holds.back text j (sym (ap (λ (es : Entries). found_in es text) is) ∙ found);
-  below = subst (λ (es : Entries). All (λ (k : ℕ). k < length es) (values_of es)) (sym is) holds.below;
-}
+-- the numbers are the same, and one text more stands at the end
+pub holds_longer : (old new : Numbers) (texts more : List Name) (key : Name) → more ≡ texts ++ key ∷ [] → new.entries ≡ old.entries → Holds old texts → Holds new more
+holds_longer old new texts more key longer is holds =
+    let long : length more ≡ length texts + 1 = ap length longer ∙ length_push texts key in
+    record {
+      back = λ text j found. ap (λ (es : Entries). text_among es j) is ∙ holds.back text j (sym (ap (λ (es : Entries). found_in es text) is) ∙ found);
+      below = subst (λ (es : Entries). All (λ (k : ℕ). k < length more) (values_of es)) (sym is)
+          (All-from_recursion (λ (k : ℕ). k < length more) (values_of old.entries)
+          (wider (length texts) (length more) (values_of old.entries) (omega (arith, long)) (recursion_from_All (λ (k : ℕ). k < length texts) (values_of old.entries) holds.below)));
+      kept = λ text j found. subst (λ (ts : List Name). slice_get ts j ≡ Some text) (sym longer)
+          (get_before texts text j key (holds.kept text j (sym (ap (λ (es : Entries). found_in es text) is) ∙ found)));
+    }
+
+-- a text that has the number stands there
+within_by : (texts : List Name) (j : ℕ) (text : Name) → slice_get texts j ≡ Some text → j < length texts
+within_by [] j text e = absurd cc
+within_by (t ∷ texts) zero text e = omega arith
+within_by (t ∷ texts) (suc j) text e = let lt = within_by texts j text e in omega (arith, lt)
+
+pub text_within : (numbers : Numbers) (texts lent : List Name) (number : ℕ) (text : Name) → AreKept numbers texts → number_in numbers text ≡ Some number → lent ≡ texts → number < length lent
+text_within numbers texts lent number text kept is same = subst (λ (ts : List Name). number < length ts) (sym same) (within_by texts number text (kept text number is))
+
+read_by : (texts : List Name) (j : ℕ) (text found : Name) → slice_get texts j ≡ Some text → found ≡ get_or texts j found → found ≡ text
+read_by [] j text found e is = absurd cc
+read_by (t ∷ texts) zero text found e is = is ∙ same_Some t text e
+read_by (t ∷ texts) (suc j) text found e is = read_by texts j text found e is
+
+pub text_read : (numbers : Numbers) (texts lent : List Name) (number : ℕ) (text found : Name) → AreKept numbers texts → number_in numbers text ≡ Some number → lent ≡ texts → found ≡ get_or lent number found → found ≡ text
+text_read numbers texts lent number text found kept is same read = read_by texts number text found (kept text number is) (read ∙ ap (λ (ts : List Name). get_or ts number found) same)
 
 pub on_each : {T E : Type 0} (r : Result T E) (P S Q R : Type 0) → OnOk r P → OnOk r S → OnErr r Q → (P → S → R) → (Q → R) → R
 on_each (Ok x) P S Q R ok more err f g = f ok more

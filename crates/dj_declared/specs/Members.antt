@@ -1,9 +1,12 @@
 -- Members of classes by their places, and by texts.
-use Rattle.std.specs.Prelude.{ℕ, Bool, List}
+use Rattle.std.specs.Prelude.{ℕ, ◌+◌, Bool, List, [], ◌∷◌, Option, Some, None, if◌then◌else◌}
 use Rattle.std.specs.List.{list_any}
+use Rattle.std.specs.Option.{option_map}
+use Rattle.dj_names.specs.declared.descriptor.Desc.{Desc}
 use Rattle.dj_names.specs.Types.{Name, same_name}
 use Rattle.dj_names.specs.Descriptors.{Describes}
-use Rattle.dj_model.specs.Program.{Method, Field}
+use Rattle.dj_model.specs.Program.{Method, Field, is_named}
+use Rattle.dj_model.specs.Linking.{has_body}
 use Rattle.dj_declared.specs.Files.{desc_in}
 
 -- the text is a descriptor
@@ -13,9 +16,29 @@ IsDescriptor text = Describes text (desc_in text)
 abbrev pub method_flags : Method → ℕ
 method_flags m = m.flags
 
+abbrev pub method_name : Method → Name
+method_name m = m.name
+
+abbrev pub method_has_body : Method → Bool
+method_has_body m = has_body m.body
+
+abbrev pub field_name : Field → Name
+field_name f = f.name
+
 abbrev pub field_flags : Field → ℕ
 field_flags f = f.flags
 
 -- one of the methods has this name
 abbrev pub has_method_named : List Method → Name → Bool
 has_method_named methods name = list_any (λ m. same_name m.name name) methods
+
+-- ---- places of members
+
+-- the place of the first method with this name and this descriptor
+abbrev pub method_place : List Method → Name → Desc → Option ℕ
+method_place [] name desc = None
+method_place (m ∷ methods) name desc = if is_named name desc m.name m.desc then Some 0 else option_map (λ place. place + 1) (method_place methods name desc)
+
+abbrev pub field_place : List Field → Name → Desc → Option ℕ
+field_place [] name desc = None
+field_place (f ∷ fields) name desc = if is_named name desc f.name f.desc then Some 0 else option_map (λ place. place + 1) (field_place fields name desc)

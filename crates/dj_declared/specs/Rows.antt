@@ -1,5 +1,5 @@
 -- The code's own: members by the numbers of their texts.
-use Rattle.std.specs.Prelude.{◌≡◌, ℕ, ◌+◌, ◌<◌, ◌&&◌, Bool, true, false, List, [], ◌∷◌, All, map, option_and_then, Option, Some, None, get_or, is_some, nat_eq, if◌then◌else◌}
+use Rattle.std.specs.Prelude.{◌≡◌, ℕ, ◌+◌, ◌<◌, ◌≤◌, ◌&&◌, Bool, true, false, not, List, [], ◌∷◌, All, map, option_and_then, Option, Some, None, get_or, is_some, length, take, nat_eq, if◌then◌else◌}
 use Rattle.std.specs.Option.{option_map}
 use Rattle.std.specs.Ordering.{nat_cmp, ordering_then}
 use Rattle.std.specs.BTreeMap.{BTreeMap, get_by}
@@ -8,7 +8,7 @@ use Rattle.dj_names.specs.DescReading.{desc_read}
 use Rattle.dj_names.specs.declared.native.NativeId.{NativeId}
 use Rattle.dj_pool.specs.Pool.{Constant, text_at}
 use Rattle.dj_class.specs.ClassFile.{MemberInfo}
-use Rattle.dj_model.specs.Program.{Method, Field, Body, Abstract, Native, Runs}
+use Rattle.dj_model.specs.Program.{Method, Field, Body, Abstract, Native, Runs, is_static}
 use Rattle.dj_declared.specs.declared.members.MemberBody.{MemberBody}
 use Rattle.dj_declared.specs.declared.members.MemberBody.TheVariants as bodies
 use Rattle.dj_declared.specs.declared.members.MemberRow.{MemberRow}
@@ -84,6 +84,16 @@ AreFirst rows places = (name desc : ℕ) → place_in places name desc ≡ first
 abbrev pub or_after : Option ℕ → Option ℕ → Option ℕ
 or_after None later = later
 or_after (Some place) later = Some place
+
+-- how many of these rows aren't static
+abbrev pub instance_rows : List MemberRow → ℕ
+instance_rows [] = 0
+instance_rows (row ∷ rows) = if not (is_static row.flags) then 1 + instance_rows rows else instance_rows rows
+
+-- how many rows that aren't static stand before each place, and before the end
+pub record AreCounts (rows : List MemberRow) (counts : List ℕ) : Type 0 where
+  pub long : length counts ≡ length rows + 1
+  pub each : (place : ℕ) → place ≤ length rows → get_or counts place 0 ≡ instance_rows (take place rows)
 
 -- the place of the row was noted, where none stood before it
 abbrev pub Notes : MemberRow → ℕ → Places → Places → Type 0

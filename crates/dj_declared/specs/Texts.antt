@@ -1,5 +1,5 @@
 -- The code's own: the texts of a class, each with a number of its own.
-use Rattle.std.specs.Prelude.{◌≡◌, ℕ, List, [], ◌∷◌, Option, Some, nat_eq, if◌then◌else◌}
+use Rattle.std.specs.Prelude.{◌≡◌, ℕ, List, [], ◌∷◌, Option, Some, nat_eq, if◌then◌else◌, slice_get}
 use Rattle.std.specs.Global.{Vec}
 use Rattle.std.specs.Ordering.{nat_cmp}
 use Rattle.std.specs.Cmp.Lexicographic.{slice_cmp}
@@ -24,6 +24,10 @@ text_in numbers number = text_among numbers.entries number
 -- a text's number leads back to the text
 abbrev pub LeadBack : Numbers → Type 0
 LeadBack numbers = (text : Name) (number : ℕ) → number_in numbers text ≡ Some number → text_in numbers number ≡ text
+
+-- each text stands at its number
+abbrev pub AreKept : Numbers → List Name → Type 0
+AreKept numbers texts = (text : Name) (number : ℕ) → number_in numbers text ≡ Some number → slice_get texts number ≡ Some text
 
 -- each text keeps its number
 abbrev pub Keep : Numbers → Numbers → Type 0

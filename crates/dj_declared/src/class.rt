@@ -1,13 +1,14 @@
-ghost use Rattle.std.specs.Prelude.{◌≡◌, ◌<◌, length, map, Some, IfOk, All, slice_get};
+ghost use Rattle.std.specs.Prelude.{◌≡◌, ◌<◌, false, length, map, Some, is_some, IfSome, IfOk, All, slice_get};
 ghost use Rattle.std.specs.Option.{option_map};
-ghost use Rattle.dj_names.specs.Descriptors.{IsDesc};
+ghost use Rattle.dj_names.specs.Descriptors.{IsDesc, Describes};
 ghost use Rattle.dj_class.specs.ClassFile.{IsValid};
 ghost use Rattle.dj_class.specs.Views.{class_of};
 ghost use Rattle.dj_natives.specs.Views.{library_class_view};
 ghost use Rattle.dj_model.specs.Program.{method_in, field_in};
+ghost use Rattle.dj_model.specs.Linking.{count_fields, fields_before};
 ghost use Rattle.dj_model.specs.Libraries.{library_class};
 ghost use Rattle.dj_declared.specs.Files.{desc_in, declared_class};
-ghost use Rattle.dj_declared.specs.Members.{IsDescriptor, method_flags, field_flags, has_method_named};
+ghost use Rattle.dj_declared.specs.Members.{IsDescriptor, method_flags, method_name, method_has_body, field_flags, field_name, has_method_named, method_place, field_place};
 
 use crate::error::DeclareError;
 use crate::file::file_members;
@@ -119,7 +120,8 @@ impl DeclaredClass {
     /// The place, among the methods, of the first one with this name and this descriptor.
     pub fn method_named(&self, name: &[u8], desc: &[u8]) -> Option<u32>
         requires { IsDescriptor desc.now }
-        ensures { option_map (slice_get self.now.methods) result ≡ option_map Some (method_in self.now.methods name.now (desc_in desc.now)) }
+        ensures found { option_map (slice_get self.now.methods) result ≡ option_map Some (method_in self.now.methods name.now (desc_in desc.now)) }
+        ensures first { result ≡ method_place self.now.methods name.now (desc_in desc.now) }
     {
         self.members.method_named(name, desc)
     }
@@ -127,7 +129,8 @@ impl DeclaredClass {
     /// The place, among the fields, of the first one with this name and this descriptor.
     pub fn field_named(&self, name: &[u8], desc: &[u8]) -> Option<u32>
         requires { IsDescriptor desc.now }
-        ensures { option_map (slice_get self.now.fields) result ≡ option_map Some (field_in self.now.fields name.now (desc_in desc.now)) }
+        ensures found { option_map (slice_get self.now.fields) result ≡ option_map Some (field_in self.now.fields name.now (desc_in desc.now)) }
+        ensures first { result ≡ field_place self.now.fields name.now (desc_in desc.now) }
     {
         self.members.field_named(name, desc)
     }
@@ -148,10 +151,93 @@ impl DeclaredClass {
         self.members.field_flags(place)
     }
 
+    /// Whether the class declares a field with a name of its own.
+    pub fn has_fields(&self) -> bool
+        ensures { result ≡ is_some (slice_get self.now.fields 0) }
+    {
+        self.members.has_fields()
+    }
+
     /// Whether a method has this name, whatever its descriptor is.
     pub fn has_method(&self, name: &[u8]) -> bool
         ensures { result ≡ has_method_named self.now.methods name.now }
     {
         self.members.has_method(name)
+    }
+
+    /// The number of instance fields that only native methods use.
+    pub fn unnamed_fields(&self) -> u16
+        ensures { result ≡ self.now.unnamed_fields }
+    {
+        self.unnamed_fields
+    }
+
+    /// The number of methods.
+    pub fn method_count(&self) -> usize
+        ensures { result ≡ length self.now.methods }
+    {
+        self.members.method_count()
+    }
+
+    /// The number of fields.
+    pub fn field_count(&self) -> usize
+        ensures { result ≡ length self.now.fields }
+    {
+        self.members.field_count()
+    }
+
+    /// The name of the method at a place.
+    pub fn method_name(&self, place: u32) -> &[u8]
+        requires { place < length self.now.methods }
+        ensures { Some result.now ≡ option_map method_name (slice_get self.now.methods place) }
+    {
+        self.members.method_name(place)
+    }
+
+    /// The text of the descriptor of the method at a place.
+    pub fn method_desc(&self, place: u32) -> &[u8]
+        requires { place < length self.now.methods }
+        ensures { IfSome (slice_get self.now.methods place) (λ m. Describes result.now m.desc) }
+    {
+        self.members.method_desc(place)
+    }
+
+    /// Whether the method at a place has code, or a library answers it.
+    pub fn method_has_body(&self, place: u32) -> bool
+        requires { place < length self.now.methods }
+        ensures { Some result ≡ option_map method_has_body (slice_get self.now.methods place) }
+    {
+        self.members.method_has_body(place)
+    }
+
+    /// The name of the field at a place.
+    pub fn field_name(&self, place: u32) -> &[u8]
+        requires { place < length self.now.fields }
+        ensures { Some result.now ≡ option_map field_name (slice_get self.now.fields place) }
+    {
+        self.members.field_name(place)
+    }
+
+    /// The text of the descriptor of the field at a place.
+    pub fn field_desc(&self, place: u32) -> &[u8]
+        requires { place < length self.now.fields }
+        ensures { IfSome (slice_get self.now.fields place) (λ f. Describes result.now f.desc) }
+    {
+        self.members.field_desc(place)
+    }
+
+    /// How many of the fields are instance fields.
+    pub fn instance_fields(&self) -> u32
+        ensures { result ≡ count_fields false self.now.fields }
+    {
+        self.members.instance_fields()
+    }
+
+    /// How many instance fields stand before the first field that has the name and the descriptor of the one at a place.
+    pub fn instance_fields_before(&self, place: u32) -> u32
+        requires { place < length self.now.fields }
+        ensures { IfSome (slice_get self.now.fields place) (λ f. result ≡ fields_before false f.name f.desc self.now.fields) }
+    {
+        self.members.instance_fields_before(place)
     }
 }

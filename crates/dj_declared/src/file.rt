@@ -136,9 +136,11 @@ pub(crate) fn file_members(
     let places = number_texts(alloc, &mut texts, &view.pool, &marks)?;
     let fields = MemberTable::new(alloc, field_rows(alloc, &places, fields)?)?;
     let methods = MemberTable::new(alloc, method_rows(alloc, &places, methods)?)?;
+    let counts = fields.instance_counts(alloc)?;
     Ok(ClassMembers {
         texts,
         fields,
         methods,
+        counts,
     })
 }

@@ -15,3 +15,4 @@ mod texts;
 
 pub use class::{DeclaredClass, declare_file, declare_library_class};
 pub use error::DeclareError;
+pub use spelling::spell_type;

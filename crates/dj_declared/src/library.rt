@@ -76,9 +76,11 @@ pub(crate) fn library_members(
     let rows = method_rows(alloc, &mut texts, methods)?;
     let methods = MemberTable::new(alloc, rows)?;
     let fields = MemberTable::new(alloc, Vec::new(alloc))?;
+    let counts = fields.instance_counts(alloc)?;
     Ok(ClassMembers {
         texts,
         fields,
         methods,
+        counts,
     })
 }

@@ -1,14 +1,17 @@
 //! Members by the numbers of their texts, and the first of those that have the same.
-ghost use Rattle.std.specs.Prelude.{◌≡◌, ◌<◌, Some, IfOk, OnOk, length, nat_eq, slice_get};
+ghost use Rattle.std.specs.Prelude.{◌≡◌, ◌<◌, Some, is_some, IfOk, OnOk, length, nat_eq, slice_get};
 ghost use Rattle.std.specs.List.{list_any};
 ghost use Rattle.std.specs.Option.{option_map};
-ghost use Rattle.dj_declared.specs.Rows.{first_row, place_named, AreFirst, Notes};
+ghost use Rattle.dj_declared.specs.Rows.{first_row, place_named, AreCounts, AreFirst, Notes};
 
 use crate::error::DeclareError;
 use crate::texts::TextTable;
 use dj_names::NativeId;
 use std::alloc::Global;
 use std::collections::BTreeMap;
+
+// JVMS tables 4.5-A and 4.6-A.
+const STATIC: u16 = 0x0008;
 
 /// What a member has beside its texts.
 #[derive(Clone, Copy)]
@@ -67,6 +70,25 @@ fn places_of(alloc: Global, rows: &[MemberRow]) -> Result<BTreeMap<(u32, u32), u
     Ok(places)
 }
 
+// How many rows that aren't static stand before each place, and before the end.
+fn instance_counts_of(alloc: Global, rows: &[MemberRow]) -> Result<Vec<u32>, DeclareError>
+    ensures { IfOk result (λ counts. AreCounts rows.now counts.items) }
+{
+    let mut counts = Vec::new(alloc);
+    let mut count = 0u32;
+    for row in rows {
+        counts.push(count)?;
+        if row.flags & STATIC == 0 {
+            let Some(more) = count.checked_add(1) else {
+                return Err(DeclareError::Memory);
+            };
+            count = more;
+        }
+    }
+    counts.push(count)?;
+    Ok(counts)
+}
+
 impl MemberTable {
     /// These members, in order.
     pub(crate) fn new(alloc: Global, rows: Vec<MemberRow>) -> Result<MemberTable, DeclareError>
@@ -92,12 +114,41 @@ impl MemberTable {
         self.find(name, desc)
     }
 
+    /// The number of members.
+    pub(crate) fn count(&self) -> usize
+        ensures { result ≡ length self.now.rows.items }
+    {
+        self.rows.len()
+    }
+
+    /// The member at a place.
+    pub(crate) fn row(&self, place: u32) -> MemberRow
+        requires { place < length self.now.rows.items }
+        ensures { Some result ≡ slice_get self.now.rows.items place }
+    {
+        self.rows[place as usize]
+    }
+
+    /// How many members that aren't static stand before each place, and before the end.
+    pub(crate) fn instance_counts(&self, alloc: Global) -> Result<Vec<u32>, DeclareError>
+        ensures { IfOk result (λ counts. AreCounts self.now.rows.items counts.items) }
+    {
+        instance_counts_of(alloc, &self.rows)
+    }
+
     /// The access flags of the member at a place.
     pub(crate) fn flags(&self, place: u32) -> u16
         requires { place < length self.now.rows.items }
         ensures { Some result ≡ option_map (λ row. row.flags) (slice_get self.now.rows.items place) }
     {
         self.rows[place as usize].flags
+    }
+
+    /// Whether there is a member.
+    pub(crate) fn has_any(&self) -> bool
+        ensures { result ≡ is_some (slice_get self.now.rows.items 0) }
+    {
+        self.rows.first().is_some()
     }
 
     /// Whether a member has the name of this number.

@@ -74,6 +74,15 @@ fn put_result(text: &mut Name, ret: &Option<Ty>) -> Result<(), NoMemory>
     }
 }
 
+/// The text of a type.
+pub fn spell_type(alloc: Global, ty: &Ty) -> Result<Name, NoMemory>
+    ensures { IfOk result (λ text. text ≡ type_text ty.now) }
+{
+    let mut text = Name::new(alloc);
+    put_type(&mut text, ty)?;
+    Ok(text)
+}
+
 /// The text of a descriptor.
 pub(crate) fn spell_desc(alloc: Global, desc: &Desc) -> Result<Name, NoMemory>
     ensures { IfOk result (λ text. text ≡ desc_text desc.now) }

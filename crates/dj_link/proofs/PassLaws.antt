@@ -22,7 +22,7 @@ use Rattle.dj_check.proofs.MethodLaws.{one_labelled, labelled_own, no_code_of}
 use Rattle.dj_link.specs.Lines.{IsUntold, IsFirstOf, LinkViolates, CatchViolates, CodeLinkViolates, MethodLinkViolates}
 use Rattle.dj_link.specs.declared.known.Known.{Known}
 use Rattle.dj_link.specs.Known.{is_foreign, is_unlinked, is_foreign_catch, is_unlinked_catch, IsKnown, IsRuled, KnownInstr, KnownCatch, KnownBelow, KnownRange, KnownCode}
-use Rattle.dj_link.specs.Marks.{AreRangeMarks}
+use Rattle.dj_link.specs.Marks.{AreRangeMarks, AreUntold, IsUntoldMethod}
 use Rattle.dj_link.proofs.Judging.{foreign_instr, unlinked_instr, foreign_catch, unlinked_catch}
 
 -- ---- one mark
@@ -201,6 +201,17 @@ to_known : (c : ClassFile) (m : MemberInfo) (known : Known) (code : WholeCode) (
 to_known c m known code number rule is whole v =
     known_at c known code.labelled v.at number rule is v.number_is
     (subst (λ (l : Labelled). CodeLinkViolates known.table.now (this_name c) c.pool l v.at rule) (one_labelled c.pool m code v.labelled whole v.code) v.such)
+
+-- a method that violates no rule has no instruction that does
+pub untold_code : (c : ClassFile) (m : MemberInfo) (code : WholeCode) → IsWholeMethod c.pool m code → IsUntoldMethod c m → AreUntold c.pool code.labelled.code
+untold_code c m code is never number instr stands rule violates =
+    never (Some number) rule (inr (record {
+      labelled = code.labelled;
+      code = labelled_own c.pool m code is;
+      at = number;
+      number_is = refl;
+      such = inl (record { instr = instr; stands = stands; such = violates });
+    }))
 
 pub method_marks : (c : ClassFile) (m : MemberInfo) (names : ℕ × ℕ) (known : Known) (code : WholeCode) (a b : List Mark) → IsKnown (this_name c) c.pool known → IsWholeMethod c.pool m code
     → Gains (MarksOf names (KnownCode known c.pool code.labelled)) a b → Gains (MarksOf names (MethodLinkViolates known.table.now c m)) a b

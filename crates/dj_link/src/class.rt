@@ -44,7 +44,7 @@ fn add_class_lines(
     requires whole { IsFaulty (class_of view.now) → ⊥ }
     ensures { OnOk result (Adds (IsMemberLine (MethodLinkViolates linker.now.program (class_of view.now)) (class_of view.now).methods path.now (class_of view.now)) found.old.items found.new.items) }
 {
-    let texts = judge_texts(alloc, &view.pool)?;
+    let texts = judge_texts(alloc, view)?;
     let kept = judge_constants(alloc, linker, &view.pool)?;
     let above = classes_above(alloc, linker.classes(), own_name(view))?;
     let known = Known {

@@ -52,3 +52,13 @@ impl<T: Drop> From<AllocFailed<T>> for LinkError {
         LinkError::Memory
     }
 }
+
+impl From<LinkError> for RulesError {
+    ghost use Rattle.dj_rules.specs.declared.error.RulesError.TheVariants.{Memory};
+
+    ghost from_gives = { λ _ e. e ≡ Memory };
+
+    fn from(_error: LinkError) -> RulesError {
+        RulesError::Memory
+    }
+}

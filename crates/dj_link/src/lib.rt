@@ -17,5 +17,12 @@ mod named;
 mod passes;
 mod statics;
 
+pub use above::classes_above;
+pub use classes::unmakeable_classes;
+pub use constants::judge_constants;
 pub use error::LinkError;
 pub use files::{add_link_lines, links};
+pub use known::Known;
+pub use methods::add_whole_marks;
+pub use named::{NamedClass, NamedConstant, NamedMember, Tag};
+pub use statics::is_static;

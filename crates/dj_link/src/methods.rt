@@ -1,4 +1,4 @@
-ghost use Rattle.std.specs.Prelude.{OnOk};
+ghost use Rattle.std.specs.Prelude.{IsTrue, OnOk};
 ghost use Rattle.std.specs.List.{AllByRecursion};
 ghost use Rattle.dj_class.specs.ClassFile.{IsAttribute, IsValid};
 ghost use Rattle.dj_class.specs.Members.{member_of};
@@ -11,6 +11,7 @@ ghost use Rattle.dj_check.specs.Marks.{names_in, MarksOf, AreMarksOf};
 ghost use Rattle.dj_check.specs.Passes.{IsWholeMethod};
 ghost use Rattle.dj_link.specs.Lines.{MethodLinkViolates};
 ghost use Rattle.dj_link.specs.Known.{IsKnown};
+ghost use Rattle.dj_link.specs.Marks.{IsUntoldMethod};
 
 use crate::error::LinkError;
 use crate::known::Known;
@@ -19,22 +20,32 @@ use dj_check::{JudgedText, Mark, MethodCode, WholeCode, code_of_method, names_of
 use dj_class::{ClassView, MemberView};
 use std::alloc::Global;
 
-// Appends the marks of a method with code.
-fn add_whole_marks(
+/// Appends the marks of a method with code. It may be known that it violates none of the rules 9 to 16.
+pub fn add_whole_marks(
     marks: &mut Vec<Mark>,
     view: &ClassView<'_>,
     texts: &[JudgedText],
     known: &Known<'_>,
     method: &MemberView<'_>,
     code: &WholeCode<'_>,
+    untold: bool,
 ) -> Result<(), LinkError>
+    requires untold { IsTrue untold → IsUntoldMethod (class_of view.now) (member_of method.now) }
     requires texts { AreTexts view.now.pool texts.now }
     requires known { IsKnown (this_name (class_of view.now)) view.now.pool known.now }
     requires code { IsWholeMethod view.now.pool (member_of method.now) code.now }
     ensures { OnOk result (Gains (MarksOf (names_in texts.now (member_of method.now)) (MethodLinkViolates known.now.table.now (class_of view.now) (member_of method.now))) marks.old.items marks.new.items) }
 {
     let names = names_of(&view.pool, texts, method);
-    add_code_marks(marks, names, &view.pool, texts, known, &code.labelled)
+    add_code_marks(
+        marks,
+        names,
+        &view.pool,
+        texts,
+        known,
+        &code.labelled,
+        untold,
+    )
 }
 
 // Appends the marks of a method.
@@ -55,7 +66,9 @@ fn add_method_mark(
     match code_of_method(alloc, &view.pool, method)? {
         MethodCode::Faulty => unreachable!(),
         MethodCode::Bodiless => Ok(()),
-        MethodCode::Whole(code) => add_whole_marks(marks, view, texts, known, method, &code),
+        MethodCode::Whole(code) => {
+            add_whole_marks(marks, view, texts, known, method, &code, false)
+        }
     }
 }
 

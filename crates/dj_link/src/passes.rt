@@ -1,9 +1,11 @@
-ghost use Rattle.std.specs.Prelude.{◌<◌, ◌^◌, length, OnOk};
+ghost use Rattle.std.specs.Prelude.{ℕ, ◌↔◌, ◌<◌, ◌^◌, length, IsTrue, OnOk};
 ghost use Rattle.dj_report.specs.Lines.{Gains};
 ghost use Rattle.dj_check.specs.Judged.{AreTexts};
 ghost use Rattle.dj_check.specs.Marks.{MarksAt, MarksOf};
+ghost use Rattle.dj_check.specs.Methods.{InstrViolates};
 ghost use Rattle.dj_link.specs.Known.{IsRuled, KnownInstr, KnownBelow, KnownRange, KnownCode};
-ghost use Rattle.dj_link.specs.Marks.{AreRangeMarks};
+ghost use Rattle.dj_link.specs.Lines.{IsUntold};
+ghost use Rattle.dj_link.specs.Marks.{AreRangeMarks, AreUntold};
 
 use crate::error::LinkError;
 use crate::judge::{is_foreign, is_foreign_catch, is_unlinked, is_unlinked_catch};
@@ -37,6 +39,18 @@ fn add_rule_mark(
     Ok(add_mark_if(marks, place, UNRESOLVED, unlinked)?)
 }
 
+// Whether one of the rules 9 to 15 is violated by the instruction. It isn't looked at where it is known to violate none.
+fn is_told(pool: &Pool<'_>, texts: &[JudgedText], instr: &Instr, untold: bool) -> bool
+    requires texts { AreTexts pool.now texts.now }
+    requires untold { IsTrue untold → IsUntold pool.now instr.now }
+    ensures { IsTrue result ↔ ((rule : ℕ) × InstrViolates pool.now instr.now rule) }
+{
+    if untold {
+        return false;
+    }
+    violates_instr(pool, texts, instr)
+}
+
 // Appends the mark of an instruction at its place.
 fn add_instr_mark(
     marks: &mut Vec<Mark>,
@@ -45,11 +59,13 @@ fn add_instr_mark(
     texts: &[JudgedText],
     known: &Known<'_>,
     instr: &Instr,
+    untold: bool,
 ) -> Result<(), LinkError>
-    requires { AreTexts pool.now texts.now }
+    requires texts { AreTexts pool.now texts.now }
+    requires untold { IsTrue untold → IsUntold pool.now instr.now }
     ensures { OnOk result (Gains (MarksAt place (KnownInstr known.now pool.now instr.now)) marks.old.items marks.new.items) }
 {
-    let told = violates_instr(pool, texts, instr);
+    let told = is_told(pool, texts, instr, untold);
     let foreign = is_foreign(known, instr);
     let unlinked = is_unlinked(known, instr);
     add_rule_mark(marks, place, told, foreign, unlinked)
@@ -63,8 +79,10 @@ fn add_instr_marks(
     texts: &[JudgedText],
     known: &Known<'_>,
     code: &[Instr],
+    untold: bool,
 ) -> Result<(), LinkError>
     requires texts { AreTexts pool.now texts.now }
+    requires untold { IsTrue untold → AreUntold pool.now code.now }
     requires few { length code.now < 2 ^ 32 }
     ensures { OnOk result (Gains (MarksOf names (KnownBelow (length code.now) known.now pool.now code.now)) marks.old.items marks.new.items) }
 {
@@ -74,7 +92,7 @@ fn add_instr_marks(
             desc: names.1,
             number: Some(at as u32),
         };
-        add_instr_mark(marks, place, pool, texts, known, &code[at])?;
+        add_instr_mark(marks, place, pool, texts, known, &code[at], untold)?;
     }
     Ok(())
 }
@@ -116,7 +134,7 @@ fn add_handler_marks(
     Ok(())
 }
 
-/// Appends the marks of labelled code of a method of these names.
+/// Appends the marks of labelled code of a method of these names. It may be known that no instruction of it violates one of the rules 9 to 15.
 pub fn add_code_marks(
     marks: &mut Vec<Mark>,
     names: (u16, u16),
@@ -124,11 +142,21 @@ pub fn add_code_marks(
     texts: &[JudgedText],
     known: &Known<'_>,
     labelled: &Labelled,
+    untold: bool,
 ) -> Result<(), LinkError>
     requires texts { AreTexts pool.now texts.now }
+    requires untold { IsTrue untold → AreUntold pool.now labelled.now.code }
     requires few { length labelled.now.code < 2 ^ 32 }
     ensures { OnOk result (Gains (MarksOf names (KnownCode known.now pool.now labelled.now)) marks.old.items marks.new.items) }
 {
-    add_instr_marks(marks, names, pool, texts, known, labelled.code.as_slice())?;
+    add_instr_marks(
+        marks,
+        names,
+        pool,
+        texts,
+        known,
+        labelled.code.as_slice(),
+        untold,
+    )?;
     add_handler_marks(marks, names, pool, known, labelled.ranges.as_slice())
 }

@@ -13,7 +13,8 @@ use dj_pool::Entry;
 // The flag of static fields and methods (JVMS tables 4.5-A and 4.6-A).
 const STATIC: u16 = 0x0008;
 
-fn is_static(flags: u16) -> bool
+/// Whether these are the flags of a static field or method.
+pub fn is_static(flags: u16) -> bool
     ensures { result ≡ is_static flags }
 {
     flags & STATIC != 0

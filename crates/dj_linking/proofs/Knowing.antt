@@ -9,6 +9,7 @@ use Rattle.std.proofs.Math.ListN.{length-set, length-replicate}
 use Rattle.dj_model.specs.Program.{Program}
 use Rattle.dj_model.proofs.MappedNames.{either}
 use Rattle.dj_classes.specs.Tables.{interface_numbers}
+use Rattle.dj_linking.specs.Bits.{words_for}
 use Rattle.dj_linking.specs.Numbers.{has, with_new, with_all, with_above, AreBelow, AreAbove, AreKnown, IsEnough, marked_count, numbers_above, once_above, lists_of}
 use Rattle.dj_linking.proofs.Lists.{has_cases, has_either, all_append, all_of_places}
 use Rattle.dj_linking.proofs.Levels.{IsClosed, closed_none, closed_more, nothing_new, above_listed, enough_more, enough_next}
@@ -17,14 +18,14 @@ use Rattle.dj_linking.proofs.Marks.{once_below, get_none}
 -- ---- one class
 
 -- the first i interfaces that the class lists are known, and are in the list with those above them
-pub record IsGathered (program : Program) (known : List Bool) (class i : ℕ) (list : List ℕ) (marks : List Bool) : Type 0 where
-  pub bound : length marks ≡ length program
+pub record IsGathered (program : Program) (known : List Bool) (class i : ℕ) (list words : List ℕ) : Type 0 where
+  pub bound : length words ≡ words_for (length program)
   pub gathered : list ≡ with_all [] (flat_map (λ k. k ∷ numbers_above program k) (take i (interface_numbers program class)))
   pub closed : IsClosed program list
   pub enough : (k : ℕ) → has (take i (interface_numbers program class)) k ≡ true → IsEnough program (marked_count known) k
 
-pub gathered_none : (program : Program) (known : List Bool) (class : ℕ) (list : List ℕ) (marks : List Bool) → list ≡ [] → length marks ≡ length program → IsGathered program known class 0 list marks
-gathered_none program known class list marks none bound = record {
+pub gathered_none : (program : Program) (known : List Bool) (class : ℕ) (list words : List ℕ) → list ≡ [] → length words ≡ words_for (length program) → IsGathered program known class 0 list words
+gathered_none program known class list words none bound = record {
   bound = bound;
   gathered = none;
   closed = subst (IsClosed program) (sym none) (closed_none program);
@@ -46,12 +47,12 @@ comes program lists known list j are closed marked = elim (either (has list j)) 
   | inr e ↦ rw (e, are.each j marked) (all_of_places (with_new list j) (numbers_above program j))
 ]
 
-pub gathered_more : (program : Program) (lists : List (List ℕ)) (known : List Bool) (class i : ℕ) (list more : List ℕ) (marks others : List Bool) → AreKnown program lists known → length program < 2 ^ 31
-    → IsGathered program known class i list marks → i < length (interface_numbers program class)
+pub gathered_more : (program : Program) (lists : List (List ℕ)) (known : List Bool) (class i : ℕ) (list more words others : List ℕ) → AreKnown program lists known → length program < 2 ^ 31
+    → IsGathered program known class i list words → i < length (interface_numbers program class)
     → get_or known (get_or (interface_numbers program class) i 0) false ≡ true
-    → more ≡ with_above lists list (get_or (interface_numbers program class) i 0) → length others ≡ length marks
+    → more ≡ with_above lists list (get_or (interface_numbers program class) i 0) → length others ≡ length words
     → IsGathered program known class (i + 1) more others
-gathered_more program lists known class i list more marks others are few so_far lt marked is bound =
+gathered_more program lists known class i list more words others are few so_far lt marked is bound =
     let listed : List ℕ = interface_numbers program class in
     let j : ℕ = get_or (interface_numbers program class) i 0 in
     let next : more ≡ with_all list (j ∷ numbers_above program j) = is ∙ comes program lists known list j are so_far.closed marked in
@@ -72,22 +73,22 @@ gathered_more program lists known class i list more marks others are few so_far 
     }
 
 -- the same by the row in which the code finds what is listed
-pub gathered_row : (program : Program) (lists : List (List ℕ)) (known : List Bool) (class i : ℕ) (list more : List ℕ) (marks others : List Bool) (row : List ℕ) → row ≡ interface_numbers program class
-    → AreKnown program lists known → length program < 2 ^ 31 → IsGathered program known class i list marks → i < length row
-    → get_or known (get_or row i 0) false ≡ true → more ≡ with_above lists list (get_or row i 0) → length others ≡ length marks → IsGathered program known class (i + 1) more others
-gathered_row program lists known class i list more marks others row same are few so_far lt marked is bound =
-    gathered_more program lists known class i list more marks others are few so_far (subst (λ (xs : List ℕ). i < length xs) same lt) (subst (λ (xs : List ℕ). get_or known (get_or xs i 0) false ≡ true) same marked)
+pub gathered_row : (program : Program) (lists : List (List ℕ)) (known : List Bool) (class i : ℕ) (list more words others : List ℕ) (row : List ℕ) → row ≡ interface_numbers program class
+    → AreKnown program lists known → length program < 2 ^ 31 → IsGathered program known class i list words → i < length row
+    → get_or known (get_or row i 0) false ≡ true → more ≡ with_above lists list (get_or row i 0) → length others ≡ length words → IsGathered program known class (i + 1) more others
+gathered_row program lists known class i list more words others row same are few so_far lt marked is bound =
+    gathered_more program lists known class i list more words others are few so_far (subst (λ (xs : List ℕ). i < length xs) same lt) (subst (λ (xs : List ℕ). get_or known (get_or xs i 0) false ≡ true) same marked)
     (subst (λ (xs : List ℕ). more ≡ with_above lists list (get_or xs i 0)) same is) bound
 
-pub gathered_enough : (program : Program) (known : List Bool) (class i : ℕ) (list : List ℕ) (marks : List Bool) → IsGathered program known class i list marks → length (interface_numbers program class) ≤ i
+pub gathered_enough : (program : Program) (known : List Bool) (class i : ℕ) (list words : List ℕ) → IsGathered program known class i list words → length (interface_numbers program class) ≤ i
     → IsEnough program (marked_count known + 1) class
-gathered_enough program known class i list marks so_far le =
+gathered_enough program known class i list words so_far le =
     let all : take i (interface_numbers program class) ≡ interface_numbers program class = take_all i (interface_numbers program class) le in
     enough_next program (marked_count known) class (λ k there. so_far.enough k (subst (λ (xs : List ℕ). has xs k ≡ true) (sym all) there))
 
-pub gathered_all : (program : Program) (lists : List (List ℕ)) (known : List Bool) (class i : ℕ) (list : List ℕ) (marks : List Bool) → AreKnown program lists known → length program < 2 ^ 31
-    → IsGathered program known class i list marks → length (interface_numbers program class) ≤ i → list ≡ once_above program class
-gathered_all program lists known class i list marks are few so_far le =
+pub gathered_all : (program : Program) (lists : List (List ℕ)) (known : List Bool) (class i : ℕ) (list words : List ℕ) → AreKnown program lists known → length program < 2 ^ 31
+    → IsGathered program known class i list words → length (interface_numbers program class) ≤ i → list ≡ once_above program class
+gathered_all program lists known class i list words are few so_far le =
     let all : take i (interface_numbers program class) ≡ interface_numbers program class = take_all i (interface_numbers program class) le in
     so_far.gathered
     ∙ ap (λ (xs : List ℕ). with_all [] (flat_map (λ k. k ∷ numbers_above program k) xs)) all

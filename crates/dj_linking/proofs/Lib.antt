@@ -1,11 +1,15 @@
+pub mod Bits
+pub mod Chained
 pub mod Climbs
 pub mod Finding
 pub mod Knowing
 pub mod Levels
+pub mod Listed
 pub mod Lists
 pub mod Marks
 pub mod Resolution
 pub mod Searches
+pub mod Selections
 pub mod Specials
 pub mod Subclasses
 pub mod Walks

@@ -9,21 +9,14 @@ use Rattle.dj_names.specs.Types.{Name}
 use Rattle.dj_model.specs.Linking.{most_classes}
 use Rattle.dj_model.proofs.MappedNames.{either}
 use Rattle.dj_classes.specs.Tables.{class_numbers, interface_numbers}
-use Rattle.dj_linking.specs.Numbers.{has, with_new, with_all, AreMarks, AreBelow, numbers_from, numbers_above, once_above, lists_of, AreAbove, AreInside}
-use Rattle.dj_linking.proofs.Lists.{has_self, has_cases, has_right, has_either, has_flat, all_append, all_cases}
+use Rattle.dj_linking.specs.Numbers.{has, with_new, with_all, AreBelow, numbers_from, numbers_above, once_above, lists_of, AreAbove, AreInside}
+use Rattle.dj_linking.proofs.Lists.{has_cases, has_either, has_flat, all_append, all_cases}
 use Rattle.dj_linking.proofs.Finding.{has_at}
 use Rattle.dj_linking.proofs.Walks.{Missing, There, looked}
 
-has_push_other : (xs : List ℕ) (x k : ℕ) → nat_eq x k ≡ false → has (xs ++ x ∷ []) k ≡ has xs k
+pub has_push_other : (xs : List ℕ) (x k : ℕ) → nat_eq x k ≡ false → has (xs ++ x ∷ []) k ≡ has xs k
 has_push_other [] x k apart = rw apart refl
 has_push_other (y ∷ xs) x k apart = elim (either (nat_eq y k)) [ inl e ↦ rw e refl | inr e ↦ rw e (has_push_other xs x k apart) ]
-
-pub marks_more : (list more : List ℕ) (marks : List Bool) (n : ℕ) → AreMarks list marks → n < length marks → more ≡ list ++ n ∷ [] → AreMarks more (set marks n true)
-marks_more list more marks n are lt is k within = elim (either (nat_eq n k)) [
-  | inl e ↦ subst (λ (j : ℕ). get_or (set marks n true) j false ≡ has more j) (eqb-true n k e)
-      (get_or-set_same marks n true false lt ∙ sym (ap (λ (xs : List ℕ). has xs n) is ∙ has_right list (n ∷ []) n (has_self [] n)))
-  | inr e ↦ get_or-set_other marks n k true false (λ same. eqb-false n k e (sym same)) ∙ are k (omega (arith, within, length-set {A = Bool})) ∙ sym (ap (λ (xs : List ℕ). has xs k) is ∙ has_push_other list n k e)
-]
 
 pub get_none : {A : Type 0} (n k : ℕ) (x : A) → get_or (replicate n x) k x ≡ x
 get_none zero k x = refl

@@ -21,7 +21,7 @@ use Rattle.dj_linking.proofs.Walks.{numbers_of_chain, first_method_found}
 abbrev the_found : Name → Method → FoundMethod
 the_found name m = record { class = name; method = m }
 
-superclass_numbers : (program : Program) (class : ℕ) → DoNamesDiffer program → class < length program
+pub superclass_numbers : (program : Program) (class : ℕ) → DoNamesDiffer program → class < length program
     → class_numbers program (superclasses (chain program (class_name program class))) ≡ numbers_up most_above program (super_number program class)
 unfolding chain_of
 superclass_numbers program class differ lt =

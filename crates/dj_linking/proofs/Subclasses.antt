@@ -29,14 +29,14 @@ so_told k b e = rw e refl
 pub not_so_told : (k : ℕ) (b : Bool) → b ≡ false → None ≡ option_map Some (where_so k b)
 not_so_told k b e = rw e refl
 
-has_after : (xs ys : List ℕ) (k : ℕ) → has xs k ≡ false → has (xs ++ ys) k ≡ has ys k
+pub has_after : (xs ys : List ℕ) (k : ℕ) → has xs k ≡ false → has (xs ++ ys) k ≡ has ys k
 has_after [] ys k none = refl
 has_after (x ∷ xs) ys k none = elim (either (nat_eq x k)) [
   | inl e ↦ absurd (false≢true (sym none ∙ has_here xs x k (eqb-true x k e)))
   | inr e ↦ rw e (has_after xs ys k (rw e at none))
 ]
 
-has_apart : (ys : List ℕ) (x k : ℕ) → (x ≡ k → ⊥) → has (x ∷ ys) k ≡ has ys k
+pub has_apart : (ys : List ℕ) (x k : ℕ) → (x ≡ k → ⊥) → has (x ∷ ys) k ≡ has ys k
 has_apart ys x k differs = elim (either (nat_eq x k)) [ inl e ↦ absurd (differs (eqb-true x k e)) | inr e ↦ rw e refl ]
 
 found_flat : (g : ℕ → List ℕ) (k : ℕ) (xs : List ℕ) → is_some (first_some (λ x. where_so k (has (g x) k)) xs) ≡ has (flat_map g xs) k
@@ -107,7 +107,7 @@ among_numbers program (other ∷ names) name k number = elim (looked program oth
 ]
 
 -- a class and those above it, class by class
-in_turn : (g : ℕ → List ℕ) (xs : List ℕ) (k : ℕ) → has (xs ++ flat_map g xs) k ≡ has (flat_map (λ x. x ∷ g x) xs) k
+pub in_turn : (g : ℕ → List ℕ) (xs : List ℕ) (k : ℕ) → has (xs ++ flat_map g xs) k ≡ has (flat_map (λ x. x ∷ g x) xs) k
 in_turn g xs k = alike (has (xs ++ flat_map g xs) k) (has (flat_map (λ x. x ∷ g x) xs) k)
     (λ e. elim (has_either xs (flat_map g xs) k e) [
       | inl h ↦ flat_has (λ x. x ∷ g x) xs k k h (has_self (g k) k)

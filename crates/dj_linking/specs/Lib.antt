@@ -1,2 +1,4 @@
+pub mod Bits
+pub mod Chained
 pub mod Linked
 pub mod Numbers

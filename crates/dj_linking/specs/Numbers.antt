@@ -24,10 +24,6 @@ abbrev pub with_all : List ℕ → List ℕ → List ℕ
 with_all xs [] = xs
 with_all xs (y ∷ ys) = with_all (with_new xs y) ys
 
--- the marked numbers are those of the list
-abbrev pub AreMarks : List ℕ → List Bool → Type 0
-AreMarks list marks = (k : ℕ) → k < length marks → get_or marks k false ≡ has list k
-
 -- each number once, where it comes first
 abbrev pub first_places : List ℕ → List ℕ
 first_places xs = with_all [] xs

@@ -1,38 +1,43 @@
-ghost use Rattle.std.specs.Prelude.{◌≡◌, ◌+◌, ◌<◌, ◌^◌, ℕ, false, true, [], length, replicate, get_or, IfOk, OnOk};
+ghost use Rattle.std.specs.Prelude.{◌≡◌, ◌+◌, ◌<◌, ◌≤◌, ◌^◌, ℕ, false, true, [], length, replicate, get_or, IfOk, OnOk};
+ghost use Rattle.dj_linking.specs.Bits.{HaveBits, words_for};
 ghost use Rattle.dj_linking.specs.Numbers.{AreAbove, AreBelow, AreKnown, IsEnough, lists_of, marked_count, once_above, with_above};
 
-use crate::empty::empty_lists;
+use crate::empty::{empty_lists, empty_rows};
 use crate::numbers::Numbers;
 use crate::order::order_of;
 use dj_classes::{ClassTable, TableError};
 use std::alloc::Global;
 
-// For each class, by its number, the interfaces above it, each once, where they are known.
+// For each class, by its number, the interfaces above it, each once, and these as bits, where they are known.
 #[derive(Drop)]
 struct Known {
     lists: Vec<Vec<u32>>,
+    rows: Vec<Vec<u64>>,
     marks: Vec<bool>,
 }
 
 impl Known {
     fn none(alloc: Global, count: usize) -> Result<Known, TableError>
         ensures lists { IfOk result (λ known. lists_of known.lists.items ≡ replicate count []) }
+        ensures rows { IfOk result (λ known. length (lists_of known.rows.items) ≡ count) }
         ensures marks { IfOk result (λ known. known.marks.items ≡ replicate count false) }
     {
         let lists = empty_lists(alloc, count)?;
+        let rows = empty_rows(alloc, count)?;
         let marks = vec![in alloc; false; count]?;
-        Ok(Known { lists, marks })
+        Ok(Known { lists, rows, marks })
     }
 
-    // An interface and those above it come to the numbers.
+    // An interface and those above it come to the numbers. Where all of those are there, their list isn't gone through.
     fn add_above(&self, numbers: &mut Numbers, class: u32) -> Result<(), TableError>
         requires lists { length self.now.lists.items ≡ length self.now.marks.items }
-        requires bound { length numbers.old.marks.items ≡ length self.now.marks.items }
+        requires bits { HaveBits (lists_of self.now.lists.items) (lists_of self.now.rows.items) self.now.marks.items }
+        requires bound { length numbers.old.bits.items ≡ words_for (length self.now.marks.items) }
         requires there { class < length self.now.marks.items }
         requires below { (k : ℕ) → get_or self.now.marks.items k false ≡ true → AreBelow (length self.now.marks.items) (get_or (lists_of self.now.lists.items) k []) }
         ensures known { OnOk result (get_or self.now.marks.items class false ≡ true) }
         ensures list { OnOk result (numbers.new.list.items ≡ with_above (lists_of self.now.lists.items) numbers.old.list.items class) }
-        ensures bound { OnOk result (length numbers.new.marks.items ≡ length numbers.old.marks.items) }
+        ensures bound { OnOk result (length numbers.new.bits.items ≡ length numbers.old.bits.items) }
     {
         if !self.marks[class as usize] {
             return Err(TableError::Memory);
@@ -41,23 +46,27 @@ impl Known {
             return Ok(());
         }
         numbers.add(class)?;
+        if numbers.has_all(&self.rows[class as usize]) {
+            return Ok(());
+        }
         numbers.add_all(&self.lists[class as usize])
     }
 
     // The interfaces above a class, where those that it lists are known.
-    fn above(&self, alloc: Global, table: &ClassTable, class: u32) -> Result<Vec<u32>, TableError>
+    fn above(&self, alloc: Global, table: &ClassTable, class: u32) -> Result<Numbers, TableError>
         requires few { length table.now < 2 ^ 31 }
         requires there { class < length table.now }
         requires known { AreKnown table.now (lists_of self.now.lists.items) self.now.marks.items }
-        ensures list { IfOk result (λ list. list.items ≡ once_above table.now class) }
+        requires bits { HaveBits (lists_of self.now.lists.items) (lists_of self.now.rows.items) self.now.marks.items }
+        ensures list { IfOk result (λ numbers. numbers.list.items ≡ once_above table.now class) }
+        ensures bound { IfOk result (λ numbers. length numbers.bits.items ≡ words_for (length self.now.marks.items)) }
         ensures enough { OnOk result (IsEnough table.now (marked_count self.now.marks.items + 1) class) }
     {
         let mut numbers = Numbers::below(alloc, self.marks.len())?;
         for listed in table.interfaces_of(class) {
             self.add_above(&mut numbers, *listed)?;
         }
-        let Numbers { list, marks: _ } = numbers;
-        Ok(list)
+        Ok(numbers)
     }
 
     // The class is known too.
@@ -65,11 +74,14 @@ impl Known {
         requires few { length table.now < 2 ^ 31 }
         requires there { class < length table.now }
         requires known { AreKnown table.now (lists_of self.old.lists.items) self.old.marks.items }
-        ensures { OnOk result (AreKnown table.now (lists_of self.new.lists.items) self.new.marks.items) }
+        requires bits { HaveBits (lists_of self.old.lists.items) (lists_of self.old.rows.items) self.old.marks.items }
+        ensures known { OnOk result (AreKnown table.now (lists_of self.new.lists.items) self.new.marks.items) }
+        ensures bits { OnOk result (HaveBits (lists_of self.new.lists.items) (lists_of self.new.rows.items) self.new.marks.items) }
     {
         if !self.marks[class as usize] {
-            let list = self.above(alloc, table, class)?;
+            let Numbers { list, bits } = self.above(alloc, table, class)?;
             self.lists[class as usize] = list;
+            self.rows[class as usize] = bits;
             self.marks[class as usize] = true;
         }
         Ok(())
@@ -92,7 +104,11 @@ fn learn_all(alloc: Global, table: &ClassTable) -> Result<Known, TableError>
 pub fn interfaces_above(alloc: Global, table: &ClassTable) -> Result<Vec<Vec<u32>>, TableError>
     ensures { IfOk result (λ lists. AreAbove table.now (lists_of lists.items)) }
 {
-    let Known { lists, marks } = learn_all(alloc, table)?;
+    let Known {
+        lists,
+        rows: _,
+        marks,
+    } = learn_all(alloc, table)?;
     for mark in &marks {
         if !*mark {
             return Err(TableError::Memory);

@@ -1,8 +1,11 @@
-ghost use Rattle.std.specs.Prelude.{◌≡◌, ◌<◌, ◌∷◌, length, Some, flat_map};
+ghost use Rattle.std.specs.Prelude.{◌≡◌, ◌<◌, ◌∷◌, ◌++◌, length, Some, flat_map};
 ghost use Rattle.dj_model.specs.Linking.{most_classes};
+ghost use Rattle.dj_linking.specs.Chained.{AreMethodChains};
 ghost use Rattle.dj_linking.specs.Numbers.{AreAbove, has, lists_of, numbers_above, numbers_up};
 
+use crate::chains::Chains;
 use crate::find::MOST_CLASSES;
+use crate::special::is_superclass;
 use dj_classes::ClassTable;
 
 // Whether the class is one of these.
@@ -29,8 +32,8 @@ fn is_at(table: &ClassTable, above: &[Vec<u32>], class: u32, other: u32) -> bool
     is_among(&above[class as usize], other)
 }
 
-/// Whether a class is the other one, or that is above it.
-pub fn is_above(table: &ClassTable, above: &[Vec<u32>], class: u32, other: u32) -> bool
+// Class by class, whether a class is the other one, or that is above it.
+fn is_above_by_class(table: &ClassTable, above: &[Vec<u32>], class: u32, other: u32) -> bool
     requires there { class < length table.now }
     requires above { AreAbove table.now (lists_of above.now) }
     ensures { result ≡ has (flat_map (λ k. k ∷ numbers_above table.now k) (numbers_up most_classes table.now (Some class))) other }
@@ -46,4 +49,35 @@ pub fn is_above(table: &ClassTable, above: &[Vec<u32>], class: u32, other: u32) 
         next = table.super_of(at);
     }
     false
+}
+
+// Whether a class is the other one, or that is one of its superclasses or one of the list.
+fn is_listed(table: &ClassTable, list: &[u32], class: u32, other: u32) -> bool
+    requires { class < length table.now }
+    ensures { result ≡ has (numbers_up most_classes table.now (Some class) ++ list.now) other }
+{
+    if class == other || is_superclass(table, class, other) {
+        return true;
+    }
+    is_among(list, other)
+}
+
+/// Whether a class is the other one, or that is above it.
+pub fn is_above(
+    table: &ClassTable,
+    above: &[Vec<u32>],
+    methods: &Chains,
+    class: u32,
+    other: u32,
+) -> bool
+    requires there { class < length table.now }
+    requires above { AreAbove table.now (lists_of above.now) }
+    requires methods { AreMethodChains table.now methods.now }
+    ensures { result ≡ has (flat_map (λ k. k ∷ numbers_above table.now k) (numbers_up most_classes table.now (Some class))) other }
+{
+    match methods.list_of(class) {
+        Some(list) => is_listed(table, list, class, other),
+        // Its superclasses go round.
+        None => is_above_by_class(table, above, class, other),
+    }
 }

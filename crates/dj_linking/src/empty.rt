@@ -1,4 +1,4 @@
-ghost use Rattle.std.specs.Prelude.{◌≡◌, [], replicate, IfOk};
+ghost use Rattle.std.specs.Prelude.{◌≡◌, [], length, replicate, IfOk};
 ghost use Rattle.dj_linking.specs.Numbers.{lists_of};
 
 use dj_classes::TableError;
@@ -13,4 +13,15 @@ pub fn empty_lists(alloc: Global, count: usize) -> Result<Vec<Vec<u32>>, TableEr
         lists.push(Vec::new(alloc))?;
     }
     Ok(lists)
+}
+
+/// As many rows of words, with nothing in them.
+pub fn empty_rows(alloc: Global, count: usize) -> Result<Vec<Vec<u64>>, TableError>
+    ensures { IfOk result (λ rows. length (lists_of rows.items) ≡ count) }
+{
+    let mut rows = Vec::new(alloc);
+    for _ in 0..count {
+        rows.push(Vec::new(alloc))?;
+    }
+    Ok(rows)
 }

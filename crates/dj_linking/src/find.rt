@@ -3,11 +3,14 @@ ghost use Rattle.dj_model.specs.Program.{is_interface, flags_of};
 ghost use Rattle.dj_model.specs.Linking.{any_method, is_plain, most_classes, option_list};
 ghost use Rattle.dj_declared.specs.Members.{IsDescriptor};
 ghost use Rattle.dj_declared.specs.Files.{desc_in};
+ghost use Rattle.dj_linking.specs.Chained.{AreFieldChains, AreMethodChains};
 ghost use Rattle.dj_linking.specs.Numbers.{AreAbove, AreBelow, TellsMethod, TellsField, first_some, method_found, field_found, lists_of, numbers_above, numbers_up};
 
+use crate::chains::Chains;
 use dj_classes::{ClassTable, Place};
 
-const PRIVATE: u16 = 0x0002;
+/// JVMS table 4.6-A.
+pub const PRIVATE: u16 = 0x0002;
 
 /// JVMS table 4.6-A.
 pub const STATIC: u16 = 0x0008;
@@ -27,8 +30,8 @@ fn method_in(table: &ClassTable, class: u32, name: &[u8], desc: &[u8]) -> Option
     Some(Place { class, member })
 }
 
-// The same, where it is neither private nor static.
-fn plain_method_in(table: &ClassTable, class: u32, name: &[u8], desc: &[u8]) -> Option<Place>
+/// The same, where it is neither private nor static.
+pub fn plain_method_in(table: &ClassTable, class: u32, name: &[u8], desc: &[u8]) -> Option<Place>
     requires there { class < length table.now }
     requires described { IsDescriptor desc.now }
     ensures { TellsMethod table.now result (method_found table.now is_plain name.now (desc_in desc.now) class) }
@@ -137,8 +140,8 @@ pub fn method_up(table: &ClassTable, class: u32, name: &[u8], desc: &[u8]) -> Op
     None
 }
 
-/// The first method of the interfaces above a class and its superclasses that is neither private nor static.
-pub fn plain_method_up(
+// Class by class, the first method of the interfaces above a class and its superclasses that is neither private nor static.
+fn plain_method_by_class(
     table: &ClassTable,
     above: &[Vec<u32>],
     class: u32,
@@ -162,8 +165,31 @@ pub fn plain_method_up(
     None
 }
 
-/// The first field of a class, the interfaces above it, and its superclasses in the same way.
-pub fn field_up(
+/// The first method of the interfaces above a class and its superclasses that is neither private nor static.
+pub fn plain_method_up(
+    table: &ClassTable,
+    above: &[Vec<u32>],
+    methods: &Chains,
+    class: u32,
+    name: &[u8],
+    desc: &[u8],
+) -> Option<Place>
+    requires there { class < length table.now }
+    requires described { IsDescriptor desc.now }
+    requires above { AreAbove table.now (lists_of above.now) }
+    requires methods { AreMethodChains table.now methods.now }
+    ensures { TellsMethod table.now result
+        (first_some (λ k. first_some (method_found table.now is_plain name.now (desc_in desc.now)) (numbers_above table.now k)) (numbers_up most_classes table.now (Some class))) }
+{
+    match methods.list_of(class) {
+        Some(list) => plain_method_among(table, list, name, desc),
+        // Its superclasses go round.
+        None => plain_method_by_class(table, above, class, name, desc),
+    }
+}
+
+// Class by class, the first field of a class, the interfaces above it, and its superclasses in the same way.
+fn field_by_class(
     table: &ClassTable,
     above: &[Vec<u32>],
     class: u32,
@@ -185,6 +211,29 @@ pub fn field_up(
         next = table.super_of(at);
     }
     None
+}
+
+/// The first field of a class, the interfaces above it, and its superclasses in the same way.
+pub fn field_up(
+    table: &ClassTable,
+    above: &[Vec<u32>],
+    fields: &Chains,
+    class: u32,
+    name: &[u8],
+    desc: &[u8],
+) -> Option<Place>
+    requires there { class < length table.now }
+    requires described { IsDescriptor desc.now }
+    requires above { AreAbove table.now (lists_of above.now) }
+    requires fields { AreFieldChains table.now fields.now }
+    ensures { TellsField table.now result
+        (first_some (λ k. first_some (field_found table.now name.now (desc_in desc.now)) (k ∷ numbers_above table.now k)) (numbers_up most_classes table.now (Some class))) }
+{
+    match fields.list_of(class) {
+        Some(list) => field_among(table, list, name, desc),
+        // Its superclasses go round.
+        None => field_by_class(table, above, class, name, desc),
+    }
 }
 
 /// The first method of an interface and Object, or of a class and its superclasses.

@@ -3,12 +3,18 @@
 
 mod above;
 mod ancestors;
+mod chains;
+mod downward;
 mod empty;
+mod fields;
 mod find;
 mod linker;
+mod methods;
 mod numbers;
 mod order;
+mod select;
 mod special;
+mod words;
 
 pub use dj_classes::{ClassTable, Place, TableError};
 pub use linker::{BaseNames, Linker};

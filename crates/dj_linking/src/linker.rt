@@ -1,16 +1,22 @@
-ghost use Rattle.std.specs.Prelude.{◌≡◌, ◌<◌, length, Some, IfOk};
+ghost use Rattle.std.specs.Prelude.{◌≡◌, ◌<◌, length, Some, IfOk, IfSome};
 ghost use Rattle.std.specs.Option.{option_map};
-ghost use Rattle.dj_classes.specs.Tables.{method_there, field_there};
+ghost use Rattle.dj_names.specs.declared.descriptor.Ty.{Ty};
+ghost use Rattle.dj_classes.specs.Tables.{class_number, methods_at, method_there, field_there};
 ghost use Rattle.dj_declared.specs.Members.{IsDescriptor};
 ghost use Rattle.dj_model.specs.Types.{object_name};
-ghost use Rattle.dj_model.specs.Linking.{FoundMethod, is_subclass, special_method};
+ghost use Rattle.dj_model.specs.Linking.{FoundMethod, is_subclass, member_class, select, special_method};
 ghost use Rattle.dj_declared.specs.Files.{desc_in};
 ghost use Rattle.dj_linking.specs.Numbers.{IsNamed, TellsMethod};
 ghost use Rattle.dj_linking.specs.Linked.{Linked, prefix_of, class_name, resolved_method, resolved_field};
 
 use crate::above::interfaces_above;
 use crate::ancestors::is_above;
+use crate::chains::Chains;
+use crate::downward::downward;
+use crate::fields::field_chains;
 use crate::find::{field_up, method_first, plain_method_up};
+use crate::methods::method_chains;
+use crate::select::selected_method;
 use crate::special::{instance_method_above, is_superclass};
 use dj_classes::{ClassTable, Place, TableError};
 use std::alloc::Global;
@@ -31,6 +37,8 @@ pub struct Linker {
     table: ClassTable,
     base: BaseNames,
     above: Vec<Vec<u32>>,
+    methods: Chains,
+    fields: Chains,
 }
 
 impl Model for Linker {
@@ -38,11 +46,12 @@ impl Model for Linker {
 
     ghost Value = { Linked };
 
-    ghost use Rattle.dj_linking.specs.Numbers.{AreAbove, lists_of};
+    ghost use Rattle.dj_linking.specs.Chained.{AreLists};
+    ghost use Rattle.dj_linking.specs.Numbers.{lists_of};
 
     ghost view = { λ linker. record { program = linker.table; prefix = prefix_of linker.base } };
 
-    ghost invariant = { λ linker. AreAbove linker.table (lists_of linker.above.items) };
+    ghost invariant = { λ linker. AreLists linker.table (lists_of linker.above.items) linker.methods linker.fields };
 }
 
 // The name of Object.
@@ -61,7 +70,16 @@ impl Linker {
         ensures { IfOk result (λ linker. linker ≡ record { program = table; prefix = prefix_of base }) }
     {
         let above = interfaces_above(alloc, &table)?;
-        Ok(Linker { table, base, above })
+        let order = downward(alloc, &table)?;
+        let methods = method_chains(alloc, &table, &order, &above)?;
+        let fields = field_chains(alloc, &table, &order, &above)?;
+        Ok(Linker {
+            table,
+            base,
+            above,
+            methods,
+            fields,
+        })
     }
 
     /// The classes.
@@ -69,6 +87,13 @@ impl Linker {
         ensures { result.now ≡ self.now.program }
     {
         &self.table
+    }
+
+    /// Under which names the library's classes stand.
+    pub fn base(&self) -> BaseNames
+        ensures { prefix_of result ≡ self.now.prefix }
+    {
+        self.base
     }
 
     /// The method to which a name and a descriptor resolve in a class (JVMS 5.4.3.3 and 5.4.3.4).
@@ -81,7 +106,7 @@ impl Linker {
         let object = self.table.class_named(object_of(self.base));
         match method_first(&self.table, object, class, name, desc) {
             Some(place) => Some(place),
-            None => plain_method_up(&self.table, &self.above, class, name, desc),
+            None => plain_method_up(&self.table, &self.above, &self.methods, class, name, desc),
         }
     }
 
@@ -92,7 +117,7 @@ impl Linker {
         ensures { option_map (field_there self.now.program) result ≡ option_map Some (resolved_field self.now class name.now desc.now) }
     {
         self.table.names_differ();
-        field_up(&self.table, &self.above, class, name, desc)
+        field_up(&self.table, &self.above, &self.fields, class, name, desc)
     }
 
     /// Whether a class is the other one, or has it above it (JVMS 4.10.1.2).
@@ -102,7 +127,7 @@ impl Linker {
         ensures { result ≡ is_subclass self.now.program (class_name self.now.program class) (class_name self.now.program ancestor) }
     {
         self.table.names_differ();
-        is_above(&self.table, &self.above, class, ancestor)
+        is_above(&self.table, &self.above, &self.methods, class, ancestor)
     }
 
     /// The method that `invokespecial` takes in a class for the one to which its operand resolves (JVMS 6.5): the method has this name and this descriptor.
@@ -124,5 +149,23 @@ impl Linker {
         } else {
             Some(resolved)
         }
+    }
+
+    /// The number of Object, where it is there.
+    pub fn object(&self) -> Option<u32>
+        ensures { result ≡ class_number self.now.program (object_name self.now.prefix) }
+    {
+        self.table.class_named(object_of(self.base))
+    }
+
+    /// The method that is taken for a receiver whose methods are those of this class, or of no class that is there (JVMS 6.5, invokevirtual and invokeinterface).
+    pub fn select(&self, resolved: Place, class: Option<u32>) -> Option<Place>
+        requires there { resolved.class < length self.now.program }
+        requires within { resolved.member < length (methods_at self.now.program resolved.class) }
+        requires class { IfSome class (λ k. k < length self.now.program) }
+        ensures { (found : FoundMethod) (ty : Ty) → method_there self.now.program resolved ≡ Some found → class ≡ class_number self.now.program (member_class self.now.prefix ty)
+            → TellsMethod self.now.program result (select self.now.program self.now.prefix found ty) }
+    {
+        selected_method(&self.table, resolved, class)
     }
 }

@@ -1,6 +1,8 @@
-ghost use Rattle.std.specs.Prelude.{◌≡◌, [], ◌<◌, length, IfOk, OnOk};
-ghost use Rattle.dj_linking.specs.Numbers.{has, with_new, with_all, AreBelow, AreMarks};
+ghost use Rattle.std.specs.Prelude.{◌≡◌, [], ◌*◌, ◌<◌, ◌≤◌, ℕ, true, length, IfOk, OnOk};
+ghost use Rattle.dj_linking.specs.Bits.{AreBits, in_bits, words_for};
+ghost use Rattle.dj_linking.specs.Numbers.{has, with_new, with_all, AreBelow};
 
+use crate::words::{has_bit, has_bits, put_bit};
 use dj_classes::TableError;
 use std::alloc::Global;
 
@@ -8,49 +10,57 @@ use std::alloc::Global;
 #[derive(Drop)]
 pub struct Numbers {
     pub list: Vec<u32>,
-    pub marks: Vec<bool>,
-    ghost marked: { AreMarks list.items marks.items },
+    pub bits: Vec<u64>,
+    ghost marked: { AreBits list.items bits.items },
 }
 
 impl Numbers {
     /// No numbers, and room for those below the bound.
     pub fn below(alloc: Global, bound: usize) -> Result<Numbers, TableError>
         ensures none { IfOk result (λ numbers. numbers.list.items ≡ []) }
-        ensures bound { IfOk result (λ numbers. length numbers.marks.items ≡ bound) }
+        ensures bound { IfOk result (λ numbers. length numbers.bits.items ≡ words_for bound) }
     {
-        let marks = vec![in alloc; false; bound]?;
+        let bits = vec![in alloc; 0; bound / 64 + 1]?;
         Ok(Numbers {
             list: Vec::new(alloc),
-            marks,
+            bits,
         })
     }
 
     /// Whether the number is there.
     pub fn has(&self, number: u32) -> bool
-        requires { number < length self.now.marks.items }
+        requires { number < length self.now.bits.items * 64 }
         ensures { result ≡ has self.now.list.items number }
     {
-        self.marks[number as usize]
+        has_bit(&self.bits, number)
+    }
+
+    /// Whether all numbers of the bits are there.
+    pub fn has_all(&self, others: &[u64]) -> bool
+        requires { length others.now ≤ length self.now.bits.items }
+        ensures { result ≡ true → (z : ℕ) → in_bits others.now z ≡ true → has self.now.list.items z ≡ true }
+    {
+        has_bits(&self.bits, others)
     }
 
     /// Puts a number at the end, unless it is there.
     pub fn add(&mut self, number: u32) -> Result<(), TableError>
-        requires { number < length self.old.marks.items }
+        requires { number < length self.old.bits.items * 64 }
         ensures list { OnOk result (self.new.list.items ≡ with_new self.old.list.items number) }
-        ensures bound { OnOk result (length self.new.marks.items ≡ length self.old.marks.items) }
+        ensures bound { OnOk result (length self.new.bits.items ≡ length self.old.bits.items) }
     {
-        if !self.marks[number as usize] {
+        if !has_bit(&self.bits, number) {
             self.list.push(number)?;
-            self.marks[number as usize] = true;
+            put_bit(&mut self.bits, number);
         }
         Ok(())
     }
 
     /// Puts those of the numbers at the end that aren't there.
     pub fn add_all(&mut self, numbers: &[u32]) -> Result<(), TableError>
-        requires { AreBelow (length self.old.marks.items) numbers.now }
+        requires { AreBelow (length self.old.bits.items * 64) numbers.now }
         ensures list { OnOk result (self.new.list.items ≡ with_all self.old.list.items numbers.now) }
-        ensures bound { OnOk result (length self.new.marks.items ≡ length self.old.marks.items) }
+        ensures bound { OnOk result (length self.new.bits.items ≡ length self.old.bits.items) }
     {
         for number in numbers {
             self.add(*number)?;

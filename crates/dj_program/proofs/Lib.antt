@@ -1,3 +1,4 @@
 pub mod Bare
 pub mod Once
+pub mod CodeLaws
 mod Facts

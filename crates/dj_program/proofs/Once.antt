@@ -19,7 +19,7 @@ use Rattle.dj_frames.proofs.WholeLaws.{one_stack_map}
 use Rattle.dj_model.specs.Program.{Program, Class, Method, Field, Body, Abstract, Runs, Code, has_flag}
 use Rattle.dj_model.specs.Libraries.{joined, library_program}
 use Rattle.dj_check.specs.Attributes.{codes_of, maps_of}
-use Rattle.dj_check.specs.Malformed.{IsBodiless, LacksCode, IsFaulty}
+use Rattle.dj_check.specs.Malformed.{IsBodiless, LacksCode, IsFaulty, IsFaultyMethod}
 use Rattle.dj_check.specs.Code.{IsCodeOf}
 use Rattle.dj_declared.specs.Files.{is_bodiless, declared_method, declared_class}
 use Rattle.dj_program.specs.Codes.{CodeParts, code_in, AreFramesAt, AreFramesOf, HasFrames, IsMethodCode}
@@ -99,7 +99,7 @@ parts_are {a} {b} stack locals labels frames =
     ∙ ap (λ l. record a { max_stack = b.max_stack; max_locals = b.max_locals; labelled = l }) labels
     ∙ ap (λ fs. record b { frames = fs }) frames
 
-one_parts : (pool : List Constant) (m : MemberInfo) (a b : CodeParts) → length (codes_of pool m) ≡ 1 → IsMethodCode pool m a → IsMethodCode pool m b → a ≡ b
+pub one_parts : (pool : List Constant) (m : MemberInfo) (a b : CodeParts) → length (codes_of pool m) ≡ 1 → IsMethodCode pool m a → IsMethodCode pool m b → a ≡ b
 one_parts pool m a b one x y =
     let same : x.info ≡ y.info = one_info pool m x.info y.info one x.own y.own in
     let stack : a.max_stack ≡ b.max_stack = x.stack ∙ ap (λ (i : CodeInfo). i.max_stack) same ∙ sym y.stack in
@@ -107,6 +107,15 @@ one_parts pool m a b one x y =
     let labels : a.labelled ≡ b.labelled = one_labelling_is y.info.code y.info.table a.labelled b.labelled (subst (λ (i : CodeInfo). IsLabelled i.code i.table a.labelled) same x.labels) y.labels in
     let frames = one_frames y.info.code (maps_of pool y.info) a.frames b.frames (subst (λ (i : CodeInfo). HasFrames i.code (maps_of pool i) a.frames) same x.frames) y.frames in
     parts_are stack locals labels frames
+
+nothing_in : {A : Type 0} (x : A) → Contains [] x → ⊥
+nothing_in {A} x (k, lt, is) = absurd (omega (arith, lt))
+
+-- the code of a method that isn't faulty
+pub one_code_parts : (pool : List Constant) (m : MemberInfo) (a b : CodeParts) → (IsFaultyMethod pool m → ⊥) → IsMethodCode pool m a → IsMethodCode pool m b → a ≡ b
+one_code_parts pool m a b sound x y =
+    let some : codes_of pool m ≢ [] = λ none. nothing_in x.own.body (subst (λ (bodies : List (List ℕ)). Contains bodies x.own.body) none x.own.own) in
+    one_parts pool m a b (one_number (length (codes_of pool m)) 1 (λ differ. sound (inl (λ bodiless. sound (inr (inl (bodiless, some))), differ)))) x y
 
 one_body_in : (pool : List Constant) (m : MemberInfo) (a b : Body) → IsWholeMethod pool m → IsBodyIn pool m a → IsBodyIn pool m b → a ≡ b
 one_body_in pool m a b whole (inl (t, x)) (inl (u, y)) = x ∙ sym y

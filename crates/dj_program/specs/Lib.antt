@@ -1,4 +1,5 @@
 pub mod Naming
 pub mod Codes
+pub mod Views
 pub mod Programs
 pub mod Laws

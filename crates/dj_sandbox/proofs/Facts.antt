@@ -9,11 +9,14 @@ use Rattle.dj_report.specs.declared.report.Report.TheVariants as reports
 use Rattle.dj_report.specs.declared.report.Violation.{Violation}
 use Rattle.dj_rules.specs.Violations.{AreViolations}
 use Rattle.dj_check.specs.Rules.{IsEarlyLine}
-use Rattle.dj_link.specs.Lines.{IsFirstOf}
-use Rattle.dj_straight.specs.Program.{Program, Method}
+use Rattle.dj_link.specs.Lines.{IsFirstOf, IsLinkLine}
+use Rattle.dj_judge.specs.Lines.{IsShapeLine}
+use Rattle.dj_model.specs.Program.{Program}
+use Rattle.dj_straight.specs.Program as straight
 use Rattle.dj_straight.specs.Straight.{IsNotStraight}
 use Rattle.dj_sandbox.specs.Checked.{AreGoodFiles, IsLateLine, AreCheckViolations}
-use Rattle.dj_sandbox.specs.Entry.{with_slashes, entry_method, has_entry, IsEntryLine, IsShapeLine}
+use Rattle.dj_sandbox.specs.Entry.{with_slashes, entry_method, has_entry, IsEntryLine}
+use Rattle.dj_sandbox.specs.Entry as entries
 use Rattle.dj_sandbox.specs.Judging.{IsFirstPath, JudgesFiles, JudgesRun, Runs, Accepts, check_stages, run_stages}
 use Rattle.dj_sandbox.specs.Limits.{most_files, most_file_bytes, most_total_bytes, most_input_bytes, most_thresholds, IsWithinMost}
 use Rattle.dj_sandbox.specs.Statuses.{IsAmong, check_statuses, run_statuses}
@@ -50,7 +53,7 @@ thresholds-jump_past h = omega (arith, h.jump)
 thresholds-throw_past : IsWithinMost (record most_thresholds { throw = 1048577 }) → ⊥
 thresholds-throw_past h = omega (arith, h.throw)
 
--- ---- the rules 17 and 18
+-- ---- the rules 17 to 19
 
 -- a line of the rules 1 to 6 hides them
 late-hidden : (files : List File) (v w : Violation) → IsEarlyLine files v → v.rule ≤ 6 → IsLateLine files w → ⊥
@@ -60,15 +63,24 @@ first-rule : (F U : Type 0) (rule : ℕ) → IsFirstOf F U rule → (rule ≡ 17
 first-rule F U rule (inl (foreign, is)) = inl is
 first-rule F U rule (inr (not, unlinked, is)) = inr is
 
-late-rule : (files : List File) (v : Violation) → IsLateLine files v → (v.rule ≡ 17) ⊎ (v.rule ≡ 18)
-late-rule files v late =
-    let m = late.line.2.2 in
+link-rule : (program : Program) (files : List File) (v : Violation) → IsLinkLine program files v → (v.rule ≡ 17) ⊎ (v.rule ≡ 18)
+link-rule program files v line =
+    let m = line.2.2 in
     let is : v.rule ≡ m.rule = ap (λ (w : Violation). w.rule) m.line in
     let told : (m.rule ≡ 17) ⊎ (m.rule ≡ 18) = elim m.such.such [
       | inl at ↦ first-rule _ _ m.rule at.such.1
       | inr at ↦ first-rule _ _ m.rule at.such.1
     ] in
     elim told [ inl one ↦ inl (is ∙ one) | inr two ↦ inr (is ∙ two) ]
+
+shape-rule : (program : Program) (files : List File) (v : Violation) → IsShapeLine program files v → v.rule ≡ 19
+shape-rule program files v line = (let m = line.2.2 in ap (λ (w : Violation). w.rule) m.line ∙ m.such.rule_is)
+
+late-rule : (files : List File) (v : Violation) → IsLateLine files v → (v.rule ≡ 17) ⊎ ((v.rule ≡ 18) ⊎ (v.rule ≡ 19))
+late-rule files v late = elim late.line [
+  | inl link ↦ elim (link-rule _ files v link) [ inl one ↦ inl one | inr two ↦ inr (inl two) ]
+  | inr shape ↦ inr (inr (shape-rule _ files v shape))
+]
 
 good-none : (c : ClassFile) → AreGoodFiles [] (c ∷ []) → ⊥
 good-none c good = good
@@ -122,13 +134,13 @@ entry-verify = refl
 entry-none : has_entry [] (codes "A") ≡ false
 entry-none = refl
 
-entry-line : (program : Program) (v : Violation) → IsEntryLine program (codes "A") v → v ≡ record { path = codes "A.class"; member = []; number = None; rule = 20 }
+entry-line : (program : straight.Program) (v : Violation) → IsEntryLine program (codes "A") v → v ≡ record { path = codes "A.class"; member = []; number = None; rule = 20 }
 entry-line program v is = is.1
 
-shape-line : (path : List ℕ) (methods : List Method) (v : Violation) → IsShapeLine path methods v → v.rule ≡ 19
+shape-line : (path : List ℕ) (methods : List straight.Method) (v : Violation) → entries.IsShapeLine path methods v → v.rule ≡ 19
 shape-line path methods v is = ap (λ (w : Violation). w.rule) is.line
 
-shape-path : (path : List ℕ) (methods : List Method) (v : Violation) → IsShapeLine path methods v → v.path ≡ path
+shape-path : (path : List ℕ) (methods : List straight.Method) (v : Violation) → entries.IsShapeLine path methods v → v.path ≡ path
 shape-path path methods v is = ap (λ (w : Violation). w.path) is.line
 
 statuses-check : check_statuses ≡ 0 ∷ 2 ∷ []

@@ -1,5 +1,5 @@
--- The lines of the rules 17 and 18: the classes of the files and of the library, and when such lines are judged.
-use Rattle.std.proofs.Common.{◌≡◌, ℕ, suc, ◌+◌, ◌<◌, ◌≤◌, ◌^◌, ◌↔◌, List, [], ◌∷◌, ◌++◌, map, take, length, get_or, All, Contains, Result, Ok, Err, IfOk, OnOk, refl, sym, ap, ◌∙◌, subst, inl, inr, arith}
+-- The lines of the rules 17 to 19: the classes of the files and of the library, and when such lines are judged.
+use Rattle.std.proofs.Common.{◌≡◌, ℕ, suc, ◌+◌, ◌<◌, ◌≤◌, ◌^◌, ◌↔◌, List, [], ◌∷◌, ◌++◌, map, take, length, get_or, Contains, Option, Some, Result, Ok, Err, IfOk, OnOk, refl, sym, ap, ◌∙◌, subst, inl, inr, arith}
 use Rattle.std.specs.Prelude.{MatchResult, is_ok}
 use Rattle.std.proofs.lemmas.Bool.{cases_lt}
 use Rattle.std.proofs.lemmas.List.{length-append, length-map, take_more, take_all, map-append}
@@ -9,7 +9,7 @@ use Rattle.dj_names.specs.Library.{deterministic_library}
 use Rattle.dj_names.specs.Types.{Name}
 use Rattle.dj_natives.specs.declared.library.LibClass.{LibClass}
 use Rattle.dj_natives.specs.Views.{library_view}
-use Rattle.dj_class.specs.ClassFile.{ClassFile, IsClassFile}
+use Rattle.dj_class.specs.ClassFile.{ClassFile, IsClassFile, IsMalformed}
 use Rattle.dj_model.specs.Program.{Program, Class}
 use Rattle.dj_model.specs.Libraries.{library_class, inserted, joined}
 use Rattle.dj_report.specs.declared.report.PathFile.{PathFile}
@@ -17,15 +17,18 @@ use Rattle.dj_report.specs.declared.report.Violation.{Violation}
 use Rattle.dj_report.specs.Lines.{file_line, Adds}
 use Rattle.dj_report.specs.Order.{IsInOrder}
 use Rattle.dj_report.proofs.Adding.{contains_map}
+use Rattle.dj_report.proofs.Sorted.{contains_first, contains_later, contains_none}
 use Rattle.dj_rules.specs.Views.{path_file_view}
 use Rattle.dj_check.specs.Malformed.{IsRefused, IsGood}
-use Rattle.dj_check.specs.Rules.{AreEarlyViolations}
+use Rattle.dj_check.specs.Rules.{IsEarlyLine}
 use Rattle.dj_declared.specs.Files.{declared_class}
 use Rattle.dj_classes.specs.Tables.{IsShared, declared_program}
 use Rattle.dj_linking.specs.Linked.{Linked}
-use Rattle.dj_link.specs.Lines.{IsLinkLine}
+use Rattle.dj_judge.specs.Lines.{IsLinkedLine}
 use Rattle.dj_sandbox.specs.Checked.{AreGoodFiles, HoldsHierarchy, IsLateLine, AreCheckViolations}
-use Rattle.dj_sandbox.specs.Late.{HasHierarchyLine, IsDeclaredFrom, AreDeclared, row_class, LinksFiles, AddsLate}
+use Rattle.dj_sandbox.specs.declared.late.Links.{Links}
+use Rattle.dj_sandbox.specs.declared.late.Links.TheVariants as links
+use Rattle.dj_sandbox.specs.Late.{HasHierarchyLine, AreReadFiles, IsDeclaredFrom, AreDeclared, HasMalformed, row_class, LinksFiles, with_library, SharesName, IsLinkOf, AreLinksOf, AreLinks}
 use Rattle.dj_sandbox.proofs.GoodFiles.{same_good}
 use Rattle.dj_sandbox.proofs.NoDoubles.{no_name_twice}
 
@@ -44,31 +47,34 @@ on_ok_mapped A (Err e) (Err d) R is same a = tt
 
 -- ---- the classes of files
 
-pub declared_from : (bytes : List ℕ) (c : ClassFile) (class : Class) → IsClassFile bytes c → (IsRefused bytes → ⊥) → class ≡ declared_class c → IsDeclaredFrom bytes class
-declared_from bytes c class file whole is = (c, record { file = file; whole = λ faulty. whole (inr (c, file, faulty)) }, is)
-
-good_more : (files : List File) (classes : List ClassFile) (file : File) (c : ClassFile) → AreGoodFiles files classes → IsGood file.1 c → AreGoodFiles (files ++ file ∷ []) (classes ++ c ∷ [])
-good_more [] [] file c are good = (good, tt)
-good_more [] (x ∷ classes) file c are good = absurd are
-good_more (other ∷ files) [] file c are good = absurd are
-good_more (other ∷ files) (x ∷ classes) file c are good = (are.0, good_more files classes file c are.1 good)
+pub read_more : (files : List File) (classes : List ClassFile) (file : File) (c : ClassFile) → AreReadFiles files classes → IsClassFile file.1 c → AreReadFiles (files ++ file ∷ []) (classes ++ c ∷ [])
+read_more [] [] file c are is = (is, tt)
+read_more [] (x ∷ classes) file c are is = absurd are
+read_more (other ∷ files) [] file c are is = absurd are
+read_more (other ∷ files) (x ∷ classes) file c are is = (are.0, read_more files classes file c are.1 is)
 
 pub none_declared : AreDeclared [] []
 none_declared = ([], tt, refl)
 
 pub one_more_declared : (files : List PathFile) (i : ℕ) (d : PathFile) (declared : List Class) (class : Class) → i < length files → AreDeclared (map path_file_view (take i files)) declared
-    → IsDeclaredFrom (get_or files i d).bytes.now class → AreDeclared (map path_file_view (take (i + 1) files)) (declared ++ class ∷ [])
-one_more_declared files i d declared class lt (classes, good, are) (c, this, is) =
+    → IsDeclaredFrom (get_or files i d).bytes.now (Some class) → AreDeclared (map path_file_view (take (i + 1) files)) (declared ++ class ∷ [])
+one_more_declared files i d declared class lt (classes, read, are) (c, this, is) =
     let file = get_or files i d in
     let grown : map path_file_view (take (i + 1) files) ≡ map path_file_view (take i files) ++ path_file_view file ∷ [] =
     ap (map path_file_view) (take_more files i d lt) ∙ map-append path_file_view (take i files) (file ∷ []) in (
       classes ++ c ∷ [],
-      subst (λ (fs : List File). AreGoodFiles fs (classes ++ c ∷ [])) (sym grown) (good_more (map path_file_view (take i files)) classes (path_file_view file) c good this),
+      subst (λ (fs : List File). AreReadFiles fs (classes ++ c ∷ [])) (sym grown) (read_more (map path_file_view (take i files)) classes (path_file_view file) c read this),
       (λ k. are k ++ is k ∷ []) ∙ sym (map-append declared_class classes (c ∷ [])),
     )
 
 pub all_declared : (files : List PathFile) (i : ℕ) (declared : List Class) → length files ≤ i → AreDeclared (map path_file_view (take i files)) declared → AreDeclared (map path_file_view files) declared
 all_declared files i declared ge are = subst (λ (fs : List PathFile). AreDeclared (map path_file_view fs) declared) (take_all i files ge) are
+
+-- one that is none
+pub has_malformed : (files : List PathFile) (i : ℕ) (d : PathFile) → i < length files → IsMalformed (get_or files i d).bytes.now → HasMalformed (map path_file_view files)
+has_malformed files i d lt malformed =
+    let file = get_or files i d in
+    (path_file_view file, contains_map path_file_view files file (Contains-get_or files i d lt), malformed)
 
 -- ---- those of the library
 
@@ -82,26 +88,23 @@ deterministic_rows rows is = rows_mapped rows ∙ ap (map library_class) is
 library_few : length (map library_class deterministic_library) ≤ 4096
 library_few = omega arith
 
-as_many : (files : List File) (classes : List ClassFile) → AreGoodFiles files classes → length classes ≡ length files
+as_many : (files : List File) (classes : List ClassFile) → AreReadFiles files classes → length classes ≡ length files
 as_many [] [] good = refl
 as_many [] (c ∷ classes) good = absurd good
 as_many (file ∷ files) [] good = absurd good
 as_many (file ∷ files) (c ∷ classes) good = ap suc (as_many files classes good.1)
 
 -- there are few classes
-pub few_declared : (files : List PathFile) (declared all : List Class) → length files ≤ 4096 → AreDeclared (map path_file_view files) declared → all ≡ declared ++ map library_class deterministic_library → length all < 2 ^ 31
-few_declared files declared all few (classes, good, are) is =
+pub few_all : (declared all : List Class) → length declared ≤ 4096 → all ≡ with_library declared → length all < 2 ^ 31
+few_all declared all few is =
     let a : length all ≡ length declared + length (map library_class deterministic_library) = ap length is ∙ length-append declared (map library_class deterministic_library) in
-    let b : length declared ≡ length classes = ap length are ∙ length-map classes declared_class in
-    let c : length classes ≡ length files = as_many (map path_file_view files) classes good ∙ length-map files path_file_view in
-    omega (arith, few, a, b, c, library_few)
+    omega (arith, few, a, library_few)
 
--- and no two of them have one name
-pub declared_apart : (files : List File) (declared all : List Class) → HoldsHierarchy files → AreDeclared files declared → all ≡ declared ++ map library_class deterministic_library
-    → (name : Name) → IsShared all name → ⊥
-declared_apart files declared all holds (classes, good, are) is name shared =
-    let whole : all ≡ map declared_class classes ++ map library_class deterministic_library = is ∙ ap (λ (cs : List Class). cs ++ map library_class deterministic_library) are in
-    no_name_twice files classes name holds good (subst (λ (cs : List Class). IsShared cs name) whole shared)
+pub few_declared : (files : List PathFile) (declared : List Class) → length files ≤ 4096 → AreDeclared (map path_file_view files) declared → length declared ≤ 4096
+few_declared files declared few (classes, read, are) =
+    let b : length declared ≡ length classes = ap length are ∙ length-map classes declared_class in
+    let c : length classes ≡ length files = as_many (map path_file_view files) classes read ∙ length-map files path_file_view in
+    omega (arith, few, b, c)
 
 -- ---- the program
 
@@ -116,63 +119,116 @@ joined_program classes declared all are is =
     ap (λ (cs : List Class). joined cs []) (is ∙ ap (λ (cs : List Class). cs ++ map library_class deterministic_library) are)
     ∙ joined_twice (map declared_class classes) (map library_class deterministic_library) []
 
-pub links_files : (files : List File) (declared all : List Class) (table : Program) (linked : Linked) → AreDeclared files declared → all ≡ declared ++ map library_class deterministic_library
-    → table ≡ joined all [] → linked ≡ record { program = table; prefix = [] } → LinksFiles files linked
-links_files files declared all table linked (classes, good, are) is joins links =
-    let program : table ≡ declared_program deterministic_library classes = joins ∙ joined_program classes declared all are is in
-    (classes, good, subst (λ (p : Program). linked ≡ record { program = p; prefix = [] }) program links)
+pub links_files : (files : List File) (declared : List Class) (linked : Linked) → AreDeclared files declared
+    → linked ≡ record { program = joined (with_library declared) []; prefix = [] } → LinksFiles files linked
+links_files files declared linked (classes, read, are) links =
+    let program : joined (with_library declared) [] ≡ declared_program deterministic_library classes = joined_program classes declared (with_library declared) are refl in
+    (classes, read, subst (λ (p : Program). linked ≡ record { program = p; prefix = [] }) program links)
 
-pub late_added : (files : List File) (linked : Linked) (old new : List Violation) → LinksFiles files linked → Adds (IsLinkLine linked.program files) old new → AddsLate files old new
-late_added files linked old new (classes, good, is) adds =
-    (classes, good, subst (λ (l : Linked). Adds (IsLinkLine l.program files) old new) is adds)
+-- how those of the files are linked, by how their classes are
+pub are_links : (files : List File) (declared : List Class) (told : Links) → AreDeclared files declared → AreLinksOf declared told → AreLinks files told
+are_links files declared (links.Linked linked) are is = links_files files declared linked are is
+are_links files declared links.NotClassFile are is = absurd is
+are_links files declared links.SharedName are is = (declared, are, is)
+are_links files declared links.NoOrder are is = tt
+
+-- by how those of a table are
+pub are_links_of : (declared : List Class) (table : Program) (told : Links) → table ≡ joined (with_library declared) [] → IsLinkOf table told → AreLinksOf declared told
+are_links_of declared table (links.Linked linked) is of = subst (λ (p : Program). linked ≡ record { program = p; prefix = [] }) is of
+are_links_of declared table links.NotClassFile is of = of
+are_links_of declared table links.SharedName is of = absurd of
+are_links_of declared table links.NoOrder is of = tt
 
 -- ---- when they are judged
 
 above : (n : ℕ) → (n ≤ 6 → ⊥) → 6 < n
 above n past = elim (cases_lt 6 n) [ inl less ↦ less | inr small ↦ absurd (past small) ]
 
-pub hierarchy_holds : (files : List File) (early : List Violation) → AreEarlyViolations files early → (HasHierarchyLine early → ⊥) → HoldsHierarchy files
-hierarchy_holds files early are none v is = above v.rule (λ small. none (v, (are.all v).1 is, small))
+-- the lines that were found are those of the rules 1 to 16
+abbrev pub AreFound : List File → List Violation → Type 0
+AreFound files early = Adds (IsEarlyLine files) [] early
 
-pub whole_files : (files : List PathFile) → HoldsHierarchy (map path_file_view files) → All (λ file. IsRefused file.bytes.now → ⊥) files
-whole_files files holds k d lt refused =
-    let file = get_or files k d in
-    let line : Violation = file_line file.path.now 1 in
-    let past : 6 < 1 = holds line (inl (path_file_view file, contains_map path_file_view files file (Contains-get_or files k d lt), inl (refused, refl))) in
+of_line : (files : List File) (early : List Violation) (v : Violation) → AreFound files early → Contains early v → IsEarlyLine files v
+of_line files early v are m = elim ((are v).0 m) [ inl none ↦ absurd (contains_none v none) | inr is ↦ is ]
+
+pub hierarchy_holds : (files : List File) (early : List Violation) → AreFound files early → (HasHierarchyLine early → ⊥) → HoldsHierarchy files
+hierarchy_holds files early are none v is = above v.rule (λ small. none (v, (are v).1 (inr is), small))
+
+whole_file : (files : List File) (file : File) → HoldsHierarchy files → Contains files file → IsRefused file.1 → ⊥
+whole_file files file holds own refused =
+    let line : Violation = file_line file.0 1 in
+    let past : 6 < 1 = holds line (inl (file, own, inl (refused, refl))) in
     absurd (omega (arith, past))
 
--- where one of the rules 1 to 6 is violated there are no such lines
-pub early_alone : (files : List File) (early : List Violation) → AreEarlyViolations files early → HasHierarchyLine early → AreCheckViolations files early
-early_alone files early are (v, among, small) = record {
-  in_order = are.in_order;
+-- the class files of files that have no faulty part
+good_read : (files : List File) (classes : List ClassFile) → ((file : File) → Contains files file → IsRefused file.1 → ⊥) → AreReadFiles files classes → AreGoodFiles files classes
+good_read [] [] whole read = tt
+good_read [] (c ∷ classes) whole read = absurd read
+good_read (file ∷ files) [] whole read = absurd read
+good_read (file ∷ files) (c ∷ classes) whole read = (
+  record { file = read.0; whole = λ faulty. whole file (contains_first file files) (inr (c, read.0, faulty)) },
+  good_read files classes (λ other own. whole other (contains_later file files other own)) read.1,
+)
+
+pub good_files : (files : List File) (classes : List ClassFile) → HoldsHierarchy files → AreReadFiles files classes → AreGoodFiles files classes
+good_files files classes holds read = good_read files classes (λ file own. whole_file files file holds own) read
+
+-- where files are not linked, one of the rules 1 to 6 is violated
+pub malformed_breaks : (files : List File) → HasMalformed files → HoldsHierarchy files → ⊥
+malformed_breaks files (file, own, malformed) holds = whole_file files file holds own (inl malformed)
+
+pub shared_breaks : (files : List File) → SharesName files → HoldsHierarchy files → ⊥
+shared_breaks files (declared, (classes, read, are), (name, shared)) holds =
+    no_name_twice files classes name holds (good_files files classes holds read) (subst (λ (cs : List Class). IsShared (with_library cs) name) are shared)
+
+-- where one of the rules 1 to 6 is violated there are no lines of later rules
+pub early_alone : (files : List File) (early lines : List Violation) → AreFound files early → HasHierarchyLine early
+    → IsInOrder lines → ((v : Violation) → Contains lines v ↔ Contains early v) → AreCheckViolations files lines
+early_alone files early lines are (v, among, small) in_order members = record {
+  in_order = in_order;
   all = λ w. (
-    λ m. inl ((are.all w).0 m),
+    λ m. inl (of_line files early w are ((members w).0 m)),
     λ any. elim any [
-      | inl is ↦ (are.all w).1 is
-      | inr late ↦ (let past = late.hierarchy v ((are.all v).0 among) in absurd (omega (arith, small, past)))
+      | inl is ↦ (members w).1 ((are w).1 (inr is))
+      | inr late ↦ (let past = late.hierarchy v (of_line files early v are among) in absurd (omega (arith, small, past)))
     ],
   );
 }
 
 -- the lines of the class files that the bytes are
-late_line : (files : List File) (classes : List ClassFile) → HoldsHierarchy files → AreGoodFiles files classes → (v : Violation) → IsLinkLine (declared_program deterministic_library classes) files v ↔ IsLateLine files v
+late_line : (files : List File) (classes : List ClassFile) → HoldsHierarchy files → AreGoodFiles files classes → (v : Violation) → IsLinkedLine (declared_program deterministic_library classes) files v ↔ IsLateLine files v
 late_line files classes holds good v = (
   λ line. record { hierarchy = holds; classes = classes; good = good; line = line },
-  λ late. subst (λ (cs : List ClassFile). IsLinkLine (declared_program deterministic_library cs) files v) (same_good files late.classes classes late.good good) late.line,
+  λ late. subst (λ (cs : List ClassFile). IsLinkedLine (declared_program deterministic_library cs) files v) (same_good files late.classes classes late.good good) late.line,
 )
 
-pub early_and_late : (files : List File) (early found lines : List Violation) → AreEarlyViolations files early → HoldsHierarchy files → AddsLate files early found
-    → IsInOrder lines → ((v : Violation) → Contains lines v ↔ Contains found v) → AreCheckViolations files lines
-early_and_late files early found lines are holds (classes, good, adds) in_order members = record {
-  in_order = in_order;
-  all = λ v. (
-    λ m. elim ((adds v).0 ((members v).0 m)) [
-      | inl old ↦ inl ((are.all v).0 old)
-      | inr is ↦ inr ((late_line files classes holds good v).0 is)
-    ],
-    λ any. (members v).1 ((adds v).1 (elim any [
-      | inl is ↦ inl ((are.all v).1 is)
-      | inr late ↦ inr ((late_line files classes holds good v).1 late)
-    ])),
-  );
-}
+-- the late lines that were found are those of the linked classes
+abbrev pub AreLateFound : List File → Linked → List Violation → Type 0
+AreLateFound files linked late = Adds (IsLinkedLine linked.program files) [] late
+
+late_found : (files : List File) (linked : Linked) (late : List Violation) → LinksFiles files linked → HoldsHierarchy files → AreLateFound files linked late → (v : Violation)
+    → Contains late v ↔ IsLateLine files v
+late_found files linked late (classes, read, is) holds adds v =
+    let good = good_files files classes holds read in
+    let told : Adds (IsLinkedLine (declared_program deterministic_library classes) files) [] late = subst (λ (l : Linked). Adds (IsLinkedLine l.program files) [] late) is adds in (
+      λ m. elim ((told v).0 m) [ inl none ↦ absurd (contains_none v none) | inr line ↦ (late_line files classes holds good v).0 line ],
+      λ line. (told v).1 (inr ((late_line files classes holds good v).1 line)),
+    )
+
+pub early_and_late : (files : List File) (linked : Linked) (early late found lines : List Violation) → AreFound files early → (HasHierarchyLine early → ⊥) → LinksFiles files linked
+    → AreLateFound files linked late → Adds (λ v. Contains late v) early found → IsInOrder lines → ((v : Violation) → Contains lines v ↔ Contains found v) → AreCheckViolations files lines
+early_and_late files linked early late found lines are none links adds joins in_order members =
+    let holds = hierarchy_holds files early are none in
+    let late_are = late_found files linked late links holds adds in record {
+      in_order = in_order;
+      all = λ v. (
+        λ m. elim ((joins v).0 ((members v).0 m)) [
+          | inl old ↦ inl (of_line files early v are old)
+          | inr new ↦ inr ((late_are v).0 new)
+        ],
+        λ any. (members v).1 ((joins v).1 (elim any [
+          | inl is ↦ inl ((are v).1 (inr is))
+          | inr line ↦ inr ((late_are v).1 line)
+        ])),
+      );
+    }

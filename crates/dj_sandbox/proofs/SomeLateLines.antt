@@ -1,4 +1,4 @@
--- The lines of the rules 17 and 18, and those of all that `check` judges: whatever the files are, there is a list of them.
+-- The lines of the rules 17 to 19, and those of all that `check` judges: whatever the files are, there is a list of them.
 use Rattle.std.proofs.Common.{◌≡◌, ℕ, ◌⊎◌, List, Option, Some, Contains, refl, ap, ◌∙◌, subst, inl, inr}
 use Rattle.std.specs.Prelude.{IsSomeAnd}
 use Rattle.dj_edge.specs.Held.{File}
@@ -14,15 +14,22 @@ use Rattle.dj_labels.specs.declared.labelled.Labelled.{Labelled}
 use Rattle.dj_model.specs.Program.{Program}
 use Rattle.dj_report.specs.declared.report.Violation.{Violation}
 use Rattle.dj_rules.specs.Violations.{member_text, this_name}
-use Rattle.dj_check.specs.Malformed.{IsGood}
+use Rattle.dj_check.specs.Malformed.{IsGood, IsFaulty, IsFaultyMethod}
 use Rattle.dj_check.specs.Methods.{CatchesError}
 use Rattle.dj_check.specs.Rules.{line_at, IsMemberLine, IsEarlyLine}
 use Rattle.dj_classes.specs.Tables.{declared_program}
 use Rattle.dj_link.specs.Foreign.{IsForeign, IsForeignConstant}
 use Rattle.dj_link.specs.Unlinked.{IsUnlinked, IsUnlinkedCatch}
 use Rattle.dj_link.specs.Lines.{IsFirstOf, IsUntold, LinkViolates, LinkViolatesAt, CatchViolates, HandlerLinkViolates, CodeLinkViolates, MethodLinkViolates, IsFileLinkLine, IsLinkLine}
+use Rattle.dj_model.specs.Kinds.{Signature}
+use Rattle.dj_model.specs.Shape.{IsShapeFault}
+use Rattle.dj_model.proofs.Shapes.{one_shape_fault}
+use Rattle.dj_program.specs.Codes.{CodeParts, code_in}
+use Rattle.dj_program.proofs.Once.{one_code_parts}
+use Rattle.dj_shape.specs.Rule.{LacksShape}
+use Rattle.dj_judge.specs.Lines.{MethodShapeViolates, IsFileShapeLine, IsShapeLine, IsLinkedLine}
 use Rattle.dj_sandbox.specs.Checked.{AreGoodFiles, HoldsHierarchy, IsLateLine, IsCheckLine, AreCheckViolations}
-use Rattle.dj_sandbox.proofs.Classical.{NotNot, bind, decide, IsFinite, finite_same, finite_none, finite_either, finite_among}
+use Rattle.dj_sandbox.proofs.Classical.{NotNot, bind, decide, IsFinite, finite_same, finite_none, finite_one, finite_either, finite_among}
 use Rattle.dj_sandbox.proofs.InsertedLines.{finite_in_order}
 use Rattle.dj_sandbox.proofs.GoodFiles.{same_good}
 use Rattle.dj_sandbox.proofs.SomeSetLines.{IsAtPlace, finite_places, RuleLine, rule_if, rule_either, NumberedLine, OwnMemberLine, member_lines, numbered_line, WithinLine, within_lines, early_lines}
@@ -121,16 +128,73 @@ file_lines program file = bind (decide ((c : ClassFile) × IsGood file.1 c)) (el
 link_lines : (program : Program) (files : List File) → IsFinite (IsLinkLine program files)
 link_lines program files = finite_among (IsFileLinkLine program) files (file_lines program)
 
+-- ---- lines of rule 19
+
+-- code has one fault at most
+one_shape_line : (pool : List Constant) (m : MemberInfo) (a b : Option ℕ) → (IsFaultyMethod pool m → ⊥) → LacksShape pool m a → LacksShape pool m b → a ≡ b
+one_shape_line pool m a b sound x y =
+    let parts : x.parts ≡ y.parts = one_code_parts pool m x.parts y.parts sound x.code y.code in
+    let kinds : x.signature ≡ y.signature = cc (x.kinds, y.kinds) in
+    one_shape_fault y.signature (code_in pool y.parts) a b
+    (subst (λ (s : Signature). IsShapeFault s (code_in pool y.parts) a) kinds (subst (λ (p : CodeParts). IsShapeFault x.signature (code_in pool p) a) parts x.such)) y.such
+
+shape_lines_of : (program : Program) (path : List ℕ) (c : ClassFile) (m : MemberInfo) (number : Option ℕ) → MethodShapeViolates program c m number 19
+    → ((other : Option ℕ) (rule : ℕ) → MethodShapeViolates program c m other rule → other ≡ number) → IsFinite (OwnMemberLine (MethodShapeViolates program c) path c m)
+shape_lines_of program path c m number such only =
+    let line : Violation = line_at path (member_text c.pool m) number 19 in
+    finite_same (λ v. v ≡ line) (OwnMemberLine (MethodShapeViolates program c) path c m)
+    (λ v is. (number, 19, such, is))
+    (λ v (other, rule, is, told). told
+    ∙ ap (λ (n : Option ℕ). line_at path (member_text c.pool m) n rule) (only other rule is)
+    ∙ ap (line_at path (member_text c.pool m) number) is.rule_is)
+    (finite_one line)
+
+shape_method_lines : (program : Program) (path : List ℕ) (c : ClassFile) (m : MemberInfo) → (IsFaultyMethod c.pool m → ⊥) → IsFinite (OwnMemberLine (MethodShapeViolates program c) path c m)
+shape_method_lines program path c m sound = bind (decide ((number : Option ℕ) × MethodShapeViolates program c m number 19)) (elim [
+  | inl (number, such) ↦ shape_lines_of program path c m number such (λ other rule is. one_shape_line c.pool m other number sound is.lacks such.lacks)
+  | inr not ↦ finite_none (OwnMemberLine (MethodShapeViolates program c) path c m)
+      (λ v (other, rule, is, told). not (other, record { untold = is.untold; lacks = is.lacks; rule_is = refl }))
+])
+
+-- of a class file without faulty parts
+abbrev IsOwnShapeLine : Program → List ℕ → ClassFile → Violation → Type 0
+IsOwnShapeLine program path c = IsMemberLine (MethodShapeViolates program c) c.methods path c
+
+shape_member_lines : (program : Program) (path : List ℕ) (c : ClassFile) → (IsFaulty c → ⊥) → IsFinite (IsOwnShapeLine program path c)
+shape_member_lines program path c whole =
+    let IsOf : MemberInfo → Violation → Type 0 = λ m v. Contains c.methods m × OwnMemberLine (MethodShapeViolates program c) path c m v in
+    finite_same (λ v. (m : MemberInfo) × Contains c.methods m × IsOf m v) (IsOwnShapeLine program path c)
+    (λ v (m, own, (also, (number, rule, such, line))). record { member = m; own = own; number = number; rule = rule; such = such; line = line })
+    (λ v is. (is.member, is.own, (is.own, (is.number, is.rule, is.such, is.line))))
+    (finite_among IsOf c.methods (λ m. bind (decide (Contains c.methods m)) (elim [
+      | inl own ↦ finite_same (OwnMemberLine (MethodShapeViolates program c) path c m) (IsOf m) (λ v line. (own, line)) (λ v (also, line). line)
+          (shape_method_lines program path c m (λ faulty. whole (inl (m, own, faulty))))
+      | inr not ↦ finite_none (IsOf m) (λ v (own, line). not own)
+    ])))
+
+shape_file_lines : (program : Program) (file : File) → IsFinite (IsFileShapeLine program file)
+shape_file_lines program file = bind (decide ((c : ClassFile) × IsGood file.1 c)) (elim [
+  | inl (c, is) ↦ finite_same (IsOwnShapeLine program file.0 c) (IsFileShapeLine program file)
+      (λ v line. (c, is, line))
+      (λ v (d, own, line). subst (λ (e : ClassFile). IsOwnShapeLine program file.0 e v) (one_class_file tests_decide file.1 d c own.file is.file) line)
+      (shape_member_lines program file.0 c is.whole)
+  | inr not ↦ finite_none (IsFileShapeLine program file) (λ v (d, own, line). not (d, own))
+])
+
+linked_lines : (program : Program) (files : List File) → IsFinite (IsLinkedLine program files)
+linked_lines program files =
+    finite_either (IsLinkLine program files) (IsShapeLine program files) (link_lines program files) (finite_among (IsFileShapeLine program) files (shape_file_lines program))
+
 -- ---- lines of the set
 
 -- of these class files, where the rules 1 to 6 hold
 good_lines : (files : List File) → HoldsHierarchy files → (classes : List ClassFile) → AreGoodFiles files classes → IsFinite (IsLateLine files)
 good_lines files hierarchy classes good =
-    let IsOf : List ClassFile → Violation → Type 0 = λ cs. IsLinkLine (declared_program deterministic_library cs) files in
+    let IsOf : List ClassFile → Violation → Type 0 = λ cs. IsLinkedLine (declared_program deterministic_library cs) files in
     finite_same (IsOf classes) (IsLateLine files)
     (λ v line. record { hierarchy = hierarchy; classes = classes; good = good; line = line })
     (λ v is. subst (λ (cs : List ClassFile). IsOf cs v) (same_good files is.classes classes is.good good) is.line)
-    (link_lines (declared_program deterministic_library classes) files)
+    (linked_lines (declared_program deterministic_library classes) files)
 
 late_lines : (files : List File) → IsFinite (IsLateLine files)
 late_lines files = bind (decide (HoldsHierarchy files × ((classes : List ClassFile) × AreGoodFiles files classes))) (elim [

@@ -1,4 +1,4 @@
--- What `check` judges: the rules 1 to 16, and the rules 17 and 18 where the rules 1 to 6 hold of the whole set.
+-- What `check` judges: the rules 1 to 16, and the rules 17 to 19 where the rules 1 to 6 hold of the whole set.
 use Rattle.std.specs.Prelude.{◌<◌, ◌⊎◌, ⊤, List, [], ◌∷◌}
 use Rattle.dj_edge.specs.Held.{File}
 use Rattle.dj_names.specs.Library.{deterministic_library}
@@ -8,7 +8,7 @@ use Rattle.dj_report.specs.Lines.{AreExactly}
 use Rattle.dj_check.specs.Malformed.{IsGood}
 use Rattle.dj_check.specs.Rules.{IsEarlyLine}
 use Rattle.dj_classes.specs.Tables.{declared_program}
-use Rattle.dj_link.specs.Lines.{IsLinkLine}
+use Rattle.dj_judge.specs.Lines.{IsLinkedLine}
 
 -- the class files of the files, side by side; none violates rule 1
 abbrev pub AreGoodFiles : List File → List ClassFile → Type 0
@@ -20,12 +20,12 @@ AreGoodFiles files classes = ⊥
 abbrev pub HoldsHierarchy : List File → Type 0
 HoldsHierarchy files = (v : Violation) → IsEarlyLine files v → 6 < v.rule
 
--- a line of the rules 17 and 18, of the program of all classes and the deterministic library
+-- a line of the rules 17 to 19, of the program of all classes and the deterministic library
 pub record IsLateLine (files : List File) (v : Violation) : Type 0 where
   pub hierarchy : HoldsHierarchy files
   pub classes : List ClassFile
   pub good : AreGoodFiles files classes
-  pub line : IsLinkLine (declared_program deterministic_library classes) files v
+  pub line : IsLinkedLine (declared_program deterministic_library classes) files v
 
 abbrev pub IsCheckLine : List File → Violation → Type 0
 IsCheckLine files v = IsEarlyLine files v ⊎ IsLateLine files v

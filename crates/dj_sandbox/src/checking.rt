@@ -2,19 +2,20 @@ ghost use Rattle.std.specs.Prelude.{◌<◌, ◌≤◌, ◌^◌, ◌↔◌, leng
 ghost use Rattle.dj_report.specs.Stages.{IsDecided};
 ghost use Rattle.dj_report.specs.Text.{report_status};
 ghost use Rattle.dj_rules.specs.Views.{path_file_view};
-ghost use Rattle.dj_sandbox.specs.Checked.{AreCheckViolations};
+ghost use Rattle.dj_sandbox.specs.Checked.{HoldsHierarchy, AreCheckViolations};
 ghost use Rattle.dj_sandbox.specs.Judging.{check_stages};
-ghost use Rattle.dj_sandbox.specs.Late.{HasHierarchyLine};
+ghost use Rattle.dj_sandbox.specs.Late.{AreEarlyAlone, HasHierarchyLine, LinksFiles};
 ghost use Rattle.dj_sandbox.specs.Limits.{most_files};
 ghost use Rattle.dj_sandbox.specs.Statuses.{IsAmong, check_statuses};
 
-use crate::late::add_late_lines;
-use dj_check::rules;
-use dj_report::{PathFile, Report, Violation, Violations, in_order};
+use crate::late::{Links, link_files};
+use dj_judge::{JudgedFiles, judge_files};
+use dj_linking::Linker;
+use dj_report::{PathFile, Report, Violation, Violations, add_in_order, in_order};
 use dj_rules::RulesError;
 use std::alloc::Global;
 
-// The number of the rule HIERARCHY. Where it or one before it is violated the rules 17 and 18 are not judged.
+// The number of the rule HIERARCHY. Where it or one before it is violated the rules 17 to 19 are not judged.
 const HIERARCHY: u8 = 6;
 
 // Whether one of the lines is of the rules 1 to 6.
@@ -29,19 +30,61 @@ fn breaks_hierarchy(lines: &[Violation]) -> bool
     false
 }
 
+// The violations of files that are not linked, where one of the rules 1 to 6 is violated.
+fn early_violations(alloc: Global, files: &[PathFile<'_>]) -> Result<Option<Violations>, RulesError>
+    requires { All (λ file. length file.bytes.now < 2 ^ 32) files.now }
+    ensures { IfOk result (AreEarlyAlone (map path_file_view files.now)) }
+{
+    let JudgedFiles { early, late: _ } = judge_files(alloc, files, None)?;
+    if breaks_hierarchy(&early) {
+        return Ok(Some(in_order(early)));
+    }
+    Ok(None)
+}
+
+// The violations of files of which one of the rules 1 to 6 is violated.
+fn broken_violations(alloc: Global, files: &[PathFile<'_>]) -> Result<Violations, RulesError>
+    requires short { All (λ file. length file.bytes.now < 2 ^ 32) files.now }
+    requires broken { HoldsHierarchy (map path_file_view files.now) → ⊥ }
+    ensures { IfOk result (AreCheckViolations (map path_file_view files.now)) }
+{
+    match early_violations(alloc, files)? {
+        Some(violations) => Ok(violations),
+        None => unreachable!(),
+    }
+}
+
+// The violations of files that are linked.
+fn linked_violations(
+    alloc: Global,
+    files: &[PathFile<'_>],
+    linker: &Linker,
+) -> Result<Violations, RulesError>
+    requires short { All (λ file. length file.bytes.now < 2 ^ 32) files.now }
+    requires links { LinksFiles (map path_file_view files.now) linker.now }
+    ensures { IfOk result (AreCheckViolations (map path_file_view files.now)) }
+{
+    let JudgedFiles { early, late } = judge_files(alloc, files, Some(linker))?;
+    if breaks_hierarchy(&early) {
+        return Ok(in_order(early));
+    }
+    let mut found = early;
+    add_in_order(&mut found, late)?;
+    Ok(in_order(found))
+}
+
 // All violations that `check` judges, in order, each once.
 fn check_violations(alloc: Global, files: &[PathFile<'_>]) -> Result<Violations, RulesError>
     requires few { length files.now ≤ most_files }
     requires short { All (λ file. length file.bytes.now < 2 ^ 32) files.now }
     ensures { IfOk result (AreCheckViolations (map path_file_view files.now)) }
 {
-    let early = rules(alloc, files)?;
-    if breaks_hierarchy(early.as_slice()) {
-        return Ok(early);
+    match link_files(alloc, files)? {
+        Links::Linked(linker) => linked_violations(alloc, files, &linker),
+        Links::NotClassFile => broken_violations(alloc, files),
+        Links::SharedName => broken_violations(alloc, files),
+        Links::NoOrder => early_violations(alloc, files)?.ok_or(RulesError::Memory),
     }
-    let mut found = Vec::from(early);
-    add_late_lines(alloc, &mut found, files)?;
-    Ok(in_order(found))
 }
 
 /// The report on class files, each under its path within the folder.

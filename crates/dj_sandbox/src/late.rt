@@ -1,25 +1,21 @@
-ghost use Rattle.std.specs.Prelude.{◌≡◌, [], ◌++◌, ◌<◌, ◌≤◌, ◌^◌, length, map, All, IfOk, OnOk};
+ghost use Rattle.std.specs.Prelude.{◌≡◌, ◌++◌, ◌<◌, ◌≤◌, ◌^◌, length, map, All, IfOk, OnOk};
+ghost use Rattle.std.specs.Option.{option_map};
 ghost use Rattle.dj_names.specs.Descriptors.{IsDesc};
 ghost use Rattle.dj_names.specs.Library.{deterministic_library};
-ghost use Rattle.dj_names.specs.Types.{Name};
 ghost use Rattle.dj_class.specs.ClassFile.{IsValid};
 ghost use Rattle.dj_class.specs.Views.{class_of};
-ghost use Rattle.dj_model.specs.Libraries.{library_class, joined};
+ghost use Rattle.dj_model.specs.Libraries.{library_class};
 ghost use Rattle.dj_rules.specs.Views.{path_file_view};
-ghost use Rattle.dj_check.specs.Malformed.{IsRefused};
 ghost use Rattle.dj_declared.specs.Files.{declared_class};
-ghost use Rattle.dj_classes.specs.Tables.{IsShared};
-ghost use Rattle.dj_sandbox.specs.Checked.{HoldsHierarchy};
-ghost use Rattle.dj_sandbox.specs.Late.{IsDeclaredFrom, AreDeclared, row_class, LinksFiles, AddsLate};
+ghost use Rattle.dj_sandbox.specs.Late.{IsDeclaredFrom, AreDeclaredOrNot, IsLinkOf, AreLinksOf, AreLinks, row_class};
 ghost use Rattle.dj_sandbox.specs.Limits.{most_files};
 
 use dj_class::ClassView;
 use dj_declared::{DeclaredClass, declare_file, declare_library_class};
 use dj_library::deterministic;
-use dj_link::add_link_lines;
 use dj_linking::{BaseNames, ClassTable, Linker, TableError};
 use dj_natives::LibClass;
-use dj_report::{PathFile, Violation};
+use dj_report::PathFile;
 use dj_rules::{FileView, RulesError, view_file};
 use std::alloc::Global;
 
@@ -31,29 +27,36 @@ fn declare_view(alloc: Global, view: &ClassView<'_>) -> Result<DeclaredClass, Ru
     declare_file(alloc, view).map_err(|_| RulesError::Memory)
 }
 
-// Reads a file again for its class.
-fn declare_path_file(alloc: Global, file: &PathFile<'_>) -> Result<DeclaredClass, RulesError>
-    requires short { length file.now.bytes.now < 2 ^ 32 }
-    requires whole { IsRefused file.now.bytes.now → ⊥ }
+// Reads a file for its class, and answers nothing where it is no class file.
+fn declare_path_file(
+    alloc: Global,
+    file: &PathFile<'_>,
+) -> Result<Option<DeclaredClass>, RulesError>
+    requires { length file.now.bytes.now < 2 ^ 32 }
     ensures { IfOk result (IsDeclaredFrom file.now.bytes.now) }
 {
     match view_file(alloc, file.bytes)? {
-        FileView::Class(view) => declare_view(alloc, &view),
-        FileView::Malformed => unreachable!(),
+        FileView::Class(view) => Ok(Some(declare_view(alloc, &view)?)),
+        FileView::Malformed => Ok(None),
     }
 }
 
-// The classes of the files.
-fn declare_files(alloc: Global, files: &[PathFile<'_>]) -> Result<Vec<DeclaredClass>, RulesError>
-    requires short { All (λ file. length file.bytes.now < 2 ^ 32) files.now }
-    requires whole { All (λ file. IsRefused file.bytes.now → ⊥) files.now }
-    ensures { IfOk result (λ declared. AreDeclared (map path_file_view files.now) declared.items) }
+// The classes of the files, or nothing where one is no class file.
+fn declare_files(
+    alloc: Global,
+    files: &[PathFile<'_>],
+) -> Result<Option<Vec<DeclaredClass>>, RulesError>
+    requires { All (λ file. length file.bytes.now < 2 ^ 32) files.now }
+    ensures { IfOk result (λ declared. AreDeclaredOrNot (map path_file_view files.now) (option_map (λ classes. classes.items) declared)) }
 {
     let mut declared = Vec::new(alloc);
     for file in files {
-        declared.push(declare_path_file(alloc, file)?)?;
+        match declare_path_file(alloc, file)? {
+            Some(class) => declared.push(class)?,
+            None => return Ok(None),
+        }
     }
-    Ok(declared)
+    Ok(Some(declared))
 }
 
 // The class of a library.
@@ -87,43 +90,92 @@ fn add_library(alloc: Global, declared: &mut Vec<DeclaredClass>) -> Result<(), R
     add_rows(alloc, declared, library.as_slice())
 }
 
-// Puts classes in order, of which no two have one name.
-fn table_of(alloc: Global, declared: Vec<DeclaredClass>) -> Result<ClassTable, RulesError>
-    requires few { length declared.items < 2 ^ 31 }
-    requires differ { (name : Name) → IsShared declared.items name → ⊥ }
-    ensures { IfOk result (λ table. table ≡ joined declared.items []) }
+/// How the classes of files are linked.
+#[derive(Drop)]
+pub enum Links {
+    /// With one another and with those of the library.
+    Linked(Linker),
+    /// A file is no class file.
+    NotClassFile,
+    /// Two classes have one name.
+    SharedName,
+    /// There was no memory, or superclasses go round, or there is no order in which each interface comes after those above it.
+    NoOrder,
+}
+
+// No chain of superclasses is longer.
+const LONGEST: u64 = 1 << 32;
+
+// Walks up from a class to one that was walked through before, and answers whether it was in this walk. A class keeps the number of its walk.
+fn meets_itself(table: &ClassTable, walks: &mut [u32], class: u32, walk: u32) -> bool {
+    let mut next = Some(class);
+    for _step in 0..LONGEST {
+        let Some(at) = next else {
+            return false;
+        };
+        if at >= table.class_count() {
+            return false;
+        }
+        let Some(seen) = walks.get_mut(at as usize) else {
+            return false;
+        };
+        if *seen != 0 {
+            return *seen == walk;
+        }
+        *seen = walk;
+        next = table.super_of(at);
+    }
+    false
+}
+
+// Whether superclasses go round. No look-up is to walk among such; each class is walked through once here.
+fn goes_round(table: &ClassTable, walks: &mut [u32]) -> bool {
+    for class in 0..table.class_count() {
+        if meets_itself(table, walks, class, class.saturating_add(1)) {
+            return true;
+        }
+    }
+    false
+}
+
+// Links classes that are in order.
+fn link_table(alloc: Global, table: ClassTable) -> Links
+    ensures { IsLinkOf table result }
 {
-    match ClassTable::of(alloc, declared) {
-        Ok(table) => Ok(table),
-        Err(TableError::Duplicate(_)) => unreachable!(),
+    let Ok(mut walks) = vec![in alloc; 0; table.class_count() as usize] else {
+        return Links::NoOrder;
+    };
+    if goes_round(&table, &mut walks) {
+        return Links::NoOrder;
+    }
+    match Linker::of(alloc, table, BaseNames::Plain) {
+        Ok(linker) => Links::Linked(linker),
+        Err(_) => Links::NoOrder,
+    }
+}
+
+// Links classes with those of the deterministic library.
+fn link_classes(alloc: Global, declared: Vec<DeclaredClass>) -> Result<Links, RulesError>
+    requires { length declared.items ≤ most_files }
+    ensures { IfOk result (AreLinksOf declared.items) }
+{
+    let mut all = declared;
+    add_library(alloc, &mut all)?;
+    match ClassTable::of(alloc, all) {
+        Ok(table) => Ok(link_table(alloc, table)),
+        Err(TableError::Duplicate(_)) => Ok(Links::SharedName),
         Err(TableError::Memory) => Err(RulesError::Memory),
     }
 }
 
-// Links the classes of the files and of the deterministic library.
-fn link_files(alloc: Global, files: &[PathFile<'_>]) -> Result<Linker, RulesError>
+/// Links the classes of the files and of the deterministic library.
+pub fn link_files(alloc: Global, files: &[PathFile<'_>]) -> Result<Links, RulesError>
     requires few { length files.now ≤ most_files }
     requires short { All (λ file. length file.bytes.now < 2 ^ 32) files.now }
-    requires hierarchy { HoldsHierarchy (map path_file_view files.now) }
-    ensures { IfOk result (LinksFiles (map path_file_view files.now)) }
+    ensures { IfOk result (AreLinks (map path_file_view files.now)) }
 {
-    let mut declared = declare_files(alloc, files)?;
-    add_library(alloc, &mut declared)?;
-    let table = table_of(alloc, declared)?;
-    Linker::of(alloc, table, BaseNames::Plain).map_err(|_| RulesError::Memory)
-}
-
-/// Appends all lines of the rules 17 and 18. None of the rules 1 to 6 is violated.
-pub fn add_late_lines(
-    alloc: Global,
-    found: &mut Vec<Violation>,
-    files: &[PathFile<'_>],
-) -> Result<(), RulesError>
-    requires few { length files.now ≤ most_files }
-    requires short { All (λ file. length file.bytes.now < 2 ^ 32) files.now }
-    requires hierarchy { HoldsHierarchy (map path_file_view files.now) }
-    ensures { OnOk result (AddsLate (map path_file_view files.now) found.old.items found.new.items) }
-{
-    let linker = link_files(alloc, files)?;
-    add_link_lines(alloc, found, &linker, files).map_err(|_| RulesError::Memory)
+    match declare_files(alloc, files)? {
+        Some(declared) => link_classes(alloc, declared),
+        None => Ok(Links::NotClassFile),
+    }
 }

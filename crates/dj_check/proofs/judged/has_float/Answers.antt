@@ -1,5 +1,9 @@
-use Rattle.dj_check.proofs.Judging.{told_float}
+use Rattle.dj_report.proofs.Adding.{not_both}
+use Rattle.dj_check.proofs.Judging.{told_float, no_float}
 use Rattle.dj_check.proofs.judged.has_float.Goals as goal
+
+pub returns-then-not-may_have_float : goal.returns-then-not-may_have_float
+returns-then-not-may_have_float c = no_float c.args.text.now (λ begins. not_both c.may_have_float.result (c.may_have_float.ensures.1 begins) c.if-not-may_have_float.true)
 
 pub returns-in-Ok : goal.returns-in-Ok
 returns-in-Ok c = told_float c.args.text.now c.in-Ok.desc c.mentions_float.result c.in-Ok.ensures.ok c.mentions_float.ensures

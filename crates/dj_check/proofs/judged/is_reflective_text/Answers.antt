@@ -1,30 +1,9 @@
-use Rattle.std.proofs.Common.{◌∙◌, Err, subst}
-use Rattle.dj_names.specs.declared.descriptor.Desc.TheVariants as descs
-use Rattle.dj_names.specs.Descriptors.{Describes}
-use Rattle.dj_names.proofs.DescLaws.{described_once}
-use Rattle.dj_report.proofs.Adding.{not_both}
-use Rattle.dj_check.proofs.Stands.{reflective_class, reflective_array, reflective_none, field_no_method}
+use Rattle.std.proofs.Common.{sym, ◌∙◌}
+use Rattle.dj_check.proofs.Stands.{bracket_name, reflective_name}
 use Rattle.dj_check.proofs.judged.is_reflective_text.Goals as goal
 
-pub returns-then-is_class_name : goal.returns-then-is_class_name
-returns-then-is_class_name c = reflective_class c.args.text.now c.is_reflective.result (c.is_class_name.ensures.means.0 c.if-is_class_name.true) c.is_reflective.ensures
+pub is_reflective_desc-requires : goal.is_reflective_desc-requires
+is_reflective_desc-requires c = bracket_name c.args.text.now (sym c.starts_with.ensures.value ∙ c.if-starts_with.true)
 
-pub returns-in-Ok-Field : goal.returns-in-Ok-Field
-returns-in-Ok-Field c =
-    reflective_array c.args.text.now c.in-Ok-Field.ty c.is_reflective_array.result
-    (λ is. not_both c.is_class_name.result (c.is_class_name.ensures.means.1 is) c.if-is_class_name.false)
-    (subst (Describes c.args.text.now) c.in-Ok-Field.field-0-is c.in-Ok-Field.ensures.ok)
-    c.is_reflective_array.ensures
-
-pub returns-in-Ok-Method : goal.returns-in-Ok-Method
-returns-in-Ok-Method c =
-    reflective_none c.args.text.now
-    (λ is. not_both c.is_class_name.result (c.is_class_name.ensures.means.1 is) c.if-is_class_name.false)
-    (λ ty described. field_no_method ty c.in-Ok-Method.field-0-0 c.in-Ok-Method.field-0-1
-    (described_once c.args.text.now (descs.Field ty) c.in-Ok-Method.field-0 described c.in-Ok-Method.ensures.ok ∙ c.in-Ok-Method.field-0-is))
-
-pub returns-in-Err-NotADescriptor : goal.returns-in-Err-NotADescriptor
-returns-in-Err-NotADescriptor c =
-    reflective_none c.args.text.now
-    (λ is. not_both c.is_class_name.result (c.is_class_name.ensures.means.1 is) c.if-is_class_name.false)
-    (λ ty. c.in-Err-NotADescriptor.ensures.refused (λ i. Err (c.in-Err-NotADescriptor.field-0-is i)) (descs.Field ty))
+pub returns : goal.returns
+returns c = reflective_name c.args.text.now c.is_reflective_name.result (sym c.starts_with.ensures.value ∙ c.if-starts_with.false) c.is_reflective_name.ensures

@@ -1,9 +1,10 @@
-use Rattle.std.proofs.Common.{Bool, ◌↔◌, ◌⊎◌, List, map, IsTrue, subst}
+use Rattle.std.proofs.Common.{Bool, ◌↔◌, ◌⊎◌, List, map, IsTrue, inl, inr, subst}
 use Rattle.dj_edge.proofs.Lists.{ok_so}
 use Rattle.dj_names.specs.Names.{IsUnqualifiedName, IsMethodName}
 use Rattle.dj_names.specs.Descriptors.{IsFieldDescriptor, IsMethodDescriptor}
 use Rattle.dj_class.specs.ClassFile.{MemberInfo}
 use Rattle.dj_class.specs.Members.{member_of}
+use Rattle.dj_class.specs.Views.{class_of}
 use Rattle.dj_check.specs.Heads.{AreRepeated}
 use Rattle.dj_check.specs.Gathered.{names_of, HasAgain}
 use Rattle.dj_check.proofs.RepeatLaws.{again_repeated, first_repeats, other_repeats}
@@ -14,7 +15,7 @@ returns-then-fields c =
     let view = c.args.view.now in
     let texts = c.args.texts.now in
     first_repeats (AreRepeated view.pool view.fields) (AreRepeated view.pool view.methods) c.in_ok-fields.fields
-    (again_repeated IsUnqualifiedName IsFieldDescriptor view.pool texts view.fields c.in_ok-fields.fields c.requires.texts c.requires.valid.fields
+    (again_repeated IsUnqualifiedName IsFieldDescriptor (class_of view) texts view.fields c.in_ok-fields.fields c.requires.texts c.requires.numbered (λ m own. inl own) c.requires.valid.fields
     (subst (λ (ms : List MemberInfo). IsTrue c.in_ok-fields.fields ↔ HasAgain (names_of texts ms)) c.as_slice.ensures c.in_ok-fields.ensures))
     c.if-fields.true
 
@@ -22,10 +23,10 @@ pub returns : goal.returns
 returns c =
     let view = c.args.view.now in
     let texts = c.args.texts.now in
-    let fields = again_repeated IsUnqualifiedName IsFieldDescriptor view.pool texts view.fields c.in_ok-fields.fields c.requires.texts c.requires.valid.fields
+    let fields = again_repeated IsUnqualifiedName IsFieldDescriptor (class_of view) texts view.fields c.in_ok-fields.fields c.requires.texts c.requires.numbered (λ m own. inl own) c.requires.valid.fields
     (subst (λ (ms : List MemberInfo). IsTrue c.in_ok-fields.fields ↔ HasAgain (names_of texts ms)) c.as_slice.ensures c.in_ok-fields.ensures) in
     ok_so c.has_again-2.result (λ b. IsTrue b ↔ HasAgain (names_of texts (map member_of c.as_slice-2.result.now))) (λ b. IsTrue b ↔ (AreRepeated view.pool view.fields ⊎ AreRepeated view.pool view.methods))
     (λ (b : Bool) told. other_repeats (AreRepeated view.pool view.fields) (AreRepeated view.pool view.methods) c.in_ok-fields.fields b fields c.if-fields.false
-    (again_repeated IsMethodName IsMethodDescriptor view.pool texts view.methods b c.requires.texts c.requires.valid.methods
+    (again_repeated IsMethodName IsMethodDescriptor (class_of view) texts view.methods b c.requires.texts c.requires.numbered (λ m own. inr own) c.requires.valid.methods
     (subst (λ (ms : List MemberInfo). IsTrue b ↔ HasAgain (names_of texts ms)) c.as_slice-2.ensures told)))
     c.has_again-2.ensures

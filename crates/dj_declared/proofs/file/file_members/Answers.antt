@@ -20,6 +20,7 @@ invariant_of-result c =
           (named_of_lent marks _ _ view.methods marked.methods_are c.deref.ensures.value c.as_slice-methods.ensures)
           (rows_of_lent field_row_of _ _ _ (map member_of c.as_slice-fields.result.now) _ (c.in_ok-fields.ensures ∙ c.in_ok-field_rows.ensures) c.deref-2.ensures.value c.as_slice-fields.ensures)
           (rows_of_lent method_row_of _ _ _ (map member_of c.as_slice-methods.result.now) _ (c.in_ok-methods.ensures ∙ c.in_ok-method_rows.ensures) c.deref-3.ensures.value c.as_slice-methods.ensures);
+      counted = c.in_ok-counts.ensures;
     }
 
 pub returns : goal.returns

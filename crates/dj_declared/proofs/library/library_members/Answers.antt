@@ -6,6 +6,7 @@ use Rattle.dj_declared.proofs.library.library_members.Goals as goal
 pub invariant_of-result : goal.invariant_of-result
 invariant_of-result c = record {
   sound = library_sound c.method_rows.new.texts.numbers _ _ _ _ (c.in_ok-fields.ensures ∙ c.new-2.ensures.items) c.in_ok-methods.ensures c.in_ok-rows.ensures;
+  counted = c.in_ok-counts.ensures;
 }
 
 pub returns : goal.returns

@@ -1,12 +1,15 @@
 use Rattle.std.proofs.Common.{length, get_or, refl}
 use Rattle.dj_linking.specs.Numbers.{lists_of}
+use Rattle.dj_linking.proofs.Bits.{have_none}
 use Rattle.dj_linking.proofs.Knowing.{known_none}
 use Rattle.dj_linking.proofs.Marks.{found_below}
 use Rattle.dj_linking.proofs.above.learn_all.Goals as goal
 
 pub loop-class-init : goal.loop-class-init
-loop-class-init c =
-    known_none c.args.table.now (lists_of c.in_ok-known.known.lists.items) c.in_ok-known.known.marks.items c.class_count.result c.class_count.ensures.count c.in_ok-known.ensures.lists c.in_ok-known.ensures.marks
+loop-class-init c = record {
+  known = known_none c.args.table.now (lists_of c.in_ok-known.known.lists.items) c.in_ok-known.known.marks.items c.class_count.result c.class_count.ensures.count c.in_ok-known.ensures.lists c.in_ok-known.ensures.marks;
+  bits = have_none (lists_of c.in_ok-known.known.lists.items) (lists_of c.in_ok-known.known.rows.items) c.in_ok-known.known.marks.items c.class_count.result c.in_ok-known.ensures.rows c.in_ok-known.ensures.marks;
+}
 
 pub learn-requires-clause-there : goal.learn-requires-clause-there
 learn-requires-clause-there c =

@@ -1,6 +1,10 @@
+use Rattle.dj_linking.specs.Bits.{HaveBits}
 use Rattle.dj_linking.specs.Numbers.{AreKnown, lists_of}
 use Rattle.dj_linking.proofs.above.learn_all.Given as goal
 
 -- what is known so far
 abbrev pub invariant-loop-class : goal.invariant-loop-class
-invariant-loop-class l = AreKnown l.table (lists_of l.known.lists.items) l.known.marks.items
+invariant-loop-class l = record {
+  known : AreKnown l.table (lists_of l.known.lists.items) l.known.marks.items;
+  bits : HaveBits (lists_of l.known.lists.items) (lists_of l.known.rows.items) l.known.marks.items;
+}

@@ -1,32 +1,24 @@
-use Rattle.std.proofs.Common.{◌<◌, ◌∷◌, ℕ, Option, IfSome, length, ◌∙◌, ap, subst}
+use Rattle.std.proofs.Common.{ℕ, List, Some, length, subst, sym, ◌∙◌, ap, arith}
 use Rattle.std.specs.Option.{option_map}
 use Rattle.dj_declared.specs.Files.{desc_in}
-use Rattle.dj_classes.specs.Tables.{field_there}
-use Rattle.dj_linking.specs.Numbers.{field_found, first_some, numbers_above}
-use Rattle.dj_linking.proofs.Finding.{IsWalked, walk_begun, walked_here, walked_more, walked_off, walked_out}
+use Rattle.dj_linking.specs.Chained.{field_row}
+use Rattle.dj_linking.specs.Numbers.{AreBelow, field_found, first_some, lists_of}
+use Rattle.dj_linking.proofs.Chained.{list_told, rows_below}
+use Rattle.dj_linking.proofs.Listed.{field_row_below, fields_found}
 use Rattle.dj_linking.proofs.find.field_up.Goals as goal
 
-pub loop-init : goal.loop-init
-loop-init c = walk_begun (λ k. first_some (field_found c.args.table.now c.args.name.now (desc_in c.args.desc.now)) (k ∷ numbers_above c.args.table.now k)) c.args.table.now c.args.class c.requires.there
+pub list_of-requires : goal.list_of-requires
+list_of-requires c = omega (arith, c.requires.fields.count, c.requires.there)
 
-pub returns-in_err-at : goal.returns-in_err-at
-returns-in_err-at c =
-    ap (option_map (field_there c.args.table.now)) c.from_residual.ensures
-    ∙ walked_off (λ k. first_some (field_found c.args.table.now c.args.name.now (desc_in c.args.desc.now)) (k ∷ numbers_above c.args.table.now k)) c.args.table.now c.args.class c.loop.counter
-    (subst (λ (o : Option ℕ). IsWalked (λ k. first_some (field_found c.args.table.now c.args.name.now (desc_in c.args.desc.now)) (k ∷ numbers_above c.args.table.now k)) c.args.table.now c.args.class c.loop.counter o) c.in_err-at.was c.loop.invariant)
-
-pub field_above-requires-clause-there : goal.field_above-requires-clause-there
-field_above-requires-clause-there c = subst (λ (o : Option ℕ). IfSome o (λ k. k < length c.args.table.now)) c.in_ok-at.was c.loop.invariant.within
+pub field_among-requires-clause-there : goal.field_among-requires-clause-there
+field_among-requires-clause-there c =
+    subst (AreBelow (length c.args.table.now))
+    (sym (list_told c.args.table.now (field_row c.args.table.now) (lists_of c.args.fields.now.lists.items) c.args.fields.now.places.items c.args.class c.in-Some.list.now c.requires.fields c.in-Some.ensures))
+    (rows_below c.args.table.now (field_row c.args.table.now) (length c.args.table.now) c.args.class c.requires.there (field_row_below c.args.table.now))
 
 pub returns-in-Some : goal.returns-in-Some
 returns-in-Some c =
-    walked_here (λ k. first_some (field_found c.args.table.now c.args.name.now (desc_in c.args.desc.now)) (k ∷ numbers_above c.args.table.now k)) c.args.table.now c.args.class c.loop.counter c.in_ok-at.at (field_there c.args.table.now c.in-Some.place)
-    (subst (λ (o : Option ℕ). IsWalked (λ k. first_some (field_found c.args.table.now c.args.name.now (desc_in c.args.desc.now)) (k ∷ numbers_above c.args.table.now k)) c.args.table.now c.args.class c.loop.counter o) c.in_ok-at.was c.loop.invariant) c.loop-test.true c.in-Some.ensures
-
-pub loop-preserved : goal.loop-preserved
-loop-preserved c =
-    walked_more (λ k. first_some (field_found c.args.table.now c.args.name.now (desc_in c.args.desc.now)) (k ∷ numbers_above c.args.table.now k)) c.args.table.now c.args.class c.loop.counter c.in_ok-at.at c.super_of-next.result
-    (subst (λ (o : Option ℕ). IsWalked (λ k. first_some (field_found c.args.table.now c.args.name.now (desc_in c.args.desc.now)) (k ∷ numbers_above c.args.table.now k)) c.args.table.now c.args.class c.loop.counter o) c.in_ok-at.was c.loop.invariant) c.loop-test.true c.in_default.ensures c.super_of-next.ensures
-
-pub returns : goal.returns
-returns c = walked_out (λ k. first_some (field_found c.args.table.now c.args.name.now (desc_in c.args.desc.now)) (k ∷ numbers_above c.args.table.now k)) c.args.table.now c.args.class c.loop.counter c.loop.next c.loop.invariant c.loop-test.false
+    c.field_among.ensures
+    ∙ ap (λ (xs : List ℕ). option_map Some (first_some (field_found c.args.table.now c.args.name.now (desc_in c.args.desc.now)) xs))
+    (list_told c.args.table.now (field_row c.args.table.now) (lists_of c.args.fields.now.lists.items) c.args.fields.now.places.items c.args.class c.in-Some.list.now c.requires.fields c.in-Some.ensures)
+    ∙ ap (option_map Some) (fields_found c.args.table.now c.args.name.now (desc_in c.args.desc.now) c.args.class)

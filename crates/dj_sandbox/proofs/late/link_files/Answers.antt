@@ -1,28 +1,21 @@
-use Rattle.std.proofs.Common.{◌≡◌, [], map}
+use Rattle.std.proofs.Common.{List, Option, map, subst}
+use Rattle.std.specs.Option.{option_map}
+use Rattle.std.specs.Global.{Vec}
 use Rattle.dj_edge.proofs.Lists.{ok_so}
-use Rattle.dj_linking.specs.Linked.{Linked}
+use Rattle.dj_model.specs.Program.{Class}
 use Rattle.dj_rules.specs.Views.{path_file_view}
-use Rattle.dj_sandbox.specs.Late.{LinksFiles}
-use Rattle.dj_sandbox.proofs.LateLaws.{ok_mapped, whole_files, few_declared, declared_apart, links_files}
+use Rattle.dj_sandbox.specs.Late.{AreDeclaredOrNot, AreLinksOf, AreLinks}
+use Rattle.dj_sandbox.proofs.LateLaws.{few_declared, are_links}
 use Rattle.dj_sandbox.proofs.late.link_files.Goals as goal
 
-pub declare_files-requires-clause-whole : goal.declare_files-requires-clause-whole
-declare_files-requires-clause-whole c = whole_files c.args.files.now c.requires.hierarchy
+pub link_classes-requires : goal.link_classes-requires
+link_classes-requires c =
+    few_declared c.args.files.now c.in-Some.declared.items c.requires.few
+    (subst (λ (d : Option (Vec Class)). AreDeclaredOrNot (map path_file_view c.args.files.now) (option_map (λ classes. classes.items) d)) c.in-Some.is c.in_ok-declared.ensures)
 
-pub table_of-requires-clause-few : goal.table_of-requires-clause-few
-table_of-requires-clause-few c =
-    few_declared c.args.files.now c.in_ok-declared.declared.items c.add_library.new.declared.items c.requires.few c.in_ok-declared.ensures c.in_ok-add_library.ensures
-
-pub table_of-requires-clause-differ : goal.table_of-requires-clause-differ
-table_of-requires-clause-differ c =
-    declared_apart (map path_file_view c.args.files.now) c.in_ok-declared.declared.items c.add_library.new.declared.items c.requires.hierarchy c.in_ok-declared.ensures c.in_ok-add_library.ensures
-
-pub returns : goal.returns
-returns c =
+pub returns-in-Some : goal.returns-in-Some
+returns-in-Some c =
     let files = map path_file_view c.args.files.now in
-    let all = c.add_library.new.declared.items in
-    let table = c.in_ok-table.table in
-    let links : Linked → Type 0 = λ linked. linked ≡ record { program = table; prefix = [] } in
-    ok_so c.map_err.result links (LinksFiles files)
-    (λ linked is. links_files files c.in_ok-declared.declared.items all table linked c.in_ok-declared.ensures c.in_ok-add_library.ensures c.in_ok-table.ensures is)
-    (ok_mapped c.of.result c.map_err.result links _ c.map_err.ensures.cases c.map_err.ensures.variant c.of.ensures)
+    let declared = c.in-Some.declared.items in
+    let told = subst (λ (d : Option (Vec Class)). AreDeclaredOrNot files (option_map (λ classes. classes.items) d)) c.in-Some.is c.in_ok-declared.ensures in
+    ok_so c.link_classes.result (AreLinksOf declared) (AreLinks files) (λ links is. are_links files declared links told is) c.link_classes.ensures

@@ -1,8 +1,9 @@
-use Rattle.std.proofs.Common.{◌≡◌, ◌<◌, ◌≤◌, ℕ, List, [], length, get_or, slice_get, refl, sym, ◌∙◌, subst, arith}
+use Rattle.std.proofs.Common.{◌≡◌, ◌<◌, ◌≤◌, ℕ, List, [], length, get_or, slice_get, refl, sym, ◌∙◌, ap, subst, arith}
 use Rattle.std.specs.Global.{Vec}
 use Rattle.std.proofs.lemmas.List.{length-map}
 use Rattle.dj_model.specs.Program.{interfaces_of}
 use Rattle.dj_classes.specs.Tables.{interface_numbers}
+use Rattle.dj_linking.specs.Bits.{words_for}
 use Rattle.dj_linking.specs.Numbers.{AreBelow, lists_of}
 use Rattle.dj_linking.proofs.Knowing.{gathered_none, gathered_row, gathered_all, gathered_enough, known_below}
 use Rattle.dj_linking.proofs.Marks.{found_below, numbers_below}
@@ -10,8 +11,9 @@ use Rattle.dj_linking.proofs.above.Known.above.Goals as goal
 
 pub loop-listed-init : goal.loop-listed-init
 loop-listed-init c =
-    let bound : length c.in_ok-numbers.numbers.marks.items ≡ length c.args.table.now = omega (arith, c.in_ok-numbers.ensures.bound, c.len.ensures, c.requires.known.marks_count) in
-    gathered_none c.args.table.now c.args.self.now.marks.items c.args.class c.in_ok-numbers.numbers.list.items c.in_ok-numbers.numbers.marks.items c.in_ok-numbers.ensures.none bound
+    let count : c.len.result ≡ length c.args.table.now = omega (arith, c.len.ensures, c.requires.known.marks_count) in
+    let bound : length c.in_ok-numbers.numbers.bits.items ≡ words_for (length c.args.table.now) = c.in_ok-numbers.ensures.bound ∙ ap words_for count in
+    gathered_none c.args.table.now c.args.self.now.marks.items c.args.class c.in_ok-numbers.numbers.list.items c.in_ok-numbers.numbers.bits.items c.in_ok-numbers.ensures.none bound
 
 pub add_above-requires-clause-lists : goal.add_above-requires-clause-lists
 add_above-requires-clause-lists c =
@@ -19,7 +21,7 @@ add_above-requires-clause-lists c =
     omega (arith, lists, c.requires.known.marks_count, length-map c.args.self.now.lists.items (λ (l : Vec ℕ). l.items))
 
 pub add_above-requires-clause-bound : goal.add_above-requires-clause-bound
-add_above-requires-clause-bound c = c.loop-listed.invariant.bound ∙ sym c.requires.known.marks_count
+add_above-requires-clause-bound c = c.loop-listed.invariant.bound ∙ ap words_for (sym c.requires.known.marks_count)
 
 pub add_above-requires-clause-there : goal.add_above-requires-clause-there
 add_above-requires-clause-there c =
@@ -36,15 +38,15 @@ add_above-requires-clause-below c = λ k marked.
 pub loop-listed-preserved : goal.loop-listed-preserved
 loop-listed-preserved c =
     gathered_row c.args.table.now (lists_of c.args.self.now.lists.items) c.args.self.now.marks.items c.args.class c.loop-listed.listed-index c.loop-listed.numbers.list.items c.add_above.new.numbers.list.items
-    c.loop-listed.numbers.marks.items c.add_above.new.numbers.marks.items c.interfaces_of-listed-items.result.now c.interfaces_of-listed-items.ensures c.requires.known c.requires.few c.loop-listed.invariant c.loop-listed-test.true
+    c.loop-listed.numbers.bits.items c.add_above.new.numbers.bits.items c.interfaces_of-listed-items.result.now c.interfaces_of-listed-items.ensures c.requires.known c.requires.few c.loop-listed.invariant c.loop-listed-test.true
     c.in_ok-add_above.ensures.known c.in_ok-add_above.ensures.list c.in_ok-add_above.ensures.bound
 
 pub returns-clause-list : goal.returns-clause-list
 returns-clause-list c =
-    gathered_all c.args.table.now (lists_of c.args.self.now.lists.items) c.args.self.now.marks.items c.args.class c.loop-listed.listed-index c.loop-listed.numbers.list.items c.loop-listed.numbers.marks.items
+    gathered_all c.args.table.now (lists_of c.args.self.now.lists.items) c.args.self.now.marks.items c.args.class c.loop-listed.listed-index c.loop-listed.numbers.list.items c.loop-listed.numbers.bits.items
     c.requires.known c.requires.few c.loop-listed.invariant (subst (λ (xs : List ℕ). length xs ≤ c.loop-listed.listed-index) c.interfaces_of-listed-items.ensures c.loop-listed-test.false)
 
 pub returns-clause-enough : goal.returns-clause-enough
 returns-clause-enough c =
-    gathered_enough c.args.table.now c.args.self.now.marks.items c.args.class c.loop-listed.listed-index c.loop-listed.numbers.list.items c.loop-listed.numbers.marks.items
+    gathered_enough c.args.table.now c.args.self.now.marks.items c.args.class c.loop-listed.listed-index c.loop-listed.numbers.list.items c.loop-listed.numbers.bits.items
     c.loop-listed.invariant (subst (λ (xs : List ℕ). length xs ≤ c.loop-listed.listed-index) c.interfaces_of-listed-items.ensures c.loop-listed-test.false)

@@ -10,7 +10,7 @@ pub is_above-requires-clause-there : goal.is_above-requires-clause-there
 is_above-requires-clause-there c = subst (λ (linked : Linked). c.args.class < length linked.program) (sym c.self.view_is) c.requires.there
 
 pub is_above-requires-clause-above : goal.is_above-requires-clause-above
-is_above-requires-clause-above c = subst (λ (lists : List (Vec ℕ)). AreAbove c.self.inside.table (lists_of lists)) (sym c.deref.ensures.value) c.self.invariant
+is_above-requires-clause-above c = subst (λ (lists : List (Vec ℕ)). AreAbove c.self.inside.table (lists_of lists)) (sym c.deref.ensures.value) c.self.invariant.above
 
 pub returns : goal.returns
 returns c =

@@ -11,7 +11,7 @@ pub field_up-requires-clause-there : goal.field_up-requires-clause-there
 field_up-requires-clause-there c = subst (λ (linked : Linked). c.args.class < length linked.program) (sym c.self.view_is) c.requires.there
 
 pub field_up-requires-clause-above : goal.field_up-requires-clause-above
-field_up-requires-clause-above c = subst (λ (lists : List (Vec ℕ)). AreAbove c.self.inside.table (lists_of lists)) (sym c.deref.ensures.value) c.self.invariant
+field_up-requires-clause-above c = subst (λ (lists : List (Vec ℕ)). AreAbove c.self.inside.table (lists_of lists)) (sym c.deref.ensures.value) c.self.invariant.above
 
 pub returns : goal.returns
 returns c =

@@ -17,7 +17,7 @@ pub plain_method_up-requires-clause-there : goal.plain_method_up-requires-clause
 plain_method_up-requires-clause-there c = subst (λ (linked : Linked). c.args.class < length linked.program) (sym c.self.view_is) c.requires.there
 
 pub plain_method_up-requires-clause-above : goal.plain_method_up-requires-clause-above
-plain_method_up-requires-clause-above c = subst (λ (lists : List (Vec ℕ)). AreAbove c.self.inside.table (lists_of lists)) (sym c.deref.ensures.value) c.self.invariant
+plain_method_up-requires-clause-above c = subst (λ (lists : List (Vec ℕ)). AreAbove c.self.inside.table (lists_of lists)) (sym c.deref.ensures.value) c.self.invariant.above
 
 pub returns-in-Some : goal.returns-in-Some
 returns-in-Some c =

@@ -1,4 +1,4 @@
-use Rattle.std.proofs.Common.{◌<◌, ℕ, List, get_or, sym, ◌∙◌, ap, subst}
+use Rattle.std.proofs.Common.{◌*◌, ◌<◌, ℕ, List, get_or, sym, ◌∙◌, ap, subst}
 use Rattle.dj_linking.specs.Numbers.{with_new}
 use Rattle.dj_linking.proofs.Finding.{has_at}
 use Rattle.dj_linking.proofs.Marks.{all_more}
@@ -6,7 +6,7 @@ use Rattle.dj_linking.proofs.numbers.Numbers.add_all.Goals as goal
 
 pub add-requires : goal.add-requires
 add-requires c =
-    subst (λ (n : ℕ). get_or c.args.numbers.now c.loop-number.number-index 0 < n) (sym c.loop-number.invariant.1)
+    subst (λ (n : ℕ). get_or c.args.numbers.now c.loop-number.number-index 0 < n * 64) (sym c.loop-number.invariant.1)
     (c.requires (get_or c.args.numbers.now c.loop-number.number-index 0) (has_at c.args.numbers.now c.loop-number.number-index c.loop-number-test.true))
 
 pub loop-number-preserved : goal.loop-number-preserved

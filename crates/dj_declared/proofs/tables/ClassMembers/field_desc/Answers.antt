@@ -1,0 +1,15 @@
+use Rattle.dj_names.specs.Descriptors.{Describes}
+use Rattle.dj_declared.specs.Rows.{row_field}
+use Rattle.dj_declared.proofs.CountLaws.{sound_at, holds_at, described}
+use Rattle.dj_declared.proofs.tables.ClassMembers.field_desc.Goals as goal
+
+pub text-requires : goal.text-requires
+text-requires c =
+    let members = c.args.self.now in
+    (sound_at members.texts.numbers members.fields.rows.items c.args.place c.row.result members.sound.fields_are c.row.ensures).desc
+
+pub returns : goal.returns
+returns c =
+    let members = c.args.self.now in
+    holds_at (row_field members.texts.numbers) (λ m. Describes c.text.result.now m.desc) members.fields.rows.items c.args.place c.row.result c.row.ensures
+    (described members.texts.numbers c.row.result c.text.result.now (sound_at members.texts.numbers members.fields.rows.items c.args.place c.row.result members.sound.fields_are c.row.ensures) c.text.ensures)

@@ -1,0 +1,14 @@
+use Rattle.dj_declared.specs.Rows.{row_field}
+use Rattle.dj_declared.specs.Members.{field_name}
+use Rattle.dj_declared.proofs.CountLaws.{sound_at, told_at}
+use Rattle.dj_declared.proofs.tables.ClassMembers.field_name.Goals as goal
+
+pub text-requires : goal.text-requires
+text-requires c =
+    let members = c.args.self.now in
+    (sound_at members.texts.numbers members.fields.rows.items c.args.place c.row.result members.sound.fields_are c.row.ensures).name
+
+pub returns : goal.returns
+returns c =
+    let members = c.args.self.now in
+    told_at (row_field members.texts.numbers) field_name members.fields.rows.items c.args.place c.row.result c.text.result.now c.row.ensures c.text.ensures

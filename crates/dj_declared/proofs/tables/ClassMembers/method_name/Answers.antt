@@ -1,0 +1,14 @@
+use Rattle.dj_declared.specs.Rows.{row_method}
+use Rattle.dj_declared.specs.Members.{method_name}
+use Rattle.dj_declared.proofs.CountLaws.{sound_at, told_at}
+use Rattle.dj_declared.proofs.tables.ClassMembers.method_name.Goals as goal
+
+pub text-requires : goal.text-requires
+text-requires c =
+    let members = c.args.self.now in
+    (sound_at members.texts.numbers members.methods.rows.items c.args.place c.row.result members.sound.methods_are c.row.ensures).name
+
+pub returns : goal.returns
+returns c =
+    let members = c.args.self.now in
+    told_at (row_method members.texts.numbers) method_name members.methods.rows.items c.args.place c.row.result c.text.result.now c.row.ensures c.text.ensures

@@ -1,0 +1,16 @@
+use Rattle.std.proofs.Common.{◌≡◌, Bool, Some, sym, subst}
+use Rattle.dj_class.specs.Members.{member_of}
+use Rattle.dj_model.specs.Program.{is_static}
+use Rattle.dj_program.specs.Views.{parts_of}
+use Rattle.dj_shape.specs.Rule.{signature_at}
+use Rattle.dj_judge.proofs.ShapeLaws.{described, signed, fault_is}
+use Rattle.dj_judge.proofs.shape_marks.fault_of.Goals as goal
+
+pub returns-in-Ok : goal.returns-in-Ok
+returns-in-Ok c =
+    let pool = c.args.pool.now in
+    let method = member_of c.args.method.now in
+    let signature = signed pool method c.requires.method c.requires.plain in
+    fault_is pool method c.args.code (parts_of c.in_ok-read.read) c.requires.code c.in_ok-read.ensures.code signature.0 signature.1 c.in-Ok.fault
+    (c.in-Ok.ensures pool signature.0 c.requires.kinds (described pool method c.requires.method)
+    (subst (λ (static : Bool). signature_at pool static method.desc ≡ Some signature.0) (sym c.is_static.ensures) signature.1))

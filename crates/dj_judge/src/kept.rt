@@ -1,0 +1,48 @@
+ghost use Rattle.std.specs.Prelude.{Some, OnOk};
+ghost use Rattle.dj_judge.specs.Kept.{Keeps};
+
+use dj_check::{GoodFile, NamedFile, Owner};
+use dj_hierarchy::ClassHead;
+use dj_rules::RulesError;
+
+/// What is kept of files.
+#[derive(Drop)]
+pub struct Kept<'a> {
+    /// All files, in turn.
+    pub named: Vec<NamedFile<'a>>,
+    /// The heads of those where rule 1 isn't violated.
+    pub heads: Vec<ClassHead<'a>>,
+    /// The files of the heads, side by side with them.
+    pub owners: Vec<Owner<'a>>,
+}
+
+// Keeps a file where rule 1 isn't violated.
+fn keep_good<'a>(kept: &mut Kept<'a>, path: &'a str, good: GoodFile<'a>) -> Result<(), RulesError>
+    ensures { OnOk result (Keeps path.entry (Some good.entry) kept.old kept.new) }
+{
+    let GoodFile { head, repeats } = good;
+    kept.named.push(NamedFile {
+        path,
+        name: Some(head.name),
+    })?;
+    kept.heads.push(head)?;
+    kept.owners.push(Owner { path, repeats })?;
+    Ok(())
+}
+
+/// Keeps a file.
+pub fn keep_file<'a>(
+    kept: &mut Kept<'a>,
+    path: &'a str,
+    good: Option<GoodFile<'a>>,
+) -> Result<(), RulesError>
+    ensures { OnOk result (Keeps path.entry good.entry kept.old kept.new) }
+{
+    match good {
+        Some(good) => keep_good(kept, path, good),
+        None => {
+            kept.named.push(NamedFile { path, name: None })?;
+            Ok(())
+        }
+    }
+}

@@ -1,0 +1,20 @@
+use dj_check::Mark;
+use dj_linking::Linker;
+
+/// The classes of a set that are lent to judge its files by the rules 17 to 19.
+#[derive(Clone, Copy)]
+pub struct Lent<'a> {
+    /// What links them.
+    pub linker: &'a Linker,
+    /// By their numbers, whether no object of a class can be made.
+    pub unmakeable: &'a [bool],
+}
+
+/// Marks of the methods of a class file, or of one of them.
+#[derive(Drop)]
+pub struct Marks {
+    /// Those of the rules 9 to 16.
+    pub early: Vec<Mark>,
+    /// Those of the rules 17 to 19.
+    pub late: Vec<Mark>,
+}

@@ -1,0 +1,89 @@
+ghost use Rattle.std.specs.Prelude.{◌≡◌, ◌++◌, IfSome, IfOk, OnOk};
+ghost use Rattle.dj_class.specs.ClassFile.{IsMethod, IsValid};
+ghost use Rattle.dj_class.specs.Members.{member_of};
+ghost use Rattle.dj_class.specs.Views.{class_of};
+ghost use Rattle.dj_check.specs.Judged.{AreTexts};
+ghost use Rattle.dj_shape.specs.Pools.{ArePoolKinds};
+ghost use Rattle.dj_judge.specs.Late.{HasKnown, IsKnownOf};
+ghost use Rattle.dj_judge.specs.Told.{IsJudgedMethod, AreJudgedMethods};
+
+use crate::code::judge_code;
+use crate::lent::Marks;
+use dj_check::{JudgedText, MethodCode, add_bodiless_marks, code_of_method};
+use dj_class::{ClassView, MemberView};
+use dj_link::Known;
+use dj_rules::RulesError;
+use dj_shape::PoolKinds;
+use std::alloc::Global;
+
+// Appends the marks of one method.
+fn add_marks(marks: &mut Marks, own: Marks) -> Result<(), RulesError>
+    ensures early { OnOk result (marks.new.early.items ≡ marks.old.early.items ++ own.early.items) }
+    ensures late { OnOk result (marks.new.late.items ≡ marks.old.late.items ++ own.late.items) }
+{
+    let Marks {
+        mut early,
+        mut late,
+    } = own;
+    marks.early.append(&mut early)?;
+    marks.late.append(&mut late)?;
+    Ok(())
+}
+
+// Appends the marks of a method, or answers false where it is faulty.
+fn judge_method(
+    alloc: Global,
+    marks: &mut Marks,
+    kinds: &mut Option<PoolKinds>,
+    view: &ClassView<'_>,
+    texts: &[JudgedText],
+    known: Option<&Known<'_>>,
+    method: &MemberView<'_>,
+) -> Result<bool, RulesError>
+    requires kinds { IfSome kinds.old (ArePoolKinds view.now.pool) }
+    requires texts { AreTexts view.now.pool texts.now }
+    requires valid { IsValid (class_of view.now) }
+    requires known { IsKnownOf (class_of view.now) known }
+    requires method { IsMethod view.now.pool (member_of method.now) }
+    ensures kinds { OnOk result (IfSome kinds.new (ArePoolKinds view.now.pool)) }
+    ensures marks { IfOk result (IsJudgedMethod (class_of view.now) (HasKnown known.entry) texts.now (member_of method.now) marks.old marks.new) }
+{
+    match code_of_method(alloc, &view.pool, method)? {
+        MethodCode::Faulty => Ok(false),
+        MethodCode::Bodiless => {
+            add_bodiless_marks(&mut marks.early, view, texts, method)?;
+            Ok(true)
+        }
+        MethodCode::Whole(code) => {
+            let own = judge_code(alloc, kinds, view, texts, known, method, code)?;
+            add_marks(marks, own)?;
+            Ok(true)
+        }
+    }
+}
+
+/// The marks of all methods, or nothing where one is faulty.
+pub fn judge_methods(
+    alloc: Global,
+    view: &ClassView<'_>,
+    texts: &[JudgedText],
+    known: Option<&Known<'_>>,
+) -> Result<Option<Marks>, RulesError>
+    requires texts { AreTexts view.now.pool texts.now }
+    requires valid { IsValid (class_of view.now) }
+    requires known { IsKnownOf (class_of view.now) known }
+    ensures { IfOk result (AreJudgedMethods (class_of view.now) (HasKnown known.entry) texts.now) }
+{
+    let mut marks = Marks {
+        early: Vec::new(alloc),
+        late: Vec::new(alloc),
+    };
+    let mut kinds = None;
+    for method in view.methods.as_slice() {
+        let sound = judge_method(alloc, &mut marks, &mut kinds, view, texts, known, method)?;
+        if !sound {
+            return Ok(None);
+        }
+    }
+    Ok(Some(marks))
+}

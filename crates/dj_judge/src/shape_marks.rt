@@ -1,0 +1,126 @@
+ghost use Rattle.std.specs.Prelude.{◌<◌, ◌^◌, length, IfSome, IfOk, OnOk};
+ghost use Rattle.dj_pool.specs.Pool.{IsPool};
+ghost use Rattle.dj_class.specs.ClassFile.{IsMethod, IsValid};
+ghost use Rattle.dj_class.specs.Members.{member_of};
+ghost use Rattle.dj_class.specs.Views.{class_of};
+ghost use Rattle.dj_report.specs.Lines.{Gains};
+ghost use Rattle.dj_check.specs.Floats.{NamesFloat};
+ghost use Rattle.dj_check.specs.Marks.{MarksOf};
+ghost use Rattle.dj_check.specs.Passes.{IsWholeMethod};
+ghost use Rattle.dj_program.specs.Codes.{IsMethodCode};
+ghost use Rattle.dj_program.specs.Views.{parts_of};
+ghost use Rattle.dj_shape.specs.Pools.{ArePoolKinds};
+ghost use Rattle.dj_judge.specs.Late.{IsFaultOf, FaultViolates, ShapeViolates};
+
+use dj_check::{Mark, Place, WholeCode, add_mark_if};
+use dj_class::{ClassView, MemberView};
+use dj_link::is_static;
+use dj_pool::Pool;
+use dj_program::{MethodCode, ProgramError, method_code};
+use dj_rules::RulesError;
+use dj_shape::{PoolKinds, ShapeError, ShapeFault, pool_kinds, shape};
+use std::alloc::Global;
+
+// The number of the rule SHAPE.
+const SHAPE: u8 = 19;
+
+// What shape asks of the pool: read before, or now.
+fn kinds_of(
+    alloc: Global,
+    pool: &Pool<'_>,
+    kinds: Option<PoolKinds>,
+) -> Result<PoolKinds, RulesError>
+    requires kinds { IfSome kinds (ArePoolKinds pool.now) }
+    requires linked { IsPool pool.now }
+    requires few { length pool.now < 2 ^ 16 }
+    ensures { IfOk result (ArePoolKinds pool.now) }
+{
+    if let Some(kinds) = kinds {
+        return Ok(kinds);
+    }
+    match pool_kinds(alloc, pool) {
+        Ok(kinds) => Ok(kinds),
+        Err(ShapeError::Memory) => Err(RulesError::Memory),
+    }
+}
+
+// The code of the method, with its stack map read.
+fn code_of(
+    alloc: Global,
+    pool: &Pool<'_>,
+    method: &MemberView<'_>,
+    code: WholeCode<'_>,
+) -> Result<MethodCode, RulesError>
+    requires { IsWholeMethod pool.now (member_of method.now) code }
+    ensures few { IfOk result (λ read. length read.code.code < 2 ^ 32) }
+    ensures code { IfOk result (λ read. IsMethodCode pool.now (member_of method.now) (parts_of read)) }
+{
+    match method_code(alloc, code) {
+        Ok(read) => Ok(read),
+        Err(ProgramError::Memory) => Err(RulesError::Memory),
+    }
+}
+
+// The fault of the method's code in shape, if it has one.
+fn fault_of(
+    alloc: Global,
+    kinds: &PoolKinds,
+    pool: &Pool<'_>,
+    method: &MemberView<'_>,
+    code: WholeCode<'_>,
+) -> Result<Option<ShapeFault>, RulesError>
+    requires kinds { ArePoolKinds pool.now kinds.now }
+    requires method { IsMethod pool.now (member_of method.now) }
+    requires code { IsWholeMethod pool.now (member_of method.now) code }
+    requires plain { NamesFloat pool.now (member_of method.now).desc → ⊥ }
+    ensures { IfOk result (IsFaultOf pool.now (member_of method.now)) }
+{
+    let read = code_of(alloc, pool, method, code)?;
+    match shape(alloc, kinds, is_static(method.flags), method.desc, &read) {
+        Ok(fault) => Ok(fault),
+        Err(ShapeError::Memory) => Err(RulesError::Memory),
+    }
+}
+
+// Appends the mark of a fault in shape.
+fn add_fault_mark(
+    marks: &mut Vec<Mark>,
+    names: (u16, u16),
+    fault: Option<ShapeFault>,
+) -> Result<(), RulesError>
+    ensures { OnOk result (Gains (MarksOf names (FaultViolates fault)) marks.old.items marks.new.items) }
+{
+    let Some(fault) = fault else {
+        return Ok(());
+    };
+    let place = Place {
+        name: names.0,
+        desc: names.1,
+        number: fault.number,
+    };
+    add_mark_if(marks, place, SHAPE, true)
+}
+
+/// Appends the mark of rule 19, where the code of a method has no shape. What shape asks of the pool is read once a class, where it is needed.
+pub fn add_shape_mark(
+    alloc: Global,
+    marks: &mut Vec<Mark>,
+    kinds: &mut Option<PoolKinds>,
+    names: (u16, u16),
+    view: &ClassView<'_>,
+    method: &MemberView<'_>,
+    code: WholeCode<'_>,
+) -> Result<(), RulesError>
+    requires kinds { IfSome kinds.old (ArePoolKinds view.now.pool) }
+    requires valid { IsValid (class_of view.now) }
+    requires method { IsMethod view.now.pool (member_of method.now) }
+    requires code { IsWholeMethod view.now.pool (member_of method.now) code }
+    requires plain { NamesFloat view.now.pool (member_of method.now).desc → ⊥ }
+    ensures kinds { OnOk result (IfSome kinds.new (ArePoolKinds view.now.pool)) }
+    ensures marks { OnOk result (Gains (MarksOf names (ShapeViolates view.now.pool (member_of method.now))) marks.old.items marks.new.items) }
+{
+    let read = kinds_of(alloc, &view.pool, kinds.take())?;
+    let fault = fault_of(alloc, &read, &view.pool, method, code)?;
+    *kinds = Some(read);
+    add_fault_mark(marks, names, fault)
+}

@@ -1,0 +1,76 @@
+ghost use Rattle.std.specs.Prelude.{◌<◌, ◌^◌, length, IfOk};
+ghost use Rattle.dj_class.specs.ClassFile.{IsClassFile};
+ghost use Rattle.dj_class.specs.Views.{class_of};
+ghost use Rattle.dj_rules.specs.Reads.{IsViewOf};
+ghost use Rattle.dj_judge.specs.Late.{HasLent, IsReady};
+ghost use Rattle.dj_judge.specs.Told.{IsJudgedFile};
+
+use crate::class::judge_class;
+use crate::files::JudgedFiles;
+use crate::lent::Lent;
+use dj_check::GoodFile;
+use dj_class::ClassView;
+use dj_report::{PathFile, add_file_line};
+use dj_rules::{FileView, RulesError, view_file};
+use std::alloc::Global;
+
+// The number of the rule MALFORMED.
+const MALFORMED: u8 = 1;
+
+// Appends all lines of a class file, and answers what is kept of it where rule 1 isn't violated.
+fn judge_class_file<'a>(
+    alloc: Global,
+    found: &mut JudgedFiles,
+    lent: Option<Lent<'_>>,
+    file: &PathFile<'_>,
+    class: &ClassView<'a>,
+) -> Result<Option<GoodFile<'a>>, RulesError>
+    requires lent { IsReady lent }
+    requires class { IsClassFile file.now.bytes.now (class_of class.now) }
+    ensures { IfOk result (IsJudgedFile file.now (HasLent lent.entry) found.old found.new) }
+{
+    let judged = judge_class(alloc, found, lent, file.path, class)?;
+    match judged {
+        Some(good) => Ok(Some(good)),
+        None => {
+            add_file_line(alloc, &mut found.early, file.path, MALFORMED)?;
+            Ok(None)
+        }
+    }
+}
+
+// Appends all lines of a file that was read, and answers what is kept of it where rule 1 isn't violated.
+fn judge_view<'a>(
+    alloc: Global,
+    found: &mut JudgedFiles,
+    lent: Option<Lent<'_>>,
+    file: &PathFile<'_>,
+    view: &FileView<'a>,
+) -> Result<Option<GoodFile<'a>>, RulesError>
+    requires lent { IsReady lent }
+    requires view { IsViewOf file.now.bytes.now view.now }
+    ensures { IfOk result (IsJudgedFile file.now (HasLent lent.entry) found.old found.new) }
+{
+    match view {
+        FileView::Class(class) => judge_class_file(alloc, found, lent, file, class),
+        FileView::Malformed => {
+            add_file_line(alloc, &mut found.early, file.path, MALFORMED)?;
+            Ok(None)
+        }
+    }
+}
+
+/// Reads a file and appends all its lines, and answers what is kept of it where rule 1 isn't violated.
+pub fn judge_file<'a>(
+    alloc: Global,
+    found: &mut JudgedFiles,
+    lent: Option<Lent<'_>>,
+    file: &PathFile<'a>,
+) -> Result<Option<GoodFile<'a>>, RulesError>
+    requires lent { IsReady lent }
+    requires short { length file.now.bytes.now < 2 ^ 32 }
+    ensures { IfOk result (IsJudgedFile file.now (HasLent lent.entry) found.old found.new) }
+{
+    let view = view_file(alloc, file.bytes)?;
+    judge_view(alloc, found, lent, file, &view)
+}

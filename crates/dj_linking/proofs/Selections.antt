@@ -1,0 +1,156 @@
+-- The method that a call of a receiver takes, by names and by numbers.
+use Rattle.std.proofs.Common.{◌≡◌, ℕ, zero, suc, ◌<◌, ◌-◌, Bool, true, false, not, nat_eq, bit_and, List, [], ◌∷◌, length, Option, Some, None, IfSome, slice_get, refl, sym, ◌∙◌, ap, subst, arith, if◌then◌else◌}
+use Rattle.std.specs.Prelude.{option_and_then}
+use Rattle.std.specs.Option.{option_map}
+use Rattle.std.proofs.lemmas.Bool.{false≢true, eq-eqb, eqb-true}
+use Rattle.std.proofs.lemmas.Bool.Decides.{nat_tests}
+use Rattle.std.proofs.lemmas.Nat.Bits.{and_pow, bit_at-lt}
+use Rattle.std.proofs.lemmas.Option.{same_Some, none-some}
+use Rattle.dj_names.specs.declared.descriptor.Desc.{Desc}
+use Rattle.dj_names.specs.declared.descriptor.Ty.{Ty}
+use Rattle.dj_names.specs.Descriptors.{Describes}
+use Rattle.dj_names.specs.Types.{Name}
+use Rattle.dj_model.specs.Types.{Prefix}
+use Rattle.dj_model.specs.Program.{Program, Class, Method, is_private}
+use Rattle.dj_model.specs.Linking.{most_classes, chain, member_class, is_plain, has_body, with_body, select, FoundMethod}
+use Rattle.dj_declared.specs.Files.{desc_in}
+use Rattle.dj_declared.specs.Members.{IsDescriptor, method_flags, method_name, method_has_body}
+use Rattle.dj_declared.proofs.DescTests.{desc_in_is, is_descriptor}
+use Rattle.dj_classes.specs.Tables.{class_number, methods_of, methods_at, method_of_class, method_there}
+use Rattle.dj_classes.specs.declared.place.Place.{Place}
+use Rattle.dj_linking.specs.Numbers.{first_some, method_found, numbers_up, TellsMethod}
+use Rattle.dj_linking.proofs.Climbs.{IsClimbed}
+use Rattle.dj_linking.proofs.Finding.{private_set}
+use Rattle.dj_linking.proofs.Walks.{numbers_of_chain, first_method_found}
+
+pub climb_from : {A : Type 0} (f : ℕ → Option A) (program : Program) (levels : ℕ) (first : Option ℕ) → IfSome first (λ k. k < length program) → IsClimbed f program levels first 0 first
+climb_from f program levels first within =
+    let none : levels - 0 ≡ levels = omega arith in
+    record { same = ap (λ (n : ℕ). first_some f (numbers_up n program first)) (sym none); within = within }
+
+-- ---- the method at a place
+
+-- the method at a place is one of its class
+pub data Found (program : Program) (place : Place) (found : FoundMethod) : Type 0 where
+  Is : place.class < length program → place.member < length (methods_at program place.class) → slice_get (methods_at program place.class) place.member ≡ Some found.method → Found program place found
+
+within_list : {A : Type 0} (xs : List A) (place : ℕ) (x : A) → slice_get xs place ≡ Some x → place < length xs
+within_list [] place x at = absurd (none-some x at)
+within_list (y ∷ xs) zero x at = omega arith
+within_list (y ∷ xs) (suc place) x at = let lt = within_list xs place x at in omega (arith, lt)
+
+found_in : (program : Program) (place : Place) (found : FoundMethod) (o : Option Class) → slice_get program place.class ≡ o → option_and_then (method_of_class place.member) o ≡ Some found → Found program place found
+found_in program place found None at there = absurd (none-some found there)
+found_in program place found (Some c) at there = by (slice_get c.methods place.member) refl there where
+  by : (m : Option Method) → slice_get c.methods place.member ≡ m → option_map (λ (x : Method). record { class = c.name; method = x }) m ≡ Some found → Found program place found
+  by None is told = absurd (none-some found told)
+  by (Some m) is told =
+      let method : m ≡ found.method = ap (λ (f : FoundMethod). f.method) (same_Some (record { class = c.name; method = m }) found told) in
+      let methods : methods_at program place.class ≡ c.methods = ap methods_of at in
+      Is (within_list program place.class c at)
+      (subst (λ (ms : List Method). place.member < length ms) (sym methods) (within_list c.methods place.member m is))
+      (ap (λ (ms : List Method). slice_get ms place.member) methods ∙ is ∙ ap Some method)
+
+pub found_there : (program : Program) (place : Place) (found : FoundMethod) → method_there program place ≡ Some found → Found program place found
+found_there program place found there = found_in program place found (slice_get program place.class) refl there
+
+some_of : {A : Type 0} (xs : List A) (place : ℕ) → place < length xs → (x : A) × (slice_get xs place ≡ Some x)
+some_of [] place lt = absurd (omega (arith, lt))
+some_of (x ∷ xs) zero lt = (x, refl)
+some_of (x ∷ xs) (suc place) lt = some_of xs place (omega (arith, lt))
+
+-- where a place is within its class, a method is there
+pub there_within : (program : Program) (place : Place) → place.class < length program → place.member < length (methods_at program place.class) → (found : FoundMethod) × (method_there program place ≡ Some found)
+there_within program place lt within =
+    let class : (c : Class) × (slice_get program place.class ≡ Some c) = some_of program place.class lt in
+    let method : (m : Method) × (slice_get class.0.methods place.member ≡ Some m) =
+    some_of class.0.methods place.member (subst (λ (o : Option Class). place.member < length (methods_of o)) class.1 within) in
+    (record { class = class.0.name; method = method.0 }, rw (class.1, method.1) refl)
+
+-- ---- its flags, its name and its descriptor
+
+told_of : {B : Type 0} (g : Method → B) (methods : List Method) (place : ℕ) (m : Method) (x : B) → slice_get methods place ≡ Some m → Some x ≡ option_map g (slice_get methods place) → x ≡ g m
+told_of g methods place m x at told = same_Some x (g m) (told ∙ ap (option_map g) at)
+
+private_clear : (flags : ℕ) → bit_and flags 2 ≡ 0 → is_private flags ≡ false
+private_clear flags none = let bit = and_pow flags 1 in let lt = bit_at-lt flags 1 in grind (arith, nat_tests)
+
+module _ (program : Program) (place : Place) (found : FoundMethod) (there : method_there program place ≡ Some found) where
+  abbrev methods : List Method
+  methods = methods_at program place.class
+
+  own : {B : Type 0} (g : Method → B) (x : B) → Some x ≡ option_map g (slice_get methods place.member) → x ≡ g found.method
+  own g x told = elim (found_there program place found there) [
+    | Is lt within at ↦ told_of g methods place.member found.method x at told
+  ]
+
+  pub is_private_there : (flags : ℕ) → Some flags ≡ option_map method_flags (slice_get methods place.member) → (bit_and flags 2 ≡ 0 → ⊥) → is_private found.method.flags ≡ true
+  is_private_there flags told some = ap is_private (sym (own method_flags flags told)) ∙ private_set flags some
+
+  pub not_private_there : (flags : ℕ) → Some flags ≡ option_map method_flags (slice_get methods place.member) → bit_and flags 2 ≡ 0 → is_private found.method.flags ≡ false
+  not_private_there flags told none = ap is_private (sym (own method_flags flags told)) ∙ private_clear flags none
+
+  described_there : (desc : Name) → IfSome (slice_get methods place.member) (λ m. Describes desc m.desc) → Describes desc found.method.desc
+  described_there desc told = elim (found_there program place found there) [
+    | Is lt within at ↦ subst (λ (o : Option Method). IfSome o (λ m. Describes desc m.desc)) at told
+  ]
+
+  -- the first of its name and its descriptor, looked for by its texts
+  pub named_there : (name desc : Name) (classes : List ℕ) (t : Option (Option FoundMethod)) → Some name ≡ option_map method_name (slice_get methods place.member)
+      → IfSome (slice_get methods place.member) (λ m. Describes desc m.desc) → t ≡ option_map Some (first_some (method_found program is_plain name (desc_in desc)) classes)
+      → t ≡ option_map Some (first_some (method_found program is_plain found.method.name found.method.desc) classes)
+  named_there name desc classes t named described told =
+      told
+      ∙ ap (λ (n : Name). option_map Some (first_some (method_found program is_plain n (desc_in desc)) classes)) (own method_name name named)
+      ∙ ap (λ (d : Desc). option_map Some (first_some (method_found program is_plain found.method.name d) classes)) (desc_in_is desc found.method.desc (described_there desc described))
+
+-- the text of a descriptor is one, whatever method is there
+pub descriptor_there : (methods : List Method) (member : ℕ) (desc : Name) → member < length methods → IfSome (slice_get methods member) (λ m. Describes desc m.desc) → IsDescriptor desc
+descriptor_there methods member desc lt told =
+    let method : (m : Method) × (slice_get methods member ≡ Some m) = some_of methods member lt in
+    is_descriptor desc method.0.desc (subst (λ (o : Option Method). IfSome o (λ m. Describes desc m.desc)) method.1 told)
+
+-- ---- what is taken
+
+abbrev pub taken_numbers : Program → FoundMethod → Option ℕ → Option FoundMethod
+taken_numbers program found class =
+    if is_private found.method.flags then Some found else first_some (method_found program is_plain found.method.name found.method.desc) (numbers_up most_classes program class)
+
+pub taken_private : (program : Program) (found : FoundMethod) (class : Option ℕ) (t : Option FoundMethod) → is_private found.method.flags ≡ true → t ≡ Some found → Some t ≡ option_map Some (taken_numbers program found class)
+taken_private program found class t private there = rw private (ap Some there)
+
+pub taken_above : (program : Program) (found : FoundMethod) (class : Option ℕ) (t : Option (Option FoundMethod)) → is_private found.method.flags ≡ false
+    → t ≡ option_map Some (first_some (method_found program is_plain found.method.name found.method.desc) (numbers_up most_classes program class)) → t ≡ option_map Some (taken_numbers program found class)
+taken_above program found class t other told = rw other told
+
+-- a place that was told is that of a method
+pub told_there : (program : Program) (place : Place) (o : Option FoundMethod) → TellsMethod program (Some place) o → (found : FoundMethod) × (o ≡ Some found) × (method_there program place ≡ Some found)
+told_there program place None told = absurd (none-some (method_there program place) (sym told))
+told_there program place (Some found) told = (found, refl, same_Some (method_there program place) (Some found) told)
+
+pub no_body : (program : Program) (o : Option FoundMethod) → None ≡ option_map Some o → TellsMethod program None (with_body o)
+no_body program None told = refl
+no_body program (Some found) told = absurd (none-some (Some found) told)
+
+with_body_by : (program : Program) (place : Place) (found : FoundMethod) (b : Bool) → method_there program place ≡ Some found → has_body found.method.body ≡ b
+    → TellsMethod program (if b then Some place else None) (with_body (Some found))
+with_body_by program place found true there is = rw is (ap Some there)
+with_body_by program place found false there is = rw is refl
+
+-- the place is told where its method has a body
+pub told_with_body : (program : Program) (place : Place) (o : Option FoundMethod) (b : Bool) → TellsMethod program (Some place) o → Some b ≡ option_map method_has_body (slice_get (methods_at program place.class) place.member)
+    → TellsMethod program (if b then Some place else None) (with_body o)
+told_with_body program place o b told body =
+    let there : (found : FoundMethod) × (o ≡ Some found) × (method_there program place ≡ Some found) = told_there program place o told in
+    subst (λ (x : Option FoundMethod). TellsMethod program (if b then Some place else None) (with_body x)) (sym there.1)
+    (with_body_by program place there.0 b there.2 (sym (own program place there.0 there.2 method_has_body b body)))
+
+-- ---- selection by numbers
+
+pub select_numbers : (program : Program) (prefix : Prefix) (found : FoundMethod) (ty : Ty) (class : Option ℕ) → class ≡ class_number program (member_class prefix ty) → select program prefix found ty ≡ with_body (taken_numbers program found class)
+unfolding select
+select_numbers program prefix found ty class is =
+    ap (λ (o : Option FoundMethod). with_body (if is_private found.method.flags then Some found else o))
+    (first_method_found program is_plain found.method.name found.method.desc (chain program (member_class prefix ty))
+    ∙ ap (first_some (method_found program is_plain found.method.name found.method.desc))
+    (numbers_of_chain most_classes program (Some (member_class prefix ty)) ∙ ap (numbers_up most_classes program) (sym is)))

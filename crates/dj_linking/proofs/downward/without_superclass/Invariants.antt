@@ -1,0 +1,7 @@
+use Rattle.std.proofs.Common.{length}
+use Rattle.dj_linking.specs.Numbers.{AreBelow}
+use Rattle.dj_linking.proofs.downward.without_superclass.Given as goal
+
+-- so far
+abbrev pub invariant-loop-class : goal.invariant-loop-class
+invariant-loop-class l = AreBelow (length l.table) l.order.items

@@ -1,9 +1,0 @@
-use Rattle.dj_model.specs.Linking.{is_plain}
-use Rattle.dj_declared.specs.Files.{desc_in}
-use Rattle.dj_linking.specs.Numbers.{method_found, first_some, numbers_above}
-use Rattle.dj_linking.proofs.Finding.{IsWalked}
-use Rattle.dj_linking.proofs.find.plain_method_up.Given as goal
-
--- nothing so far
-abbrev pub invariant-loop : goal.invariant-loop
-invariant-loop l = IsWalked (λ k. first_some (method_found l.table is_plain l.name (desc_in l.desc)) (numbers_above l.table k)) l.table l.class l.counter l.next

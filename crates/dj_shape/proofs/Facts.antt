@@ -1,0 +1,88 @@
+-- Kinds by plain values: what is kept of pools, and what instructions do with it.
+use Rattle.std.proofs.Common.{◌≡◌, ℕ, List, [], ◌∷◌, ◌++◌, map, replicate, Option, Some, None, codes, pos, refl}
+use Rattle.std.specs.Option.{option_map}
+use Rattle.dj_names.specs.declared.descriptor.Kind.{Kind}
+use Rattle.dj_names.specs.declared.descriptor.Kind.TheVariants.{Int, Long, Ref}
+use Rattle.dj_names.specs.DescReading.{dims_read, name_read, class_read, of_read, type_read, params_read, field_read, return_read, method_read, desc_read}
+use Rattle.dj_names.specs.NameReading.{reads_class_name}
+use Rattle.dj_ops.specs.declared.instruction.Instr.{Instr}
+use Rattle.dj_ops.specs.declared.instruction.Instr.TheVariants as instrs
+use Rattle.dj_pool.specs.Pool.{Constant, Utf8, Integer, Float, Long as LongConstant, Double, Class, Text, Field, Method, InterfaceMethod, NameAndType, Hole}
+use Rattle.dj_model.specs.Kinds.{Signature, Kinds}
+use Rattle.dj_model.specs.Opcodes.{instruction_of, simple}
+use Rattle.dj_model.specs.Program.{Code}
+use Rattle.dj_model.specs.Shape.{after}
+use Rattle.dj_model.specs.Values.{moved}
+use Rattle.dj_declared.specs.Files.{desc_in}
+use Rattle.dj_program.specs.Naming.{named_by, instruction_in}
+use Rattle.dj_shape.specs.Keeping.{text_kind, text_call, all_kinds, all_calls}
+use Rattle.dj_shape.specs.declared.pool.ConstantKind.TheVariants as constants
+
+-- ---- operands
+
+abbrev room_for : ℕ → Code
+room_for most = record { max_stack = most; max_locals = 4; instructions = []; ranges = []; frames = None }
+
+abbrev none : Signature
+none = record { parameters = []; result = None }
+
+abbrev on_stack : Option Kinds → Option (List Kind)
+on_stack left = option_map (λ (k : Kinds). k.stack) left
+
+-- the operands after an instruction, the top first
+abbrev left : List Constant → ℕ → List Kind → Instr → Option (List Kind)
+left pool most stack instr = on_stack (after none (room_for most) (instruction_in pool instr) (record { locals = Some Int ∷ Some Long ∷ None ∷ Some Ref ∷ []; stack = stack }))
+
+-- a long takes two of max_stack
+room : left [] 1 [] (instrs.Simple 9) ∷ left [] 2 [] (instrs.Simple 9) ∷ left [] 3 (Long ∷ []) (instrs.Simple 92) ∷ left [] 4 (Long ∷ []) (instrs.Simple 92) ∷ left [] 0 [] (instrs.Simple 0) ∷ []
+    ≡ None ∷ Some (Long ∷ []) ∷ None ∷ Some (Long ∷ Long ∷ []) ∷ Some [] ∷ []
+unfolding after instruction_of simple moved
+room = refl
+
+-- ---- descriptors
+
+field_kinds : map (λ text. text_kind text) (codes "Z" ∷ codes "B" ∷ codes "C" ∷ codes "S" ∷ codes "I" ∷ codes "J" ∷ codes "F" ∷ codes "D" ∷ codes "La;" ∷ codes "[F" ∷ codes "[[J" ∷ [])
+    ≡ Some Int ∷ Some Int ∷ Some Int ∷ Some Int ∷ Some Int ∷ Some Long ∷ None ∷ None ∷ Some Ref ∷ Some Ref ∷ Some Ref ∷ []
+field_kinds = refl
+
+call_kinds : map (λ text. text_call text) (codes "()V" ∷ codes "(ZJLa;[F)J" ∷ codes "([D)La;" ∷ codes "(F)V" ∷ codes "(ID)I" ∷ codes "()D" ∷ codes "I" ∷ codes "(I" ∷ codes "" ∷ codes "<init>" ∷ [])
+    ≡ Some (record { parameters = []; result = None }) ∷ Some (record { parameters = Int ∷ Long ∷ Ref ∷ Ref ∷ []; result = Some Long }) ∷ Some (record { parameters = Ref ∷ []; result = Some Ref }) ∷ None ∷ None ∷ None ∷ None ∷ None ∷ None ∷ None ∷ []
+unfolding dims_read name_read class_read of_read type_read params_read field_read return_read method_read desc_read reads_class_name
+call_kinds = refl
+
+-- ---- a pool
+
+-- the class is at 2, the field's and the method's names and descriptors at 6 and 7, and the members from 8 on; a long takes two indexes
+abbrev pool : List Constant
+pool =
+    Utf8 (codes "C") ∷ Class 1 ∷ Utf8 (codes "m") ∷ Utf8 (codes "J") ∷ Utf8 (codes "(IJ)V") ∷ NameAndType 3 4 ∷ NameAndType 3 5
+    ∷ Field 2 6 ∷ Method 2 7 ∷ InterfaceMethod 2 7 ∷ Integer (pos 1) ∷ LongConstant (pos 2) ∷ Hole ∷ Text 3 ∷ Float 0 ∷ Double 0 ∷ Hole ∷ []
+
+kept_kinds : all_kinds pool pool
+    ≡ constants.Other ∷ constants.Other ∷ constants.Class ∷ constants.Other ∷ constants.Other ∷ constants.Other ∷ constants.Other ∷ constants.Other
+    ∷ constants.Field (Some Long) ∷ constants.Method 5 ∷ constants.InterfaceMethod 5 ∷ constants.Int ∷ constants.Long ∷ constants.Other ∷ constants.Text ∷ constants.Other ∷ constants.Other ∷ constants.Other ∷ []
+kept_kinds = refl
+
+abbrev int_and_long : Option Signature
+int_and_long = Some (record { parameters = Int ∷ Long ∷ []; result = None })
+
+kept_calls : all_calls pool ≡ replicate 5 None ++ int_and_long ∷ replicate 12 None
+unfolding dims_read name_read class_read of_read type_read params_read field_read return_read method_read desc_read reads_class_name
+kept_calls = refl
+
+-- constants, fields and calls; the count of invokeinterface is that of the slots and one
+abbrev of_pool : List Kind → Instr → Option (List Kind)
+of_pool stack instr = left pool 7 stack instr
+
+constants_and_members : of_pool [] (instrs.Literal 18 11) ∷ of_pool [] (instrs.Literal 18 12) ∷ of_pool [] (instrs.Literal 20 12) ∷ of_pool [] (instrs.Literal 19 14) ∷ of_pool [] (instrs.Literal 18 2)
+    ∷ of_pool [] (instrs.Member 178 8) ∷ of_pool (Long ∷ Int ∷ []) (instrs.Member 179 8) ∷ of_pool (Ref ∷ []) (instrs.Member 180 8) ∷ of_pool (Long ∷ Ref ∷ []) (instrs.Member 181 8) ∷ of_pool (Ref ∷ Long ∷ []) (instrs.Member 181 8)
+    ∷ of_pool (Long ∷ Int ∷ Ref ∷ Int ∷ []) (instrs.Member 182 9) ∷ of_pool (Int ∷ Long ∷ Ref ∷ []) (instrs.Member 182 9) ∷ of_pool (Long ∷ Int ∷ Ref ∷ []) (instrs.Member 184 9) ∷ of_pool (Long ∷ Int ∷ Ref ∷ []) (instrs.Member 182 10)
+    ∷ of_pool (Long ∷ Int ∷ Ref ∷ []) (instrs.Interface 10 4) ∷ of_pool (Long ∷ Int ∷ Ref ∷ []) (instrs.Interface 10 3) ∷ of_pool (Long ∷ Int ∷ Ref ∷ []) (instrs.Interface 9 4)
+    ∷ of_pool [] (instrs.Class 187 2) ∷ of_pool (Int ∷ []) (instrs.Class 189 2) ∷ of_pool (Ref ∷ []) (instrs.Class 192 2) ∷ of_pool (Ref ∷ []) (instrs.Class 193 2) ∷ of_pool (Int ∷ []) (instrs.Class 193 2) ∷ []
+    ≡ Some (Int ∷ []) ∷ None ∷ Some (Long ∷ []) ∷ Some (Ref ∷ []) ∷ None
+    ∷ Some (Long ∷ []) ∷ Some (Int ∷ []) ∷ Some (Long ∷ []) ∷ Some [] ∷ None
+    ∷ Some (Int ∷ []) ∷ None ∷ Some (Ref ∷ []) ∷ None
+    ∷ Some [] ∷ None ∷ None
+    ∷ Some (Ref ∷ []) ∷ Some (Ref ∷ []) ∷ Some (Ref ∷ []) ∷ Some (Int ∷ []) ∷ None ∷ []
+unfolding after instruction_of named_by desc_in dims_read name_read class_read of_read type_read params_read field_read return_read method_read desc_read reads_class_name
+constants_and_members = refl

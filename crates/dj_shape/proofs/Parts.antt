@@ -1,0 +1,215 @@
+-- What an instruction has to meet, part by part: as the model tells it, and as it is told of what is kept.
+use Rattle.std.proofs.Common.{◌≡◌, ℕ, zero, suc, ◌<◌, ◌≤◌, Bool, true, false, not, ◌&&◌, ◌||◌, IsTrue, List, [], ◌∷◌, map, reverse, Option, Some, None, Contains, slice_get, nat_eq, nat_lt, nat_le, refl, sym, ap, subst, ◌∙◌, inl, inr, arith}
+use Rattle.std.specs.List.{list_all}
+use Rattle.std.specs.Cmp.Lexicographic.{pointwise}
+use Rattle.std.proofs.lemmas.Bool.Decides.{nat_tests, eqb_tells}
+use Rattle.std.proofs.lemmas.Option.{slice_get_within, get_or_from_slice_get, slice_get-get_or}
+use Rattle.dj_names.specs.declared.descriptor.Kind.{Kind}
+use Rattle.dj_names.specs.declared.descriptor.Kind.TheVariants as kinds
+use Rattle.dj_labels.specs.declared.labelled.Protected.{Protected}
+use Rattle.dj_pool.specs.Pool.{Constant}
+use Rattle.dj_program.specs.Codes.{range_in}
+use Rattle.dj_model.specs.Program.{Range}
+use Rattle.dj_model.specs.Numbers.{same_kind}
+use Rattle.dj_model.specs.Values.{local_at}
+use Rattle.dj_model.specs.Initialisation.{padded}
+use Rattle.dj_model.specs.Kinds.{Kinds, Placed, placed_at}
+use Rattle.dj_model.specs.Shape.{flows_to, flows_to_frame, locals_flow_to, is_handler_frame, covers}
+use Rattle.dj_shape.specs.declared.frames.Told.{Told}
+use Rattle.dj_shape.specs.Told.{ToldFrames, told_at, told_kinds, IsToldAs, AreTold}
+use Rattle.dj_shape.specs.Flows.{FlowsTo, FlowsToFrame}
+use Rattle.dj_shape.specs.Handlers.{Tells, Handled}
+use Rattle.dj_shape.specs.Passing.{HasHandlerFrame, JumpsFlow}
+use Rattle.dj_shape.proofs.Slots.{from_flows, to_flows, from_flow, to_flow, told_padded, unpadded_flow, same_stacks, stack_itself, reverse_injects}
+
+-- ---- each of a list
+
+pub list_all_from : {A : Type 0} (p : A → Bool) (xs : List A) → ((k : ℕ) (x : A) → slice_get xs k ≡ Some x → IsTrue (p x)) → IsTrue (list_all p xs)
+list_all_from p [] each = refl
+list_all_from p (x ∷ xs) each = both_so (p x) (list_all p xs) (each 0 x refl) (list_all_from p xs (λ k y at. each (suc k) y at)) where
+  both_so : (a b : Bool) → IsTrue a → IsTrue b → IsTrue (a && b)
+  both_so true b t u = u
+  both_so false b t u = absurd cc
+
+pub list_all_at : {A : Type 0} (p : A → Bool) (xs : List A) → IsTrue (list_all p xs) → (k : ℕ) (x : A) → slice_get xs k ≡ Some x → IsTrue (p x)
+list_all_at p [] t k x at = absurd cc
+list_all_at p (y ∷ xs) t zero x at =
+    let same : y ≡ x = cc in
+    subst (λ z. IsTrue (p z)) same (left_so (p y) (list_all p xs) t) where
+      left_so : (a b : Bool) → IsTrue (a && b) → IsTrue a
+      left_so true b u = refl
+      left_so false b u = absurd cc
+list_all_at p (y ∷ xs) t (suc k) x at = list_all_at p xs (right_so (p y) (list_all p xs) t) k x at where
+  right_so : (a b : Bool) → IsTrue (a && b) → IsTrue b
+  right_so true b u = u
+  right_so false b u = absurd cc
+
+map_at : {A B : Type 0} (f : A → B) (xs : List A) (k : ℕ) (x : A) → slice_get xs k ≡ Some x → slice_get (map f xs) k ≡ Some (f x)
+map_at f [] k x at = absurd cc
+map_at f (y ∷ xs) zero x at = let same : y ≡ x = cc in ap (λ z. Some (f z)) same
+map_at f (y ∷ xs) (suc k) x at = map_at f xs k x at
+
+pub map_list_all_from : {A B : Type 0} (f : A → B) (p : B → Bool) (xs : List A) → ((k : ℕ) (x : A) → slice_get xs k ≡ Some x → IsTrue (p (f x))) → IsTrue (list_all p (map f xs))
+map_list_all_from f p [] each = refl
+map_list_all_from f p (x ∷ xs) each = both_so (p (f x)) (list_all p (map f xs)) (each 0 x refl) (map_list_all_from f p xs (λ k y at. each (suc k) y at)) where
+  both_so : (a b : Bool) → IsTrue a → IsTrue b → IsTrue (a && b)
+  both_so true b t u = u
+  both_so false b t u = absurd cc
+
+pub map_list_all_at : {A B : Type 0} (f : A → B) (p : B → Bool) (xs : List A) → IsTrue (list_all p (map f xs)) → (k : ℕ) (x : A) → slice_get xs k ≡ Some x → IsTrue (p (f x))
+map_list_all_at f p xs t k x at = list_all_at p (map f xs) t k (f x) (map_at f xs k x at)
+
+pub contains_at : {A : Type 0} (xs : List A) (k : ℕ) (x : A) → slice_get xs k ≡ Some x → Contains xs x
+contains_at xs k x at = (k, slice_get_within xs k x at, get_or_from_slice_get xs k x x at)
+
+pub at_contains : {A : Type 0} (xs : List A) (x : A) → Contains xs x → (k : ℕ) × (slice_get xs k ≡ Some x)
+at_contains xs x (k, within, at) = (k, slice_get-get_or xs k x within ∙ ap (λ y. Some y) at)
+
+-- ---- one or the other
+
+pub or_not : (a b : Bool) → (IsTrue a → IsTrue b) → IsTrue (not a || b)
+or_not true b f = f refl
+or_not false b f = refl
+
+pub from_or_not : (a b : Bool) → IsTrue (not a || b) → IsTrue a → IsTrue b
+from_or_not true b t u = t
+from_or_not false b t u = absurd cc
+
+pub or_so : (a b : Bool) → (a ≡ false → IsTrue b) → IsTrue (a || b)
+or_so true b f = refl
+or_so false b f = f refl
+
+pub from_or : (a b : Bool) → IsTrue (a || b) → a ≡ false → IsTrue b
+from_or true b t f = absurd cc
+from_or false b t f = t
+
+-- ---- a frame
+
+module _ (max_stack max_locals : ℕ) where
+  to_flows_to : (left : Kinds) (told : Option Told) (placed : Option Kinds) → IsToldAs max_stack max_locals told placed → FlowsTo left told → IsTrue (flows_to left placed)
+  to_flows_to left None placed is f = subst (λ (p : Option Kinds). IsTrue (flows_to left p)) (sym is) refl
+  to_flows_to left (Some told) placed is f =
+      subst (λ (p : Option Kinds). IsTrue (flows_to left p)) (sym is.0)
+      (to_flows left (told_kinds max_locals told) (told_padded max_locals left.locals told.locals.value.items f.0) f.1)
+
+  from_flows_to : (left : Kinds) (told : Option Told) (placed : Option Kinds) → IsToldAs max_stack max_locals told placed → IsTrue (flows_to left placed) → FlowsTo left told
+  from_flows_to left None placed is t = tt
+  from_flows_to left (Some told) placed is t =
+      let f = from_flows left (told_kinds max_locals told) (subst (λ (p : Option Kinds). IsTrue (flows_to left p)) is.0 t) in
+      (unpadded_flow max_locals left.locals told.locals.value.items f.0, f.1)
+
+  to_flows_to_frame : (left : Kinds) (told : Option Told) (placed : Option Kinds) → IsToldAs max_stack max_locals told placed → FlowsToFrame left told → IsTrue (flows_to_frame left placed)
+  to_flows_to_frame left None placed is f = absurd f
+  to_flows_to_frame left (Some told) placed is f =
+      subst (λ (p : Option Kinds). IsTrue (flows_to_frame left p)) (sym is.0)
+      (to_flows left (told_kinds max_locals told) (told_padded max_locals left.locals told.locals.value.items f.0) f.1)
+
+  from_flows_to_frame : (left : Kinds) (told : Option Told) (placed : Option Kinds) → IsToldAs max_stack max_locals told placed → IsTrue (flows_to_frame left placed) → FlowsToFrame left told
+  from_flows_to_frame left None placed is t = absurd (let no_frame : IsTrue false = subst (λ (p : Option Kinds). IsTrue (flows_to_frame left p)) is t in cc)
+  from_flows_to_frame left (Some told) placed is t =
+      let f = from_flows left (told_kinds max_locals told) (subst (λ (p : Option Kinds). IsTrue (flows_to_frame left p)) is.0 t) in
+      (unpadded_flow max_locals left.locals told.locals.value.items f.0, f.1)
+
+  -- ---- of all frames
+
+  module _ (placed : List Placed) (frames : ToldFrames) (are : AreTold max_stack max_locals placed frames) where
+    pub to_goes : (left : Kinds) (number : ℕ) → FlowsTo left (told_at frames number) → IsTrue (flows_to left (placed_at placed number))
+    to_goes left number = to_flows_to left (told_at frames number) (placed_at placed number) (are number)
+
+    pub from_goes : (left : Kinds) (number : ℕ) → IsTrue (flows_to left (placed_at placed number)) → FlowsTo left (told_at frames number)
+    from_goes left number = from_flows_to left (told_at frames number) (placed_at placed number) (are number)
+
+    pub to_jumps : (left : Kinds) (targets : List ℕ) → JumpsFlow left frames targets → IsTrue (list_all (λ target. flows_to_frame left (placed_at placed target)) targets)
+    to_jumps left targets flow =
+        list_all_from (λ target. flows_to_frame left (placed_at placed target)) targets
+        (λ k target at. to_flows_to_frame left (told_at frames target) (placed_at placed target) (are target) (flow target (contains_at targets k target at)))
+
+    pub from_jumps : (left : Kinds) (targets : List ℕ) → IsTrue (list_all (λ target. flows_to_frame left (placed_at placed target)) targets) → JumpsFlow left frames targets
+    from_jumps left targets t target there =
+        let at = at_contains targets target there in
+        from_flows_to_frame left (told_at frames target) (placed_at placed target) (are target)
+        (list_all_at (λ n. flows_to_frame left (placed_at placed n)) targets t at.0 target at.1)
+
+    -- ---- handlers
+
+    handler_of : (told : Option Told) (tell : Option Kinds) → IsToldAs max_stack max_locals told tell → IsTrue (is_handler_frame tell)
+        → (t : Told) × (told ≡ Some t) × (t.stack.items ≡ kinds.Ref ∷ [])
+    handler_of None tell is t = absurd (let no_frame : IsTrue false = subst (λ (p : Option Kinds). IsTrue (is_handler_frame p)) is t in cc)
+    handler_of (Some told) tell is t =
+        let one : IsTrue (pointwise same_kind (reverse told.stack.items) (kinds.Ref ∷ [])) = subst (λ (p : Option Kinds). IsTrue (is_handler_frame p)) is.0 t in
+        (told, refl, reverse_injects told.stack.items (kinds.Ref ∷ []) (same_stacks (reverse told.stack.items) (kinds.Ref ∷ []) one))
+
+    to_handler : (told : Option Told) (tell : Option Kinds) (t : Told) → IsToldAs max_stack max_locals told tell → told ≡ Some t → t.stack.items ≡ kinds.Ref ∷ []
+        → IsTrue (is_handler_frame tell)
+    to_handler None tell t is e one = absurd cc
+    to_handler (Some told) tell t is e one =
+        let same : told ≡ t = cc in
+        let stack : reverse told.stack.items ≡ kinds.Ref ∷ [] = ap (λ (x : Told). reverse x.stack.items) same ∙ ap reverse one in
+        subst (λ (p : Option Kinds). IsTrue (is_handler_frame p)) (sym is.0)
+        (subst (λ (s : List Kind). IsTrue (pointwise same_kind s (kinds.Ref ∷ []))) (sym stack) (stack_itself (kinds.Ref ∷ [])))
+
+    module _ (pool : List Constant) (rows : List Protected) (number : ℕ) where
+      abbrev handles_test : Range → Bool
+      handles_test range = not (nat_eq number range.handler) || is_handler_frame (placed_at placed number)
+
+      same_number : (a b : ℕ) → IsTrue (nat_eq a b) → a ≡ b
+      same_number a b t = elim (eqb_tells a b) [ inl e ↦ e.1 | inr e ↦ absurd cc ]
+
+      pub to_handles : ((k : ℕ) (row : Protected) → slice_get rows k ≡ Some row → row.handler ≡ number → HasHandlerFrame frames number)
+          → IsTrue (list_all handles_test (map (range_in pool) rows))
+      to_handles each = map_list_all_from (range_in pool) handles_test rows (λ k row at. or_not (nat_eq number row.handler) (is_handler_frame (placed_at placed number)) (λ t.
+          let has = each k row at (sym (same_number number row.handler t)) in
+          to_handler (told_at frames number) (placed_at placed number) has.told (are number) has.at has.one))
+
+      pub from_handles : IsTrue (list_all handles_test (map (range_in pool) rows)) → (k : ℕ) (row : Protected) → slice_get rows k ≡ Some row → row.handler ≡ number
+          → HasHandlerFrame frames number
+      from_handles t k row at e =
+          let own : IsTrue (nat_eq number row.handler) = grind (arith, nat_tests) in
+          let frame = from_or_not (nat_eq number row.handler) (is_handler_frame (placed_at placed number)) (map_list_all_at (range_in pool) handles_test rows t k row at) own in
+          let has = handler_of (told_at frames number) (placed_at placed number) (are number) frame in
+          record { told = has.0; at = has.1; one = has.2 }
+
+      -- ---- local variables of the instructions in ranges
+
+      module _ (before : Kinds) where
+        abbrev handled_test : Range → Bool
+        handled_test range = not (covers range number) || locals_flow_to before (placed_at placed range.handler)
+
+        to_locals : (row : Protected) (told : Option Told) (kinds : Option Kinds) → IsToldAs max_stack max_locals told kinds → told_at frames row.handler ≡ told
+            → ((slot : ℕ) (kind : Kind) → Tells frames row slot kind → local_at before.locals slot ≡ Some kind) → IsTrue (locals_flow_to before kinds)
+        to_locals row None kinds is e each = subst (λ (p : Option Kinds). IsTrue (locals_flow_to before p)) (sym is) refl
+        to_locals row (Some told) kinds is e each =
+            subst (λ (p : Option Kinds). IsTrue (locals_flow_to before p)) (sym is.0)
+            (to_flow before.locals (padded max_locals told.locals.value.items)
+            (told_padded max_locals before.locals told.locals.value.items (λ slot kind at. each slot kind (record { told = told; at = e; tells = at }))))
+
+        from_locals : (row : Protected) (kinds : Option Kinds) (slot : ℕ) (kind : Kind) → IsToldAs max_stack max_locals (told_at frames row.handler) kinds → Tells frames row slot kind
+            → IsTrue (locals_flow_to before kinds) → local_at before.locals slot ≡ Some kind
+        from_locals row kinds slot kind is tells t =
+            let own : IsToldAs max_stack max_locals (Some tells.told) kinds = subst (λ (x : Option Told). IsToldAs max_stack max_locals x kinds) tells.at is in
+            let flow = from_flow before.locals (padded max_locals tells.told.locals.value.items) (subst (λ (p : Option Kinds). IsTrue (locals_flow_to before p)) own.0 t) in
+            unpadded_flow max_locals before.locals tells.told.locals.value.items flow slot kind tells.tells
+
+        within_range : (row : Protected) → IsTrue (covers (range_in pool row) number) → (row.start ≤ number) × (number < row.end)
+        within_range row t = both_ways (nat_le row.start number) (nat_lt number row.end) t refl refl where
+          both_ways : (a b : Bool) → IsTrue (a && b) → a ≡ nat_le row.start number → b ≡ nat_lt number row.end → (row.start ≤ number) × (number < row.end)
+          both_ways true true u e f = (grind (arith, nat_tests), grind (arith, nat_tests))
+          both_ways true false u e f = absurd cc
+          both_ways false b u e f = absurd cc
+
+        covered : (row : Protected) → row.start ≤ number → number < row.end → IsTrue (covers (range_in pool row) number)
+        covered row from to =
+            let a : nat_le row.start number ≡ true = grind (arith, nat_tests) in
+            let b : nat_lt number row.end ≡ true = grind (arith, nat_tests) in
+            rw (a, b) refl
+
+        pub to_handled : Handled rows frames number before.locals → IsTrue (list_all handled_test (map (range_in pool) rows))
+        to_handled handled =
+            map_list_all_from (range_in pool) handled_test rows (λ k row at. or_not (covers (range_in pool row) number) (locals_flow_to before (placed_at placed row.handler)) (λ t.
+            let in' = within_range row t in
+            to_locals row (told_at frames row.handler) (placed_at placed row.handler) (are row.handler) refl (λ slot kind tells. handled k row slot kind at in'.0 in'.1 tells)))
+
+        pub from_handled : IsTrue (list_all handled_test (map (range_in pool) rows)) → Handled rows frames number before.locals
+        from_handled t k row slot kind at from to tells =
+            from_locals row (placed_at placed row.handler) slot kind (are row.handler) tells
+            (from_or_not (covers (range_in pool row) number) (locals_flow_to before (placed_at placed row.handler)) (map_list_all_at (range_in pool) handled_test rows t k row at) (covered row from to))

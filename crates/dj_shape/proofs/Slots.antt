@@ -1,0 +1,172 @@
+-- Local variables by their slots, and when they flow into others.
+use Rattle.std.proofs.Common.{◌≡◌, ℕ, zero, suc, ◌-◌, ◌<◌, ◌≤◌, Bool, true, false, ◌&&◌, IsTrue, List, [], ◌∷◌, ◌++◌, length, get_or, replicate, inl, inr, ◌+◌, reverse, Option, Some, None, refl, sym, ap, subst, ◌∙◌, arith}
+use Rattle.std.proofs.lemmas.Bool.{cases_lt}
+use Rattle.std.proofs.lemmas.List.{reverse-reverse}
+use Rattle.std.specs.Cmp.Lexicographic.{pointwise}
+use Rattle.dj_names.specs.declared.descriptor.Kind.{Kind}
+use Rattle.dj_names.specs.declared.descriptor.Kind.TheVariants as kinds
+use Rattle.dj_model.specs.Numbers.{same_kind}
+use Rattle.dj_model.specs.Values.{local_at}
+use Rattle.dj_model.specs.Initialisation.{padded}
+use Rattle.dj_model.specs.Kinds.{Kinds}
+use Rattle.dj_model.specs.Shape.{is_kind, locals_flow, flows_into}
+use Rattle.dj_shape.specs.Flows.{LocalsFlow}
+
+-- ---- padding
+
+none_at : {A : Type 0} (n slot : ℕ) → local_at {A = A} (replicate n None) slot ≡ None
+none_at zero slot = refl
+none_at (suc n) zero = refl
+none_at (suc n) (suc slot) = none_at n slot
+
+at_more : {A : Type 0} (xs : List (Option A)) (n slot : ℕ) → local_at (xs ++ replicate n None) slot ≡ local_at xs slot
+at_more [] n slot = none_at n slot
+at_more (x ∷ xs) n zero = refl
+at_more (x ∷ xs) n (suc slot) = at_more xs n slot
+
+-- local variables after the last have no kind
+pub at_padded : {A : Type 0} (n : ℕ) (xs : List (Option A)) (slot : ℕ) → local_at (padded n xs) slot ≡ local_at xs slot
+at_padded n xs slot = at_more xs (n - length xs) slot
+
+pub at_get : {A : Type 0} (xs : List (Option A)) (slot : ℕ) → local_at xs slot ≡ get_or xs slot None
+at_get [] slot = refl
+at_get (x ∷ xs) zero = refl
+at_get (x ∷ xs) (suc slot) = at_get xs slot
+
+pub at_past : {A : Type 0} (xs : List (Option A)) (slot : ℕ) → length xs ≤ slot → local_at xs slot ≡ None
+at_past [] slot past = refl
+at_past (x ∷ xs) zero past = absurd (omega arith)
+at_past (x ∷ xs) (suc slot) past = at_past xs slot (omega arith)
+
+-- ---- kinds
+
+pub same_kinds : (a b : Kind) → IsTrue (same_kind a b) → a ≡ b
+same_kinds kinds.Int kinds.Int t = refl
+same_kinds kinds.Long kinds.Long t = refl
+same_kinds kinds.Ref kinds.Ref t = refl
+same_kinds kinds.Int kinds.Long t = absurd cc
+same_kinds kinds.Int kinds.Ref t = absurd cc
+same_kinds kinds.Long kinds.Int t = absurd cc
+same_kinds kinds.Long kinds.Ref t = absurd cc
+same_kinds kinds.Ref kinds.Int t = absurd cc
+same_kinds kinds.Ref kinds.Long t = absurd cc
+
+pub same_itself : (a : Kind) → IsTrue (same_kind a a)
+same_itself kinds.Int = refl
+same_itself kinds.Long = refl
+same_itself kinds.Ref = refl
+
+pub is_some_kind : (kind : Kind) (x : Option Kind) → IsTrue (is_kind kind x) → x ≡ Some kind
+is_some_kind kind None t = absurd cc
+is_some_kind kind (Some other) t = ap Some (sym (same_kinds kind other t))
+
+pub kind_is : (kind : Kind) (x : Option Kind) → x ≡ Some kind → IsTrue (is_kind kind x)
+kind_is kind None e = absurd cc
+kind_is kind (Some other) e =
+    let same : kind ≡ other = cc in
+    subst (λ k. IsTrue (same_kind kind k)) same (same_itself kind)
+
+-- ---- both of two
+
+pub both : (a b : Bool) → IsTrue a → IsTrue b → IsTrue (a && b)
+both true b x y = y
+both false b x y = absurd cc
+
+pub first_of_both : (a b : Bool) → IsTrue (a && b) → IsTrue a
+first_of_both true b x = refl
+first_of_both false b x = absurd cc
+
+pub second_of_both : (a b : Bool) → IsTrue (a && b) → IsTrue b
+second_of_both true b x = x
+second_of_both false b x = absurd cc
+
+-- ---- flows
+
+pub from_flow : (locals told : List (Option Kind)) → IsTrue (locals_flow locals told) → LocalsFlow locals told
+from_flow locals [] t slot kind e = absurd cc
+from_flow [] (None ∷ told) t zero kind e = absurd cc
+from_flow [] (None ∷ told) t (suc slot) kind e = from_flow [] told t slot kind e
+from_flow [] (Some k ∷ told) t slot kind e = absurd cc
+from_flow (x ∷ locals) (None ∷ told) t zero kind e = absurd cc
+from_flow (x ∷ locals) (None ∷ told) t (suc slot) kind e = from_flow locals told t slot kind e
+from_flow (x ∷ locals) (Some k ∷ told) t zero kind e = is_some_kind k x (first_of_both (is_kind k x) (locals_flow locals told) t) ∙ e
+from_flow (x ∷ locals) (Some k ∷ told) t (suc slot) kind e = from_flow locals told (second_of_both (is_kind k x) (locals_flow locals told) t) slot kind e
+
+pub to_flow : (locals told : List (Option Kind)) → LocalsFlow locals told → IsTrue (locals_flow locals told)
+to_flow locals [] f = refl
+to_flow [] (None ∷ told) f = to_flow [] told (λ slot kind e. f (suc slot) kind e)
+to_flow [] (Some k ∷ told) f = absurd (let none : None ≡ Some k = f 0 k refl in cc)
+to_flow (x ∷ locals) (None ∷ told) f = to_flow locals told (λ slot kind e. f (suc slot) kind e)
+to_flow (x ∷ locals) (Some k ∷ told) f =
+    both (is_kind k x) (locals_flow locals told) (kind_is k x (f 0 k refl)) (to_flow locals told (λ slot kind e. f (suc slot) kind e))
+
+-- what holds of each slot so far, with one more
+pub flow_more : (locals told : List (Option Kind)) (i : ℕ) → ((slot : ℕ) (kind : Kind) → slot < i → local_at told slot ≡ Some kind → local_at locals slot ≡ Some kind)
+    → ((kind : Kind) → local_at told i ≡ Some kind → local_at locals i ≡ Some kind)
+    → (slot : ℕ) (kind : Kind) → slot < i + 1 → local_at told slot ≡ Some kind → local_at locals slot ≡ Some kind
+flow_more locals told i below here slot kind lt e = elim (cases_lt slot i) [
+  | inl less ↦ below slot kind less e
+  | inr most ↦
+      let same : slot ≡ i = omega arith in
+      subst (λ (n : ℕ). local_at locals n ≡ Some kind) (sym same) (here kind (subst (λ (n : ℕ). local_at told n ≡ Some kind) same e))
+]
+
+pub from_below : (locals told : List (Option Kind)) (i : ℕ) → ((slot : ℕ) (kind : Kind) → slot < i → local_at told slot ≡ Some kind → local_at locals slot ≡ Some kind)
+    → length told ≤ i → LocalsFlow locals told
+from_below locals told i below all slot kind e = elim (cases_lt slot i) [
+  | inl less ↦ below slot kind less e
+  | inr most ↦ absurd (let none : local_at told slot ≡ None = at_past told slot (omega arith) in cc)
+]
+
+-- padding of either list changes nothing
+pub padded_flow : (n m : ℕ) (locals told : List (Option Kind)) → LocalsFlow locals told → LocalsFlow (padded n locals) (padded m told)
+padded_flow n m locals told f slot kind e = at_padded n locals slot ∙ f slot kind (sym (at_padded m told slot) ∙ e)
+
+pub unpadded_flow : (m : ℕ) (locals told : List (Option Kind)) → LocalsFlow locals (padded m told) → LocalsFlow locals told
+unpadded_flow m locals told f slot kind e = f slot kind (at_padded m told slot ∙ e)
+
+pub told_padded : (m : ℕ) (locals told : List (Option Kind)) → LocalsFlow locals told → LocalsFlow locals (padded m told)
+told_padded m locals told f slot kind e = f slot kind (sym (at_padded m told slot) ∙ e)
+
+-- ---- operands
+
+pub same_stacks : (a b : List Kind) → IsTrue (pointwise same_kind a b) → a ≡ b
+same_stacks [] [] t = refl
+same_stacks [] (y ∷ b) t = absurd cc
+same_stacks (x ∷ a) [] t = absurd cc
+same_stacks (x ∷ a) (y ∷ b) t =
+    let first : x ≡ y = same_kinds x y (first_of_both (same_kind x y) (pointwise same_kind a b) t) in
+    let rest : a ≡ b = same_stacks a b (second_of_both (same_kind x y) (pointwise same_kind a b) t) in
+    cc
+
+pub stack_itself : (a : List Kind) → IsTrue (pointwise same_kind a a)
+stack_itself [] = refl
+stack_itself (x ∷ a) = both (same_kind x x) (pointwise same_kind a a) (same_itself x) (stack_itself a)
+
+-- ---- kinds that flow into others
+
+pub from_flows : (left told : Kinds) → IsTrue (flows_into left told) → LocalsFlow left.locals told.locals × (left.stack ≡ told.stack)
+from_flows left told t = (
+  from_flow left.locals told.locals (first_of_both (locals_flow left.locals told.locals) (pointwise same_kind left.stack told.stack) t),
+  same_stacks left.stack told.stack (second_of_both (locals_flow left.locals told.locals) (pointwise same_kind left.stack told.stack) t),
+)
+
+pub to_flows : (left told : Kinds) → LocalsFlow left.locals told.locals → left.stack ≡ told.stack → IsTrue (flows_into left told)
+to_flows left told f e =
+    both (locals_flow left.locals told.locals) (pointwise same_kind left.stack told.stack) (to_flow left.locals told.locals f)
+    (subst (λ s. IsTrue (pointwise same_kind left.stack s)) e (stack_itself left.stack))
+
+-- ---- local variables of which those after the last aren't kept
+
+pub flow_from_all : (n : ℕ) (kept all told tell : List (Option Kind)) → padded n kept ≡ all → tell ≡ told → LocalsFlow all told → LocalsFlow kept tell
+flow_from_all n kept all told tell same e f slot kind at =
+    sym (at_padded n kept slot) ∙ ap (λ (l : List (Option Kind)). local_at l slot) same
+    ∙ f slot kind (sym (ap (λ (l : List (Option Kind)). local_at l slot) e) ∙ at)
+
+pub flow_to_all : (n : ℕ) (kept all told tell : List (Option Kind)) → padded n kept ≡ all → tell ≡ told → LocalsFlow kept tell → LocalsFlow all told
+flow_to_all n kept all told tell same e f slot kind at =
+    sym (ap (λ (l : List (Option Kind)). local_at l slot) same) ∙ at_padded n kept slot
+    ∙ f slot kind (ap (λ (l : List (Option Kind)). local_at l slot) e ∙ at)
+
+pub reverse_injects : (a b : List Kind) → reverse a ≡ reverse b → a ≡ b
+reverse_injects a b e = sym (reverse-reverse a) ∙ ap reverse e ∙ reverse-reverse b

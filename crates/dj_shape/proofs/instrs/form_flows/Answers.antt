@@ -1,0 +1,23 @@
+use Rattle.std.proofs.Common.{rules, ℤ, List, All, Decides, w64, SFits, sym, subst}
+use Rattle.std.proofs.lemmas.Int.{to_z-of_z}
+use Rattle.dj_ops.specs.declared.instruction.Instr.{Instr}
+use Rattle.dj_shape.specs.Forms.{FlowsAt, FormFlows}
+use Rattle.dj_shape.proofs.instrs.form_flows.Goals as goal
+
+pub returns-then-flows_at : goal.returns-then-flows_at
+returns-then-flows_at c =
+    let fits : SFits w64 c.in-Table.default = search rules in
+    let first = subst (FlowsAt c.args.state.now.kinds c.args.frames.now) (to_z-of_z w64 c.in-Table.default fits) (c.flows_at-in-Table.ensures.0 c.if-flows_at.true) in
+    subst (λ (i : Instr). Decides c.all_flow.result (FormFlows c.args.state.now.kinds c.args.frames.now i)) (sym c.in-Table.is) (
+      λ yes. (first, subst (λ (l : List (ℤ)). All (FlowsAt c.args.state.now.kinds c.args.frames.now) l) c.as_slice.ensures (c.all_flow.ensures.0 yes)),
+      λ flows. c.all_flow.ensures.1 (subst (λ (l : List (ℤ)). All (FlowsAt c.args.state.now.kinds c.args.frames.now) l) (sym c.as_slice.ensures) flows.1),
+    )
+
+pub returns-then-flows_at-2 : goal.returns-then-flows_at-2
+returns-then-flows_at-2 c =
+    let fits : SFits w64 c.in-Lookup.default = search rules in
+    let first = subst (FlowsAt c.args.state.now.kinds c.args.frames.now) (to_z-of_z w64 c.in-Lookup.default fits) (c.flows_at-in-Lookup.ensures.0 c.if-flows_at-2.true) in
+    subst (λ (i : Instr). Decides c.pairs_flow.result (FormFlows c.args.state.now.kinds c.args.frames.now i)) (sym c.in-Lookup.is) (
+      λ yes. (first, subst (λ (l : List (ℤ × ℤ)). All (λ (pair : ℤ × ℤ). FlowsAt c.args.state.now.kinds c.args.frames.now pair.1) l) c.as_slice-then-flows_at-2.ensures (c.pairs_flow.ensures.0 yes)),
+      λ flows. c.pairs_flow.ensures.1 (subst (λ (l : List (ℤ × ℤ)). All (λ (pair : ℤ × ℤ). FlowsAt c.args.state.now.kinds c.args.frames.now pair.1) l) (sym c.as_slice-then-flows_at-2.ensures) flows.1),
+    )

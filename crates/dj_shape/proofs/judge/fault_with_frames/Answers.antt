@@ -1,0 +1,53 @@
+use Rattle.std.proofs.Common.{◌∙◌, List, Some, map, ap, sym}
+use Rattle.dj_ops.specs.declared.instruction.Instr.{Instr}
+use Rattle.dj_ops.specs.declared.frames.Frame.{Frame}
+use Rattle.dj_program.specs.Naming.{instruction_in}
+use Rattle.dj_program.specs.Codes.{code_in}
+use Rattle.dj_model.specs.Instructions.{makes_uninitialised}
+use Rattle.dj_program.specs.Views.{parts_of}
+use Rattle.dj_model.specs.Kinds.{entry_slots}
+use Rattle.dj_shape.specs.Reading.{signature_with}
+use Rattle.dj_shape.proofs.Works.{ok_more}
+use Rattle.dj_shape.proofs.Judging.{unfit, unfit_fault, fit_and_first, slots_same, in_code, err_fault, ok_fault}
+use Rattle.dj_shape.proofs.judge.fault_with_frames.Goals as goal
+
+pub returns-then-not-branch : goal.returns-then-not-branch
+returns-then-not-branch c = λ pool are has.
+    let signature = signature_with c.args.is_static c.args.call.now in
+    let code = code_in pool (parts_of c.args.code.now) in
+    let parts = in_code pool c.args.code.now in
+    let state = c.new-state.result in
+    let slots = c.deref-2.ensures.value ∙ c.in_ok-locals.ensures ∙ ap entry_slots (c.deref.ensures.value ∙ c.in_ok-entries.ensures) ∙ slots_same signature.parameters in
+    let none = rw c.if-not-branch.true at c.in_ok-set.ensures.set in
+    unfit_fault signature code c.args.frames.now (parts.4 ∙ has)
+    (unfit signature code state (c.new-state.ensures.room.0 ∙ sym parts.0, c.new-state.ensures.room.1 ∙ sym parts.1) c.deref-2.result.now slots none)
+
+pub returns-in-Err : goal.returns-in-Err
+returns-in-Err c = λ pool are has.
+    let signature = signature_with c.args.is_static c.args.call.now in
+    let code = code_in pool (parts_of c.args.code.now) in
+    let parts = in_code pool c.args.code.now in
+    let state = c.new-state.result in
+    let slots = c.deref-2.ensures.value ∙ c.in_ok-locals.ensures ∙ ap entry_slots (c.deref.ensures.value ∙ c.in_ok-entries.ensures) ∙ slots_same signature.parameters in
+    let some = rw c.if-not-branch.false at c.in_ok-set.ensures.set in
+    let fit = fit_and_first signature code state (c.new-state.ensures.room.0 ∙ sym parts.0, c.new-state.ensures.room.1 ∙ sym parts.1) c.deref-2.result.now slots c.set.new.self.kinds some in
+    let made = c.deref-3.ensures.value ∙ c.in_ok-made.ensures pool are ∙ ap (λ (l : List Instr). map (λ i. makes_uninitialised (instruction_in pool i)) l) c.as_slice.ensures in
+    let list = has ∙ ap (λ (l : List Frame). Some l) (sym c.as_slice-2.ensures) in
+    err_fault pool c.args.code.now signature c.deref-3.result.now c.in_ok-entries.entries.items c.as_slice-2.result.now list made c.in_ok-entries.ensures fit.0 c.in-Err.at
+    (rw c.in-Err.is at c.in_ok-at.ensures)
+
+pub returns-in-Ok : goal.returns-in-Ok
+returns-in-Ok c = ok_more c.judge.result _ _ (λ fault judged pool are has.
+    let signature = signature_with c.args.is_static c.args.call.now in
+    let code = code_in pool (parts_of c.args.code.now) in
+    let parts = in_code pool c.args.code.now in
+    let state = c.new-state.result in
+    let slots = c.deref-2.ensures.value ∙ c.in_ok-locals.ensures ∙ ap entry_slots (c.deref.ensures.value ∙ c.in_ok-entries.ensures) ∙ slots_same signature.parameters in
+    let some = rw c.if-not-branch.false at c.in_ok-set.ensures.set in
+    let fit = fit_and_first signature code state (c.new-state.ensures.room.0 ∙ sym parts.0, c.new-state.ensures.room.1 ∙ sym parts.1) c.deref-2.result.now slots c.set.new.self.kinds some in
+    let made = c.deref-3.ensures.value ∙ c.in_ok-made.ensures pool are ∙ ap (λ (l : List Instr). map (λ i. makes_uninitialised (instruction_in pool i)) l) c.as_slice.ensures in
+    let list = has ∙ ap (λ (l : List Frame). Some l) (sym c.as_slice-2.ensures) in
+    ok_fault pool c.args.code.now signature c.deref-3.result.now c.in_ok-entries.entries.items c.as_slice-2.result.now list made c.in_ok-entries.ensures fit.0
+    c.args.kinds.now c.result.result c.in-Ok.told c.set.new.self fault are c.result.ensures
+    (c.set.ensures.room.0 ∙ c.new-state.ensures.room.0 ∙ sym parts.0, c.set.ensures.room.1 ∙ c.new-state.ensures.room.1 ∙ sym parts.1) fit.1 (rw c.in-Ok.is at c.in_ok-at.ensures) judged)
+    c.judge.ensures

@@ -1,0 +1,16 @@
+use Rattle.std.proofs.Common.{◌∙◌, List, ap, map, sym}
+use Rattle.dj_ops.specs.declared.instruction.Instr.{Instr}
+use Rattle.dj_labels.specs.declared.labelled.Protected.{Protected}
+use Rattle.dj_program.specs.Naming.{instruction_in}
+use Rattle.dj_program.specs.Codes.{range_in}
+use Rattle.dj_shape.proofs.Works.{ok_more}
+use Rattle.dj_shape.proofs.judge.judge.Goals as goal
+
+pub returns : goal.returns
+returns c = ok_more c.first_fault.result _ _ (λ fault first case j. first case (record {
+  kinds = j.kept;
+  gives = j.gives;
+  instructions = j.instructions ∙ ap (λ (l : List Instr). map (instruction_in case.pool) l) (sym c.as_slice.ensures);
+  ranges = j.ranges ∙ ap (λ (l : List Protected). map (range_in case.pool) l) (sym c.as_slice-rows.ensures);
+  frames = j.told;
+}) (c.in_ok-pass.ensures case j.room j.first)) c.first_fault.ensures

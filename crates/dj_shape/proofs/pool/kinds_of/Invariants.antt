@@ -1,0 +1,8 @@
+use Rattle.std.proofs.Common.{◌≡◌, drop}
+use Rattle.dj_model.specs.Members.{kinds_of}
+use Rattle.dj_shape.proofs.Keeping.{prefixed}
+use Rattle.dj_shape.proofs.pool.kinds_of.Given as goal
+
+-- the kinds so far
+abbrev pub invariant-loop-ty : goal.invariant-loop-ty
+invariant-loop-ty l = prefixed l.kinds.items (kinds_of (drop l.ty-index l.types)) ≡ kinds_of l.types

@@ -1,0 +1,45 @@
+-- The code's own: what is told of instructions by their forms, whatever their indexes name.
+use Rattle.std.specs.Prelude.{◌≡◌, ℕ, ◌+◌, ◌-◌, ⊤, Bool, true, false, ℤ, Option, Some, None, All, unsigned_abs}
+use Rattle.dj_ops.specs.declared.instruction.Instr.{Instr}
+use Rattle.dj_ops.specs.declared.instruction.Instr.TheVariants as instrs
+use Rattle.dj_model.specs.Instructions.{Nothing, ends}
+use Rattle.dj_model.specs.Opcodes.{simple, operand_does, local_rows, jump_rows}
+use Rattle.dj_model.specs.Kinds.{Kinds}
+use Rattle.dj_shape.specs.declared.needs.Changed.{Changed}
+use Rattle.dj_shape.specs.declared.needs.Changed.TheVariants as changes
+use Rattle.dj_shape.specs.Told.{ToldFrames, told_at}
+use Rattle.dj_shape.specs.Flows.{FlowsToFrame}
+use Rattle.dj_shape.specs.Works.{Work, Stores, work_of}
+
+-- the slot in which it stores, where it does
+abbrev pub StoresAt : Option ℕ → Work → Type 0
+StoresAt slot (Stores kind at) = slot ≡ Some at
+StoresAt slot work = ⊤
+
+abbrev pub StoresInForm : Option ℕ → Instr → Type 0
+StoresInForm slot (instrs.Simple op) = StoresAt slot (work_of (simple Nothing op))
+StoresInForm slot (instrs.Local op at wide) = StoresAt slot (work_of (operand_does local_rows Nothing op at))
+StoresInForm slot instr = ⊤
+
+-- the local variables around the slot
+abbrev pub around : Option ℕ → Changed
+around None = changes.Some 0 0
+around (Some slot) = changes.Some (slot - 1) (slot + 2)
+
+-- whether the run never goes on at the next instruction
+abbrev pub form_ends : Instr → Bool
+form_ends (instrs.Simple op) = ends (simple Nothing op)
+form_ends (instrs.Branch op target) = ends (operand_does jump_rows Nothing op (unsigned_abs target))
+form_ends (instrs.Table default low targets) = true
+form_ends (instrs.Lookup default pairs) = true
+form_ends instr = false
+
+-- each of its targets has a frame, into which this flows
+abbrev pub FlowsAt : Kinds → ToldFrames → ℤ → Type 0
+FlowsAt left frames target = FlowsToFrame left (told_at frames (unsigned_abs target))
+
+abbrev pub FormFlows : Kinds → ToldFrames → Instr → Type 0
+FormFlows left frames (instrs.Branch op target) = FlowsAt left frames target
+FormFlows left frames (instrs.Table default low targets) = FlowsAt left frames default × All (FlowsAt left frames) targets
+FormFlows left frames (instrs.Lookup default pairs) = FlowsAt left frames default × All (λ pair. FlowsAt left frames pair.1) pairs
+FormFlows left frames instr = ⊤

@@ -1,0 +1,34 @@
+-- The code's own: the whole of a method's code.
+use Rattle.std.specs.Prelude.{◌≡◌, ℕ, map, Option, Some, None}
+use Rattle.dj_names.specs.declared.descriptor.Kind.{Kind}
+use Rattle.dj_program.specs.declared.code.MethodCode.{MethodCode}
+use Rattle.dj_program.specs.Naming.{instruction_in}
+use Rattle.dj_program.specs.Codes.{range_in}
+use Rattle.dj_model.specs.Program.{Code}
+use Rattle.dj_model.specs.Kinds.{Signature}
+use Rattle.dj_model.specs.Shape.{first_kinds, HasShape, IsShapeFault}
+use Rattle.dj_shape.specs.declared.judge.ShapeFault.{ShapeFault}
+use Rattle.dj_shape.specs.Kept.{KeptKinds}
+use Rattle.dj_shape.specs.Pools.{ArePoolKinds}
+use Rattle.dj_shape.specs.Standing.{Standing, HasRoomOf}
+use Rattle.dj_shape.specs.Told.{ToldFrames, AreTold}
+use Rattle.dj_shape.specs.Passing.{Case}
+
+-- the code of the case is this code, whose frames were read, and before its first instruction these kinds stand
+pub record IsJudged (kinds : KeptKinds) (returned : Option Kind) (code : MethodCode) (frames : ToldFrames) (state : Standing) (c : Case) : Type 0 where
+  pub kept : ArePoolKinds c.pool kinds
+  pub gives : returned ≡ c.signature.result
+  pub instructions : c.code.instructions ≡ map (instruction_in c.pool) code.code.code
+  pub ranges : c.code.ranges ≡ map (range_in c.pool) code.code.ranges
+  pub told : AreTold c.code.max_stack c.code.max_locals c.placed frames
+  pub room : HasRoomOf state c.code
+  pub first : state.kinds ≡ first_kinds c.signature c.code
+
+-- code with a stack map has shape, or this is the number of its fault
+abbrev pub IsFaultOf : Signature → Code → Option ℕ → Type 0
+IsFaultOf signature code None = HasShape signature code
+IsFaultOf signature code (Some number) = IsShapeFault signature code (Some number)
+
+abbrev pub fault_told : Option ℕ → Option ShapeFault
+fault_told None = None
+fault_told (Some number) = Some (record { number = Some number })

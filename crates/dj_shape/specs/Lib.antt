@@ -1,0 +1,15 @@
+pub mod Rule
+pub mod Kept
+pub mod Pools
+pub mod Standing
+pub mod Told
+pub mod Flows
+pub mod Needs
+pub mod Handlers
+pub mod Works
+pub mod Passing
+pub mod Forms
+pub mod Reading
+pub mod Judging
+pub mod Makes
+pub mod Keeping

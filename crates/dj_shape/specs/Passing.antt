@@ -1,0 +1,129 @@
+-- The code's own: the pass over the instructions of code, from the first to the last.
+use Rattle.std.specs.Prelude.{◌≡◌, ℕ, zero, suc, ◌<◌, ◌≤◌, ⊤, Bool, true, false, List, [], ◌∷◌, map, Option, Some, None, MatchOption, min, Contains, Decides, length, not, ◌⊎◌, slice_get, if◌then◌else◌}
+use Rattle.dj_names.specs.declared.descriptor.Kind.TheVariants as kinds
+use Rattle.dj_labels.specs.declared.labelled.Protected.{Protected}
+use Rattle.dj_pool.specs.Pool.{Constant}
+use Rattle.dj_program.specs.Naming.{instruction_in}
+use Rattle.dj_program.specs.Codes.{range_in}
+use Rattle.dj_model.specs.Program.{Code}
+use Rattle.dj_model.specs.Instructions.{Instruction, Other, ends, targets}
+use Rattle.dj_model.specs.Values.{local_at}
+use Rattle.dj_model.specs.Kinds.{Kinds, Signature, Placed}
+use Rattle.dj_model.specs.Shape.{after, first_kinds, goes_on_with, state_before, Holds, IsFirstFault}
+use Rattle.dj_shape.specs.declared.needs.Changed.{Changed}
+use Rattle.dj_shape.specs.declared.needs.Changed.TheVariants as changes
+use Rattle.dj_shape.specs.declared.frames.Told.{Told}
+use Rattle.dj_shape.specs.declared.pass.Method.{Method}
+use Rattle.dj_shape.specs.declared.pass.Pass.{Pass}
+use Rattle.dj_shape.specs.Pools.{ArePoolKinds}
+use Rattle.dj_shape.specs.Standing.{HasRoomOf, standing_in}
+use Rattle.dj_shape.specs.Told.{ToldFrames, told_at, AreTold}
+use Rattle.dj_shape.specs.Flows.{Flows, FlowsTo, FlowsToFrame}
+use Rattle.dj_shape.specs.Needs.{IsChanged}
+use Rattle.dj_shape.specs.Handlers.{IsKnownBut}
+
+-- ---- what an instruction tells, whatever its index names
+
+-- no other local variables have another kind after it
+abbrev pub ChangesOnly : Changed → Instruction → Type 0
+ChangesOnly changed i = (signature : Signature) (code : Code) (k left : Kinds) → after signature code i k ≡ Some left
+    → (slot : ℕ) → (IsChanged changed slot → ⊥) → local_at left.locals slot ≡ local_at k.locals slot
+
+abbrev pub IsRun : Instruction → Type 0
+IsRun (Other op named) = ⊥
+IsRun i = ⊤
+
+-- each target has a frame, into which this flows
+abbrev pub JumpsFlow : Kinds → ToldFrames → List ℕ → Type 0
+JumpsFlow left frames targets = (target : ℕ) → Contains targets target → FlowsToFrame left (told_at frames target)
+
+-- ---- handlers
+
+-- the frame of a handler tells one operand, a reference
+pub record HasHandlerFrame (frames : ToldFrames) (number : ℕ) : Type 0 where
+  pub told : Told
+  pub at : told_at frames number ≡ Some told
+  pub one : told.stack.items ≡ kinds.Ref ∷ []
+
+abbrev pub IsUnhandled : ToldFrames → List Protected → ℕ → Type 0
+IsUnhandled frames rows number = (k : ℕ) × (row : Protected) × (slice_get rows k ≡ Some row) × (row.handler ≡ number) × (HasHandlerFrame frames number → ⊥)
+
+-- the least first instruction of a handler that has no handler's frame, if there is one
+abbrev pub IsFirstUnhandled : ToldFrames → List Protected → Option ℕ → Type 0
+IsFirstUnhandled frames rows number = MatchOption number
+    ((k : ℕ) (row : Protected) → slice_get rows k ≡ Some row → HasHandlerFrame frames row.handler)
+    (λ least. IsUnhandled frames rows least × ((k : ℕ) (row : Protected) → slice_get rows k ≡ Some row → row.handler < least → HasHandlerFrame frames row.handler))
+
+-- the lesser of two, where there is another
+abbrev pub least_of : Option ℕ → ℕ → ℕ
+least_of None number = number
+least_of (Some least) number = min least number
+
+-- ---- the pass
+
+-- the code that a pool makes of what is gone through
+pub record Case : Type 0 where
+  pub pool : List Constant
+  pub signature : Signature
+  pub code : Code
+  pub placed : List Placed
+
+pub record IsCase (method : Method) (c : Case) : Type 0 where
+  pub kinds : ArePoolKinds c.pool method.kinds.now
+  pub gives : method.returned ≡ c.signature.result
+  pub instructions : c.code.instructions ≡ map (instruction_in c.pool) method.code.now
+  pub ranges : c.code.ranges ≡ map (range_in c.pool) method.rows.now
+  pub frames : AreTold c.code.max_stack c.code.max_locals c.placed method.frames
+
+-- what is left for an instruction that has no frame
+abbrev pub arriving : Case → ℕ → Option Kinds
+arriving c zero = Some (first_kinds c.signature c.code)
+arriving c (suc number) = goes_on_with c.signature c.code (state_before c.signature c.code c.placed number) (slice_get c.code.instructions number)
+
+abbrev pub kept : Bool → Kinds → Option Kinds
+kept going k = if going then Some k else None
+
+-- the ranges in order are those of the method, and the handlers' frames were looked at, of which none before this instruction lacks what it needs
+pub record IsReady (method : Method) (number : ℕ) (pass : Pass) : Type 0 where
+  pub same : (row : Protected) → Contains method.rows.now row → Contains pass.handlers.rows.items row
+  pub own : (row : Protected) → Contains pass.handlers.rows.items row → Contains method.rows.now row
+  pub unhandled : IsFirstUnhandled method.frames method.rows.now method.unhandled
+  pub later : (least : ℕ) → method.unhandled ≡ Some least → number ≤ least
+
+-- what is known of the pass, where it goes through the code of a case
+pub record Before (method : Method) (c : Case) (number : ℕ) (pass : Pass) : Type 0 where
+  pub room : HasRoomOf pass.state c.code
+  pub arrives : arriving c number ≡ kept pass.going pass.state.kinds
+  pub known : IsKnownBut pass.changed method.frames number pass.state.kinds.locals pass.handlers
+  pub ready : IsReady method number pass
+
+-- ---- the steps of the pass
+
+-- whether kinds stand before the instruction, and which
+abbrev pub MeetsFrame : Bool → Option Told → ℕ → Pass → Pass → Type 0
+MeetsFrame true None number old new = (old.going ≡ true) × (new.state.kinds ≡ old.state.kinds) × (new.changed ≡ old.changed)
+MeetsFrame true (Some told) number old new =
+    (standing_in old.state told.locals.value.items told.stack.items ≡ Some new.state.kinds) × (new.changed ≡ changes.All) × (number ≡ 0 → Flows old.state.kinds told)
+MeetsFrame false None number old new = old.going ≡ false
+MeetsFrame false (Some told) number old new =
+    (standing_in old.state told.locals.value.items told.stack.items ≡ None) ⊎ ((number ≡ 0) × (Flows old.state.kinds told → ⊥))
+
+-- what is left flows to where the run goes on
+pub record Flowing (method : Method) (number : ℕ) (left : Kinds) (i : Instruction) : Type 0 where
+  pub jumps : JumpsFlow left method.frames (targets i)
+  pub goes_on : ends i ≡ false → (suc number < length method.code.now) × FlowsTo left (told_at method.frames (suc number))
+
+pub record Leaving (method : Method) (number : ℕ) (left : Kinds) (going : Bool) (changed : Changed) (i : Instruction) (flows : Bool) : Type 0 where
+  pub goes : going ≡ not (ends i)
+  pub changes : ChangesOnly changed i
+  pub decides : IsRun i → Decides flows (Flowing method number left i)
+
+-- whether the instruction holds, and what is known before the next one
+abbrev pub Answers : Bool → Method → Case → ℕ → Pass → Type 0
+Answers true method c number pass = Holds c.signature c.code c.placed number × Before method c (suc number) pass
+Answers false method c number pass = Holds c.signature c.code c.placed number → ⊥
+
+-- the first instruction that doesn't hold, if there is one
+abbrev pub IsFirst : Case → Option ℕ → Type 0
+IsFirst c None = (number : ℕ) → number < length c.code.instructions → Holds c.signature c.code c.placed number
+IsFirst c (Some number) = IsFirstFault c.signature c.code c.placed number

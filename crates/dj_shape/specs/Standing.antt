@@ -1,0 +1,79 @@
+-- The code's own: what is known before an instruction, and what its steps answer.
+use Rattle.std.specs.Prelude.{◌≡◌, ◌≤◌, ℕ, Bool, true, false, ◌&&◌, List, [], ◌∷◌, length, reverse, Option, Some, None, nat_le, if◌then◌else◌}
+use Rattle.dj_names.specs.declared.descriptor.Kind.{Kind}
+use Rattle.dj_model.specs.Program.{Code}
+use Rattle.dj_model.specs.Initialisation.{padded}
+use Rattle.dj_model.specs.Kinds.{Kinds, Signature, depth}
+use Rattle.dj_model.specs.Shape.{taken}
+use Rattle.dj_model.specs.Values.{Cut}
+use Rattle.dj_shape.specs.declared.state.Piece.{Piece}
+use Rattle.dj_shape.specs.declared.state.Piece.TheVariants as pieces
+
+-- the kinds of the local variables and of the operands, where there is room for so many
+pub record Standing : Type 0 where
+  pub max_stack : ℕ
+  pub max_locals : ℕ
+  pub kinds : Kinds
+
+-- there is room as in the code
+abbrev pub HasRoomOf : Standing → Code → Type 0
+HasRoomOf s code = (s.max_stack ≡ code.max_stack) × (s.max_locals ≡ code.max_locals)
+
+abbrev pub SameRoom : Standing → Standing → Type 0
+SameRoom old new = (new.max_stack ≡ old.max_stack) × (new.max_locals ≡ old.max_locals)
+
+-- the method gives this
+abbrev pub GivesResult : Signature → Option Kind → Type 0
+GivesResult signature result = result ≡ signature.result
+
+-- the answer tells whether something is left, and it is this
+abbrev pub Leaves : {A : Type 0} → Bool → Option A → A → Type 0
+Leaves true left now = left ≡ Some now
+Leaves false left now = left ≡ None
+
+-- the operands count so much
+abbrev pub IsDepth : ℕ → List Kind → Type 0
+IsDepth count stack = count ≡ depth stack
+
+-- no local variable has a kind, and there is no operand
+abbrev pub no_kinds : ℕ → Kinds
+no_kinds max_locals = record { locals = padded max_locals []; stack = [] }
+
+-- local variables in their slots and operands, the top last, where there is room for them
+abbrev pub standing_in : Standing → List (Option Kind) → List Kind → Option Kinds
+standing_in s locals stack =
+    if nat_le (length locals) s.max_locals && nat_le (depth stack) s.max_stack
+    then Some (record { locals = padded s.max_locals locals; stack = reverse stack }) else None
+
+-- no more local variables are kept than were, or than so many
+abbrev pub IsWithin : ℕ → List (Option Kind) → List (Option Kind) → Type 0
+IsWithin count old new = (most : ℕ) → count ≤ most → length old ≤ most → length new ≤ most
+
+-- where there are so many local variables, this became of all of them
+abbrev pub ArePadded : ℕ → List (Option Kind) → (List (Option Kind) → List (Option Kind)) → List (Option Kind) → Type 0
+ArePadded count old change new = (most : ℕ) → count ≤ most → length old ≤ most → padded most new ≡ change (padded most old)
+
+-- of the code, what the kinds after an instruction depend on
+abbrev pub room : Standing → Code
+room s = record { max_stack = s.max_stack; max_locals = s.max_locals; instructions = []; ranges = []; frames = None }
+
+-- nothing but the operands changed
+abbrev pub SameLocals : Standing → Standing → Type 0
+SameLocals old new = (new.kinds.locals ≡ old.kinds.locals) × SameRoom old new
+
+-- the answer tells whether the top operand has the kind, and the operands below it are these
+abbrev pub Takes : Bool → Kind → List Kind → List Kind → Type 0
+Takes true kind old new = (wanted : List Kind) → taken (kind ∷ wanted) old ≡ taken wanted new
+Takes false kind old new = (wanted : List Kind) → taken (kind ∷ wanted) old ≡ None
+
+-- ---- the upper operands
+
+-- the top first
+abbrev pub piece_kinds : Piece → List Kind
+piece_kinds (pieces.One kind) = kind ∷ []
+piece_kinds (pieces.Two top under) = top ∷ under ∷ []
+
+-- the answer tells whether they were cut, and which operands are left
+abbrev pub IsCut : Option Piece → Option (Cut Kind) → List Kind → Type 0
+IsCut None cut rest = cut ≡ None
+IsCut (Some piece) cut rest = cut ≡ Some (record { top = piece_kinds piece; rest = rest })

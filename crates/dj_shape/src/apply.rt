@@ -1,0 +1,186 @@
+ghost use Rattle.std.specs.Prelude.{◌≡◌, List, [], Some, None, Option, if◌then◌else◌, reverse, IfOk};
+ghost use Rattle.dj_names.specs.declared.descriptor.Kind.TheVariants as kinds;
+ghost use Rattle.dj_pool.specs.Pool.{Constant};
+ghost use Rattle.dj_program.specs.Naming.{instruction_in};
+ghost use Rattle.dj_model.specs.Program.{Code};
+ghost use Rattle.dj_model.specs.Kinds.{Signature};
+ghost use Rattle.dj_model.specs.Values.{local_at};
+ghost use Rattle.dj_model.specs.Shape.{after, gives, is_kind, result_list, same_result, taken};
+ghost use Rattle.dj_shape.specs.Pools.{ArePoolKinds, call_at};
+ghost use Rattle.dj_shape.specs.Standing.{HasRoomOf, SameRoom, SameLocals, Leaves, GivesResult, room};
+ghost use Rattle.dj_shape.specs.Works.{arguments_of, called, is_counted, performed, work_of, work_view};
+
+use crate::effect::{
+    Effect, array_effect, class_effect, interface_effect, jump_effect, literal_effect,
+    local_effect, member_effect, simple_effect,
+};
+use crate::error::ShapeError;
+use crate::kinds::{depth_within, is_kind, same_result};
+use crate::moves::move_operands;
+use crate::pool::{CallKinds, PoolKinds};
+use crate::state::KindState;
+use dj_names::Kind;
+use dj_ops::Instr;
+
+/// Whether the instruction finds what it takes, and what it gives fits. Then the kinds after it stand, and else it doesn't matter which.
+pub fn apply(
+    state: &mut KindState,
+    kinds: &PoolKinds,
+    returned: Option<Kind>,
+    instr: &Instr,
+) -> Result<bool, ShapeError>
+    ensures room { SameRoom state.old state.new }
+    ensures after { IfOk result (λ fits. (pool : List Constant) (signature : Signature) (code : Code) → ArePoolKinds pool kinds.now
+        → GivesResult signature returned → HasRoomOf state.old code
+        → Leaves fits (after signature code (instruction_in pool instr.now) state.old.kinds) state.new.kinds) }
+{
+    perform(state, kinds, returned, effect_of(kinds, instr))
+}
+
+// What an instruction does.
+#[tactic(auto, unfolding(dj_model::specs::Opcodes::instruction_of))]
+fn effect_of(kinds: &PoolKinds, instr: &Instr) -> Effect
+    ensures { (pool : List Constant) → ArePoolKinds pool kinds.now → work_view kinds.now.calls result ≡ work_of (instruction_in pool instr.now) }
+{
+    match instr {
+        Instr::Simple { op } => simple_effect(*op),
+        Instr::Push { .. } => Effect::Gives(&[], Some(Kind::Int)),
+        Instr::Local { op, slot, .. } => local_effect(*op, *slot),
+        Instr::Inc { slot, .. } => Effect::Increment(*slot),
+        Instr::Branch { op, .. } => jump_effect(*op),
+        Instr::Table { .. } | Instr::Lookup { .. } => Effect::Gives(&[Kind::Int], None),
+        Instr::Array { base } => array_effect(*base),
+        Instr::Literal { op, index } => literal_effect(*op, kinds.constant(*index)),
+        Instr::Member { op, index } => member_effect(*op, kinds.constant(*index)),
+        Instr::Interface { index, count } => interface_effect(*count, kinds.constant(*index)),
+        Instr::Class { op, index } => class_effect(*op, kinds.constant(*index)),
+        Instr::Dynamic { .. } | Instr::Multi { .. } => Effect::Fails,
+    }
+}
+
+// ---- what is done
+
+fn load(state: &mut KindState, kind: Kind, slot: u16) -> Result<bool, ShapeError>
+    ensures room { SameRoom state.old state.new }
+    ensures left { IfOk result (λ fits. Leaves fits
+        (if is_kind kind (local_at state.old.kinds.locals slot) then gives (room state.old) state.old.kinds [] (Some kind) else None) state.new.kinds) }
+{
+    if is_kind(kind, state.local_at(usize::from(slot))) {
+        state.push(Some(kind))
+    } else {
+        Ok(false)
+    }
+}
+
+fn increment(state: &mut KindState, slot: u16) -> Result<bool, ShapeError>
+    ensures room { SameRoom state.old state.new }
+    ensures left { IfOk result (λ fits. Leaves fits
+        (if is_kind kinds.Int (local_at state.old.kinds.locals slot) then gives (room state.old) state.old.kinds [] None else None) state.new.kinds) }
+{
+    if is_kind(Kind::Int, state.local_at(usize::from(slot))) {
+        state.push(None)
+    } else {
+        Ok(false)
+    }
+}
+
+fn give_back(
+    state: &mut KindState,
+    kind: Option<Kind>,
+    returned: Option<Kind>,
+) -> Result<bool, ShapeError>
+    ensures room { SameRoom state.old state.new }
+    ensures left { IfOk result (λ fits. Leaves fits
+        (if same_result kind returned then gives (room state.old) state.old.kinds (result_list kind) None else None) state.new.kinds) }
+{
+    if !same_result(kind, returned) {
+        return Ok(false);
+    }
+    match kind {
+        None => state.push(None),
+        Some(kind) => state.give(&[kind], None),
+    }
+}
+
+// Whether the count that stands beside a method's index is that of its parameters' slots and one.
+fn is_counted(count: Option<u8>, parameters: &[Kind]) -> bool
+    ensures { result ≡ is_counted count parameters.now }
+{
+    match count {
+        None => true,
+        Some(count) => match depth_within(parameters, 255) {
+            None => false,
+            Some(slots) => u32::from(count) == slots + 1,
+        },
+    }
+}
+
+// Whether the operands are what a method takes, the last parameter on top. They are popped.
+#[tactic(auto, using(crate::proofs::Works::no_parameters))]
+fn take_arguments(state: &mut KindState, is_static: bool, parameters: &[Kind]) -> bool
+    ensures locals { SameLocals state.old state.new }
+    ensures taken { Leaves result (taken (reverse (arguments_of is_static parameters.now)) state.old.kinds.stack) state.new.kinds.stack }
+{
+    state.take_back(parameters) && (is_static || state.take(Kind::Ref))
+}
+
+fn call_method(
+    state: &mut KindState,
+    is_static: bool,
+    count: Option<u8>,
+    call: &CallKinds,
+) -> Result<bool, ShapeError>
+    ensures room { SameRoom state.old state.new }
+    ensures left { IfOk result (λ fits. Leaves fits
+        (called (room state.old) state.old.kinds is_static count (Some call.now)) state.new.kinds) }
+{
+    if is_counted(count, call.parameters()) && take_arguments(state, is_static, call.parameters()) {
+        state.push(call.result())
+    } else {
+        Ok(false)
+    }
+}
+
+// What a call does, whose method's descriptor has this index.
+fn call_by(
+    state: &mut KindState,
+    kinds: &PoolKinds,
+    is_static: bool,
+    count: Option<u8>,
+    desc: u16,
+) -> Result<bool, ShapeError>
+    ensures room { SameRoom state.old state.new }
+    ensures left { IfOk result (λ fits. Leaves fits
+        (called (room state.old) state.old.kinds is_static count (call_at kinds.now.calls desc)) state.new.kinds) }
+{
+    match kinds.call(desc) {
+        None => Ok(false),
+        Some(call) => call_method(state, is_static, count, call),
+    }
+}
+
+fn perform(
+    state: &mut KindState,
+    kinds: &PoolKinds,
+    returned: Option<Kind>,
+    effect: Effect,
+) -> Result<bool, ShapeError>
+    ensures room { SameRoom state.old state.new }
+    ensures performed { IfOk result (λ fits. Leaves fits
+        (performed returned (room state.old) state.old.kinds (work_view kinds.now.calls effect)) state.new.kinds) }
+{
+    match effect {
+        Effect::Gives(wanted, given) => state.give(wanted, given),
+        Effect::Load(kind, slot) => load(state, kind, slot),
+        Effect::Store(kind, slot) => state.store(kind, slot),
+        Effect::Increment(slot) => increment(state, slot),
+        Effect::Move(movement) => move_operands(state, movement),
+        Effect::Return(kind) => give_back(state, kind, returned),
+        Effect::Call {
+            is_static,
+            count,
+            desc,
+        } => call_by(state, kinds, is_static, count, desc),
+        Effect::Fails => Ok(false),
+    }
+}

@@ -1,0 +1,190 @@
+ghost use Rattle.std.specs.Prelude.{◌≡◌, ℕ, List, All, Option, Decides};
+ghost use Rattle.dj_pool.specs.Pool.{Constant};
+ghost use Rattle.dj_program.specs.Naming.{instruction_in};
+ghost use Rattle.dj_model.specs.Instructions.{Nothing, ends, makes_uninitialised, targets};
+ghost use Rattle.dj_model.specs.Kinds.{Signature};
+ghost use Rattle.dj_model.specs.Opcodes.{jump_rows, last_rows, operand_does, row_does, simple};
+ghost use Rattle.dj_shape.specs.Forms.{FlowsAt, FormFlows, StoresAt, StoresInForm, around, form_ends};
+ghost use Rattle.dj_shape.specs.Makes.{form_makes, is_class};
+ghost use Rattle.dj_shape.specs.Pools.{ArePoolKinds};
+ghost use Rattle.dj_shape.specs.Passing.{ChangesOnly, IsRun, JumpsFlow};
+ghost use Rattle.dj_shape.specs.Works.{work_of, work_view};
+
+use crate::effect::{Effect, local_effect, simple_effect};
+use crate::flows::flows_to_frame;
+use crate::frames::Told;
+use crate::needs::Changed;
+use crate::pool::{ConstantKind, PoolKinds};
+use crate::state::KindState;
+use dj_ops::Instr;
+use std::collections::BTreeMap;
+
+// ---- whether the run never goes on at the next instruction
+
+fn last_ends(op: u8) -> bool
+    ensures { result ≡ ends (row_does last_rows Nothing op) }
+{
+    match op {
+        172..=173 | 176..=177 | 191 => true,
+        133 | 136 | 145..=148 | 190 | 194..=195 => false,
+        _ => false, // none that is run
+    }
+}
+
+// The same of an instruction without operands.
+fn simple_ends(op: u8) -> bool
+    ensures { result ≡ ends (simple Nothing op) }
+{
+    if op < 133 {
+        return false;
+    }
+    last_ends(op)
+}
+
+// The same of a jump.
+fn jump_ends(op: u8) -> bool
+    ensures { (target : ℕ) → result ≡ ends (operand_does jump_rows Nothing op target) }
+{
+    match op {
+        167 | 200 => true,
+        153..=166 | 198..=199 => false,
+        _ => false, // none that is run
+    }
+}
+
+fn form_ends(instr: &Instr) -> bool
+    ensures { result ≡ form_ends instr.now }
+{
+    match instr {
+        Instr::Simple { op } => simple_ends(*op),
+        Instr::Branch { op, .. } => jump_ends(*op),
+        Instr::Table { .. } | Instr::Lookup { .. } => true,
+        _ => false,
+    }
+}
+
+/// Whether the run never goes on at the instruction after it.
+pub fn ends(instr: &Instr) -> bool
+    ensures { (pool : List Constant) → result ≡ ends (instruction_in pool instr.now) }
+{
+    form_ends(instr)
+}
+
+// ---- which local variables may have another kind after it
+
+fn effect_slot(effect: Effect) -> Option<u16>
+    ensures { (calls : List (Option Signature)) → StoresAt result (work_view calls effect) }
+{
+    match effect {
+        Effect::Store(_, slot) => Some(slot),
+        _ => None,
+    }
+}
+
+// The slot in which it stores, if it does.
+fn stored_slot(instr: &Instr) -> Option<u16>
+    ensures { StoresInForm result instr.now }
+{
+    match instr {
+        Instr::Simple { op } => effect_slot(simple_effect(*op)),
+        Instr::Local { op, slot, .. } => effect_slot(local_effect(*op, *slot)),
+        _ => None,
+    }
+}
+
+fn around(slot: Option<u16>) -> Changed
+    ensures { result ≡ around slot }
+{
+    match slot {
+        None => Changed::Some(0, 0),
+        Some(slot) => {
+            let slot = usize::from(slot);
+            Changed::Some(slot.saturating_sub(1), slot + 2)
+        }
+    }
+}
+
+/// The local variables that may have another kind after it.
+pub fn changed_by(instr: &Instr) -> Changed
+    ensures { (pool : List Constant) → ChangesOnly result (instruction_in pool instr.now) }
+{
+    around(stored_slot(instr))
+}
+
+// ---- where it jumps to
+
+fn flows_at(state: &KindState, frames: &BTreeMap<u64, Told>, target: i64) -> bool
+    ensures { Decides result (FlowsAt state.now.kinds frames.now target) }
+{
+    flows_to_frame(state, frames, target.unsigned_abs())
+}
+
+fn all_flow(state: &KindState, frames: &BTreeMap<u64, Told>, targets: &[i64]) -> bool
+    ensures { Decides result (All (FlowsAt state.now.kinds frames.now) targets.now) }
+{
+    for target in targets {
+        if !flows_at(state, frames, *target) {
+            return false;
+        }
+    }
+    true
+}
+
+fn pairs_flow(state: &KindState, frames: &BTreeMap<u64, Told>, pairs: &[(i32, i64)]) -> bool
+    ensures { Decides result (All (λ pair. FlowsAt state.now.kinds frames.now pair.1) pairs.now) }
+{
+    for pair in pairs {
+        if !flows_at(state, frames, pair.1) {
+            return false;
+        }
+    }
+    true
+}
+
+fn form_flows(state: &KindState, frames: &BTreeMap<u64, Told>, instr: &Instr) -> bool
+    ensures { Decides result (FormFlows state.now.kinds frames.now instr.now) }
+{
+    match instr {
+        Instr::Branch { target, .. } => flows_at(state, frames, *target),
+        Instr::Table {
+            default,
+            targets,
+            ..
+        } => { flows_at(state, frames, *default) && all_flow(state, frames, targets.as_slice()) }
+        Instr::Lookup { default, pairs } => {
+            flows_at(state, frames, *default) && pairs_flow(state, frames, pairs.as_slice())
+        }
+        _ => true,
+    }
+}
+
+/// Whether each target of the instruction has a frame, into which these kinds flow, if it is one that is run.
+pub fn jumps_flow(state: &KindState, frames: &BTreeMap<u64, Told>, instr: &Instr) -> bool
+    ensures { (pool : List Constant) → IsRun (instruction_in pool instr.now) → Decides result (JumpsFlow state.now.kinds frames.now (targets (instruction_in pool instr.now))) }
+{
+    form_flows(state, frames, instr)
+}
+
+// ---- what it makes
+
+fn is_class(constant: ConstantKind) -> bool
+    ensures { result ≡ is_class constant }
+{
+    matches!(constant, ConstantKind::Class)
+}
+
+fn form_makes(kinds: &PoolKinds, instr: &Instr) -> bool
+    ensures { result ≡ form_makes kinds.now.constants instr.now }
+{
+    match instr {
+        Instr::Class { op, index } => *op == 187 && is_class(kinds.constant(*index)),
+        _ => false,
+    }
+}
+
+/// Whether it makes an object of a class.
+pub fn makes_object(kinds: &PoolKinds, instr: &Instr) -> bool
+    ensures { (pool : List Constant) → ArePoolKinds pool kinds.now → result ≡ makes_uninitialised (instruction_in pool instr.now) }
+{
+    form_makes(kinds, instr)
+}

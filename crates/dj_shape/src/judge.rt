@@ -1,0 +1,150 @@
+ghost use Rattle.std.specs.Prelude.{◌≡◌, ◌<◌, ◌^◌, ◌++◌, length, map, List, Some, IfOk};
+ghost use Rattle.dj_pool.specs.Pool.{Constant};
+ghost use Rattle.dj_model.specs.Kinds.{Signature};
+ghost use Rattle.dj_declared.specs.Files.{name_in};
+ghost use Rattle.dj_declared.specs.Members.{IsDescriptor};
+ghost use Rattle.dj_program.specs.Codes.{code_in};
+ghost use Rattle.dj_program.specs.Views.{parts_of};
+ghost use Rattle.dj_shape.specs.Judging.{IsFaultOf, IsJudged, fault_told};
+ghost use Rattle.dj_shape.specs.Passing.{Case, IsFirst};
+ghost use Rattle.dj_shape.specs.Pools.{ArePoolKinds};
+ghost use Rattle.dj_shape.specs.Reading.{entries_with, signature_with};
+ghost use Rattle.dj_shape.specs.Rule.{signature_at, IsShapeAnswer};
+
+use crate::error::ShapeError;
+use crate::frames::Told;
+use crate::pass::{Method, Pass, first_unhandled};
+use crate::pool::{CallKinds, PoolKinds};
+use crate::reading::{objects_made, read_frames, slots_of};
+use crate::state::KindState;
+use dj_names::Kind;
+use dj_ops::Frames;
+use dj_program::MethodCode;
+use std::alloc::Global;
+use std::collections::BTreeMap;
+
+/// Code without shape.
+#[derive(Clone, Copy, Debug, PartialEq, Eq)]
+pub struct ShapeFault {
+    /// The number of the instruction at which it fails, none where the stack map is none.
+    pub number: Option<u32>,
+}
+
+// Appends kinds, each as an entry.
+fn add_kinds(entries: &mut Vec<Option<Kind>>, kinds: &[Kind]) -> Result<(), ShapeError>
+    ensures { IfOk result (λ x. entries.new.items ≡ entries.old.items ++ map (λ kind. Some kind) kinds.now) }
+{
+    for kind in kinds {
+        entries.push(Some(*kind))?;
+    }
+    Ok(())
+}
+
+// The parameters, each with its kind, the object first on which the method is called.
+fn parameter_entries(
+    alloc: Global,
+    is_static: bool,
+    call: &CallKinds,
+) -> Result<Vec<Option<Kind>>, ShapeError>
+    ensures { IfOk result (λ entries. entries.items ≡ entries_with is_static call.now) }
+{
+    let mut entries = Vec::new(alloc);
+    if !is_static {
+        entries.push(Some(Kind::Ref))?;
+    }
+    add_kinds(&mut entries, call.parameters())?;
+    Ok(entries)
+}
+
+// The first instruction that doesn't hold, of code whose frames were read, before which these kinds stand.
+fn judge(
+    alloc: Global,
+    kinds: &PoolKinds,
+    returned: Option<Kind>,
+    code: &MethodCode,
+    frames: BTreeMap<u64, Told>,
+    state: KindState,
+) -> Result<Option<u32>, ShapeError>
+    requires { length code.now.code.code < 2 ^ 32 }
+    ensures { IfOk result (λ fault. (c : Case) → IsJudged kinds.now returned code.now frames state c → IsFirst c fault) }
+{
+    let rows = code.code.ranges.as_slice();
+    let unhandled = first_unhandled(&frames, rows);
+    let method = Method {
+        kinds,
+        code: code.code.code.as_slice(),
+        rows,
+        frames,
+        returned,
+        unhandled,
+    };
+    let mut pass = Pass::new(alloc, &method, state)?;
+    pass.first_fault(&method)
+}
+
+// The first fault of code with a stack map.
+fn fault_with_frames(
+    alloc: Global,
+    kinds: &PoolKinds,
+    is_static: bool,
+    call: &CallKinds,
+    code: &MethodCode,
+    frames: &Frames,
+) -> Result<Option<u32>, ShapeError>
+    requires { length code.now.code.code < 2 ^ 32 }
+    ensures { IfOk result (λ fault. (pool : List Constant) → ArePoolKinds pool kinds.now → code.now.frames ≡ Some frames.now
+        → IsFaultOf (signature_with is_static call.now) (code_in pool (parts_of code.now)) fault) }
+{
+    let entries = parameter_entries(alloc, is_static, call)?;
+    let locals = slots_of(alloc, &entries)?;
+    let mut state = KindState::new(alloc, code.max_stack, code.max_locals);
+    if !state.set(&locals, &[])? {
+        return Ok(Some(0));
+    }
+    let made = objects_made(alloc, kinds, code.code.code.as_slice())?;
+    match read_frames(
+        alloc,
+        (code.max_stack, code.max_locals),
+        &made,
+        entries,
+        locals,
+        frames.as_slice(),
+    )? {
+        Err(at) => Ok(Some(at)),
+        Ok(told) => judge(alloc, kinds, call.result(), code, told, state),
+    }
+}
+
+fn fault_told(fault: Option<u32>) -> Option<ShapeFault>
+    ensures { result ≡ fault_told fault }
+{
+    match fault {
+        None => None,
+        Some(number) => Some(ShapeFault {
+            number: Some(number),
+        }),
+    }
+}
+
+/// The first fault of code in shape, if it has one. The descriptor is told by the index of its text, which is that of a method without floats and doubles.
+pub fn shape(
+    alloc: Global,
+    kinds: &PoolKinds,
+    is_static: bool,
+    desc: u16,
+    code: &MethodCode,
+) -> Result<Option<ShapeFault>, ShapeError>
+    requires { length code.now.code.code < 2 ^ 32 }
+    ensures { IfOk result (λ fault. (pool : List Constant) (signature : Signature) → ArePoolKinds pool kinds.now
+        → IsDescriptor (name_in pool desc) → signature_at pool is_static desc ≡ Some signature → IsShapeAnswer signature (code_in pool (parts_of code.now)) fault) }
+{
+    let Some(frames) = &code.frames else {
+        return Ok(Some(ShapeFault { number: None }));
+    };
+    // The descriptor is one whose kinds are kept.
+    let Some(call) = kinds.call(desc) else {
+        return Ok(None);
+    };
+    let fault = fault_with_frames(alloc, kinds, is_static, call, code, frames)?;
+    Ok(fault_told(fault))
+}

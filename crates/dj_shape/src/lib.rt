@@ -1,0 +1,23 @@
+//! The rule SHAPE: the kinds of values that stand in the local variables and on the operands of a method's code (JVMS 4.10.1).
+#![tactic(auto)]
+
+mod apply;
+mod effect;
+mod error;
+mod flows;
+mod frames;
+mod handlers;
+mod instrs;
+mod judge;
+mod kinds;
+mod moves;
+mod needs;
+mod pass;
+mod pool;
+mod reading;
+mod state;
+
+pub use dj_program::MethodCode;
+pub use error::ShapeError;
+pub use judge::{ShapeFault, shape};
+pub use pool::{CallKinds, PoolKinds, pool_kinds};

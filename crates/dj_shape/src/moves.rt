@@ -1,0 +1,106 @@
+ghost use Rattle.std.specs.Prelude.{◌++◌, Some, IfOk};
+ghost use Rattle.dj_model.specs.Numbers.{is_wide};
+ghost use Rattle.dj_model.specs.Shape.{leaving};
+ghost use Rattle.dj_model.specs.Values.{below, doubled, dropped, moved, one_slot, swapped, under};
+ghost use Rattle.dj_shape.specs.Standing.{SameRoom, SameLocals, Leaves, IsCut, piece_kinds, room};
+ghost use Rattle.dj_shape.specs.Works.{cut_of, move_view, put_under};
+
+use crate::effect::{Movement, Slots};
+use crate::error::ShapeError;
+use crate::state::{KindState, Piece};
+
+// The upper operands, which are popped.
+fn cut(state: &mut KindState, slots: Slots) -> Option<Piece>
+    ensures locals { SameLocals state.old state.new }
+    ensures cut { IsCut result (cut_of slots state.old.kinds.stack) state.new.kinds.stack }
+{
+    match slots {
+        Slots::One => state.cut_one(),
+        Slots::Two => state.cut_two(),
+    }
+}
+
+// Whether there is room for these operands, and for those above them.
+#[tactic(auto, using(crate::proofs::States::depth_append))]
+fn put_both(state: &mut KindState, first: Piece, second: Piece) -> Result<bool, ShapeError>
+    ensures room { SameRoom state.old state.new }
+    ensures put { IfOk result (λ fits. Leaves fits
+        (leaving (room state.old) state.old.kinds.locals (Some (piece_kinds second ++ (piece_kinds first ++ state.old.kinds.stack)))) state.new.kinds) }
+{
+    Ok(state.put(first)? && state.put(second)?)
+}
+
+fn dropped(state: &mut KindState, slots: Slots) -> Result<bool, ShapeError>
+    ensures room { SameRoom state.old state.new }
+    ensures left { IfOk result (λ fits. Leaves fits
+        (leaving (room state.old) state.old.kinds.locals (dropped (cut_of slots state.old.kinds.stack))) state.new.kinds) }
+{
+    match cut(state, slots) {
+        None => Ok(false),
+        Some(_) => state.push(None),
+    }
+}
+
+fn doubled(state: &mut KindState, slots: Slots) -> Result<bool, ShapeError>
+    ensures room { SameRoom state.old state.new }
+    ensures left { IfOk result (λ fits. Leaves fits
+        (leaving (room state.old) state.old.kinds.locals (doubled (cut_of slots state.old.kinds.stack))) state.new.kinds) }
+{
+    match cut(state, slots) {
+        None => Ok(false),
+        Some(top) => put_both(state, top, top),
+    }
+}
+
+// The top is put once more below what is cut under it.
+#[tactic(auto, using(crate::proofs::States::depth_append))]
+fn put_under(state: &mut KindState, top: Piece, slots: Slots) -> Result<bool, ShapeError>
+    ensures room { SameRoom state.old state.new }
+    ensures left { IfOk result (λ fits. Leaves fits
+        (leaving (room state.old) state.old.kinds.locals (under (piece_kinds top) (cut_of slots state.old.kinds.stack))) state.new.kinds) }
+{
+    match cut(state, slots) {
+        None => Ok(false),
+        Some(below) => Ok(put_both(state, top, below)? && state.put(top)?),
+    }
+}
+
+fn doubled_under(state: &mut KindState, slots: Slots, under: Slots) -> Result<bool, ShapeError>
+    ensures room { SameRoom state.old state.new }
+    ensures left { IfOk result (λ fits. Leaves fits
+        (leaving (room state.old) state.old.kinds.locals (put_under under (cut_of slots state.old.kinds.stack))) state.new.kinds) }
+{
+    match cut(state, slots) {
+        None => Ok(false),
+        Some(top) => put_under(state, top, under),
+    }
+}
+
+fn swapped(state: &mut KindState) -> Result<bool, ShapeError>
+    ensures room { SameRoom state.old state.new }
+    ensures left { IfOk result (λ fits. Leaves fits
+        (leaving (room state.old) state.old.kinds.locals (swapped is_wide (one_slot is_wide state.old.kinds.stack))) state.new.kinds) }
+{
+    let Some(top) = state.cut_one() else {
+        return Ok(false);
+    };
+    match state.cut_one() {
+        None => Ok(false),
+        Some(below) => put_both(state, top, below),
+    }
+}
+
+/// Whether the operands are such that they can be moved so, and what is left fits.
+#[tactic(auto, using(crate::proofs::Works::moved_under), unfolding(dj_model::specs::Values::moved))]
+pub fn move_operands(state: &mut KindState, movement: Movement) -> Result<bool, ShapeError>
+    ensures room { SameRoom state.old state.new }
+    ensures left { IfOk result (λ fits. Leaves fits
+        (leaving (room state.old) state.old.kinds.locals (moved is_wide (move_view movement) state.old.kinds.stack)) state.new.kinds) }
+{
+    match movement {
+        Movement::Drop(slots) => dropped(state, slots),
+        Movement::Double(slots) => doubled(state, slots),
+        Movement::Under(slots, under) => doubled_under(state, slots, under),
+        Movement::Swap => swapped(state),
+    }
+}

@@ -1,0 +1,94 @@
+ghost use Rattle.std.specs.Prelude.{◌≡◌, ℕ, ◌<◌, ◌≤◌, length, IfOk, MatchBool};
+ghost use Rattle.dj_model.specs.Values.{local_at};
+ghost use Rattle.dj_shape.specs.Needs.{AreRaised, AreSame, IsChanged, Meets, MissesOne, need_at, raised};
+
+use crate::error::ShapeError;
+use crate::flows::has_kind;
+use dj_names::Kind;
+
+/// A local variable has this kind before each instruction up to the one of this number, as frames of handlers tell.
+#[derive(Clone, Copy)]
+pub struct Need {
+    pub until: u32,
+    pub kind: Kind,
+}
+
+/// The local variables that may have another kind than before the instruction before.
+#[derive(Clone, Copy)]
+pub enum Changed {
+    All,
+    /// From the first slot up to the last without it.
+    Some(usize, usize),
+}
+
+// The slots that may have changed, of so many.
+fn changed_slots(changed: Changed, count: usize) -> (usize, usize)
+    ensures bound { result.1 ≤ count }
+    ensures all { (slot : ℕ) → slot < count → IsChanged changed slot → (result.0 ≤ slot) × (slot < result.1) }
+{
+    match changed {
+        Changed::All => (0, count),
+        Changed::Some(from, to) => (from, to.min(count)),
+    }
+}
+
+/// Whether the local variables that may have changed have the kinds that are needed before the instruction.
+pub fn meets(needs: &[Need], number: u32, locals: &[Option<Kind>], changed: Changed) -> bool
+    ensures { MatchBool result ((slot : ℕ) → slot < length needs.now → IsChanged changed slot → Meets needs.now number locals.now slot)
+        (MissesOne needs.now number locals.now) }
+{
+    let (from, to) = changed_slots(changed, needs.len());
+    for slot in from..to {
+        let need = needs[slot];
+        if number < need.until && !has_kind(locals, slot, need.kind) {
+            return false;
+        }
+    }
+    true
+}
+
+// Nothing is needed of local variables that weren't kept yet.
+fn grow(needs: &mut Vec<Need>, count: usize) -> Result<(), ShapeError>
+    ensures many { IfOk result (λ x. count ≤ length needs.new.items) }
+    ensures same { IfOk result (λ x. AreSame needs.old.items needs.new.items) }
+{
+    for _ in needs.len()..count {
+        needs.push(Need {
+            until: 0,
+            kind: Kind::Int,
+        })?;
+    }
+    Ok(())
+}
+
+// The local variable is needed up to the end, with the kind that is told, if one is.
+fn note(needs: &mut [Need], slot: usize, told: Option<Kind>, end: u32)
+    requires { slot < length needs.old }
+    ensures count { length needs.new ≡ length needs.old }
+    ensures here { need_at needs.new slot ≡ raised told end (need_at needs.old slot) }
+    ensures others { (other : ℕ) → (other ≡ slot → ⊥) → need_at needs.new other ≡ need_at needs.old other }
+{
+    if let Some(kind) = told {
+        let until = needs[slot].until.max(end);
+        needs[slot] = Need { until, kind };
+    }
+}
+
+// Each of the local variables of which a kind is told is needed up to the end.
+fn note_all(needs: &mut [Need], told: &[Option<Kind>], end: u32)
+    requires { length told.now ≤ length needs.old }
+    ensures { AreRaised told.now end needs.old needs.new }
+{
+    for (slot, kind) in told.iter().enumerate() {
+        note(needs, slot, *kind, end);
+    }
+}
+
+/// Each local variable of which the frame of a handler tells a kind is needed up to the end of its range.
+pub fn raise(needs: &mut Vec<Need>, told: &[Option<Kind>], end: u32) -> Result<(), ShapeError>
+    ensures { IfOk result (λ x. AreRaised told.now end needs.old.items needs.new.items) }
+{
+    grow(needs, told.len())?;
+    note_all(needs, told, end);
+    Ok(())
+}

@@ -1,0 +1,11 @@
+pub mod Texts
+pub mod Numbers
+pub mod Rising
+pub mod Told
+pub mod Starts
+pub mod Placed
+pub mod First
+pub mod Homes
+pub mod Sums
+pub mod FieldSums
+mod Facts

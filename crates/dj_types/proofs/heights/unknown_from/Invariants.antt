@@ -1,0 +1,8 @@
+use Rattle.std.proofs.Common.{All, IfSome, length, ◌<◌}
+use Rattle.dj_types.proofs.heights.unknown_from.Given as goal
+
+abbrev pub invariant-loop : goal.invariant-loop
+invariant-loop l = record {
+  path : All (λ k. k < length l.table) l.path.items;
+  next : IfSome l.next (λ k. k < length l.table);
+}

@@ -1,0 +1,17 @@
+use Rattle.std.proofs.Common.{◌≡◌, ℕ, ◌+◌, ◌<◌, length, sym, ap, ◌∙◌, arith}
+use Rattle.std.proofs.lemmas.List.{length-map}
+use Rattle.dj_model.specs.Program.{fields_of}
+use Rattle.dj_types.specs.Members.{fields_in}
+use Rattle.dj_types.specs.Numbered.{counts_of}
+use Rattle.dj_types.proofs.Starts.{summed_more, count_there, counts_length}
+use Rattle.dj_types.proofs.members.field_starts.Goals as goal
+
+pub loop-class-preserved : goal.loop-class-preserved
+loop-class-preserved c =
+    let table = c.args.table.now in
+    let lt : c.loop-class.class < length table = let e = c.class_count-class-end.ensures.count in let t = c.loop-class-test.true in omega (arith, e, t) in
+    let count : c.field_count.result ≡ _ =
+    count_there fields_in table c.loop-class.class c.field_count.result lt (λ class at. c.field_count.ensures ∙ ap (λ o. length (fields_of o)) at ∙ sym (length-map class.fields _)) in
+    let long = counts_length fields_in table in
+    summed_more (counts_of fields_in table) c.loop-class.class c.loop-class.starts.items c.push.new.self.items c.loop-class.start c.in_ok-start.start (omega (arith, lt, long))
+    c.loop-class.invariant c.in_ok-push.ensures.items (c.in_ok-start.ensures ∙ ap (λ (n : ℕ). c.loop-class.start + n) count)

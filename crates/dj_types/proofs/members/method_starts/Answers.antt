@@ -1,0 +1,17 @@
+use Rattle.std.proofs.Common.{◌≡◌, ℕ, ◌+◌, ◌<◌, length, sym, ap, ◌∙◌, arith}
+use Rattle.std.proofs.lemmas.List.{length-map}
+use Rattle.dj_classes.specs.Tables.{methods_of}
+use Rattle.dj_types.specs.Members.{methods_in}
+use Rattle.dj_types.specs.Numbered.{counts_of}
+use Rattle.dj_types.proofs.Starts.{summed_more, count_there, counts_length}
+use Rattle.dj_types.proofs.members.method_starts.Goals as goal
+
+pub loop-class-preserved : goal.loop-class-preserved
+loop-class-preserved c =
+    let table = c.args.table.now in
+    let lt : c.loop-class.class < length table = let e = c.class_count-class-end.ensures.count in let t = c.loop-class-test.true in omega (arith, e, t) in
+    let count : c.method_count.result ≡ _ =
+    count_there methods_in table c.loop-class.class c.method_count.result lt (λ class at. c.method_count.ensures ∙ ap (λ o. length (methods_of o)) at ∙ sym (length-map class.methods _)) in
+    let long = counts_length methods_in table in
+    summed_more (counts_of methods_in table) c.loop-class.class c.loop-class.starts.items c.push.new.self.items c.loop-class.start c.in_ok-start.start (omega (arith, lt, long))
+    c.loop-class.invariant c.in_ok-push.ensures.items (c.in_ok-start.ensures ∙ ap (λ (n : ℕ). c.loop-class.start + n) count)

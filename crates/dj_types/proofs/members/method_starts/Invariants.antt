@@ -1,0 +1,8 @@
+use Rattle.dj_types.specs.Members.{methods_in}
+use Rattle.dj_types.specs.Numbered.{counts_of}
+use Rattle.dj_types.proofs.Starts.{IsSummed}
+use Rattle.dj_types.proofs.members.method_starts.Given as goal
+
+-- the classes so far
+abbrev pub invariant-loop-class : goal.invariant-loop-class
+invariant-loop-class l = IsSummed (counts_of methods_in l.table) l.class l.starts.items l.start

@@ -1,0 +1,5 @@
+pub mod Typed
+pub mod Members
+pub mod Shapes
+pub mod Numbered
+pub mod Kept

@@ -1,0 +1,76 @@
+-- What is kept of fields and methods: how many stand in the classes before each class, and how many instance fields each class has.
+use Rattle.std.specs.Prelude.{◌≡◌, ℕ, ◌+◌, ◌^◌, ◌<◌, ◌≤◌, List, [], ◌∷◌, map, take, length, sum, get_or, Option, Some, None, slice_get}
+use Rattle.dj_model.specs.Program.{Program, Class}
+use Rattle.dj_model.specs.Linking.{most_classes, own_field_count}
+use Rattle.dj_classes.specs.declared.place.Place.{Place}
+use Rattle.dj_linking.specs.Numbers.{numbers_up}
+use Rattle.dj_types.specs.declared.members.Members.{Members}
+use Rattle.dj_types.specs.declared.heights.Height.{Height}
+use Rattle.dj_types.specs.Members.{all_methods, all_fields, methods_in, fields_in}
+
+-- ---- numbers of members
+
+-- how many each class has
+abbrev pub counts_of : {F : Type 0} → (Class → List F) → Program → List ℕ
+counts_of items program = map (λ c. length (items c)) program
+
+-- how many stand before each place
+pub record AreStarts (counts starts : List ℕ) : Type 0 where
+  pub long : length starts ≡ length counts
+  pub each : (k : ℕ) → k < length counts → get_or starts k 0 ≡ sum (take k counts)
+
+-- none stands before the first
+pub record IsBegun (starts : List ℕ) (number : ℕ) : Type 0 where
+  pub some : 0 < length starts
+  pub first : get_or starts 0 0 ≤ number
+
+-- the member of the number is counted where it starts, and before the next one
+pub record IsStartOf (starts : List ℕ) (number : ℕ) (place : Place) : Type 0 where
+  pub there : place.class < length starts
+  pub reached : get_or starts place.class 0 + place.member ≡ number
+  pub before : place.class + 1 < length starts → number < get_or starts (place.class + 1) 0
+
+-- ---- instance fields
+
+-- those of classes by their numbers
+abbrev pub fields_of_numbers : Program → List ℕ → ℕ
+fields_of_numbers program [] = 0
+fields_of_numbers program (k ∷ ks) = own_field_count (slice_get program k) + fields_of_numbers program ks
+
+-- those of a class and of its superclasses
+abbrev pub fields_up : Program → ℕ → ℕ
+fields_up program class = fields_of_numbers program (numbers_up most_classes program (Some class))
+
+pub record AreSums (program : Program) (sums : List ℕ) : Type 0 where
+  pub long : length sums ≡ length program
+  pub each : (k : ℕ) → k < length program → get_or sums k 0 ≡ fields_up program k
+
+-- so many levels above, and more, have so many instance fields
+pub record IsHeight (program : Program) (class : Option ℕ) (height : Height) : Type 0 where
+  pub same : (n : ℕ) → fields_of_numbers program (numbers_up (n + height.levels) program class) ≡ height.fields
+  pub few : height.levels < 2 ^ 32
+
+-- that of a class where it is known, and of none where there is no class
+abbrev pub height_at : List (Option Height) → Option ℕ → Option Height
+height_at heights None = Some (record { fields = 0; levels = 0 })
+height_at heights (Some k) = get_or heights k None
+
+-- so many instance fields more, and a level
+pub record AddsTo (above : Height) (fields : ℕ) (height : Height) : Type 0 where
+  pub fields_are : height.fields ≡ above.fields + fields
+  pub levels_are : height.levels ≡ above.levels + 1
+  pub few : height.levels < 2 ^ 32
+
+-- those of the classes that are known
+pub record AreHeights (program : Program) (heights : List (Option Height)) : Type 0 where
+  pub long : length heights ≡ length program
+  pub each : (k : ℕ) (height : Height) → get_or heights k None ≡ Some height → IsHeight program (Some k) height
+
+-- ---- all of it
+
+pub record AreMembers (program : Program) (members : Members) : Type 0 where
+  pub methods : AreStarts (counts_of methods_in program) members.method_starts.items
+  pub fields : AreStarts (counts_of fields_in program) members.field_starts.items
+  pub sums : AreSums program members.field_sums.items
+  pub few_methods : length (all_methods program) < 2 ^ 32
+  pub few_fields : length (all_fields program) < 2 ^ 32

@@ -1,0 +1,14 @@
+//! Classes and arrays by numbers, and the fields and methods of classes by numbers.
+#![tactic(auto)]
+
+mod arrays;
+mod error;
+mod heights;
+mod members;
+mod shapes;
+mod types;
+
+pub use dj_classes::Place;
+pub use dj_linking::{BaseNames, Linker};
+pub use error::TypesError;
+pub use types::{FieldId, MemberOf, MethodId, Types};

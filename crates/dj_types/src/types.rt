@@ -1,0 +1,436 @@
+ghost use Rattle.std.specs.Prelude.{◌≡◌, ◌+◌, ◌^◌, ◌<◌, length, Some, None, IfOk, IfSome, slice_get};
+ghost use Rattle.std.specs.Option.{option_map};
+ghost use Rattle.dj_model.specs.Linking.{member_class, place_of};
+ghost use Rattle.dj_model.specs.Types.{string_name};
+ghost use Rattle.dj_declared.specs.Members.{IsDescriptor};
+ghost use Rattle.dj_classes.specs.Tables.{class_number, methods_at, fields_at, method_there, field_there};
+ghost use Rattle.dj_linking.specs.Linked.{prefix_of};
+ghost use Rattle.dj_types.specs.Typed.{texts_of, types_of, type_at, text_number, flags_at, super_at, interfaces_at, component_at, is_subtype_at, string_at, chars_at, stop_at, AreArrays};
+ghost use Rattle.dj_types.specs.Shapes.{IsElement, shape_type};
+ghost use Rattle.dj_types.specs.Members.{all_methods, all_fields, resolved_method, resolved_field, selected, found_method_number, found_field_number, IsMethodThere, IsFieldThere, IsNthMethod, IsNthField, IsFieldCount, number_of_method, number_of_field, methods_before, fields_before};
+
+use crate::arrays::{Arrays, number_in};
+use crate::error::TypesError;
+use crate::heights::field_sums;
+use crate::members::{Members, field_starts, is_descriptor, method_starts, place_in};
+use crate::shapes::{Element, Shape, is_subtype};
+use dj_classes::Place;
+use dj_linking::{BaseNames, Linker};
+use dj_names::Ty;
+use std::alloc::Global;
+use std::marker::Model;
+
+/// The number of a method: its place in the order of classes, and of the methods that each declares.
+#[derive(Clone, Copy, Debug, PartialEq, Eq)]
+pub struct MethodId {
+    pub number: u32,
+}
+
+/// The number of a field: its place in the order of classes, and of the fields that each declares.
+#[derive(Clone, Copy, Debug, PartialEq, Eq)]
+pub struct FieldId {
+    pub number: u32,
+}
+
+/// A field or a method, lent.
+#[derive(Clone, Copy, Debug)]
+pub struct MemberOf<'i> {
+    /// The number of the class that declares it.
+    pub class: u32,
+    /// The access flags (JVMS tables 4.5-A and 4.6-A).
+    pub flags: u16,
+    pub name: &'i [u8],
+    /// The text of its descriptor.
+    pub desc: &'i [u8],
+}
+
+/// Classes and arrays.
+#[derive(Drop)]
+pub struct Types {
+    linker: Linker,
+    arrays: Vec<Ty>,
+    kept: Arrays,
+    members: Members,
+}
+
+impl Model for Types {
+    ghost use Rattle.dj_types.specs.Typed.{Typed};
+
+    ghost Value = { Typed };
+
+    ghost use Rattle.dj_types.specs.Kept.{IsTyped};
+
+    ghost view = { λ types. record { program = types.linker.program; prefix = types.linker.prefix; arrays = types.arrays.items } };
+
+    ghost invariant = { λ types. IsTyped types.linker.program types.arrays.items types.kept types.members };
+}
+
+// The name of String.
+fn string_of(base: BaseNames) -> &'static [u8]
+    ensures { result.now ≡ string_name (prefix_of base) }
+{
+    match base {
+        BaseNames::Plain => b"java/lang/String",
+        BaseNames::Sandbox => b"sandbox/java/lang/String",
+    }
+}
+
+impl Types {
+    /// Numbers the arrays after the classes.
+    pub fn of(alloc: Global, linker: Linker, arrays: Vec<Ty>) -> Result<Types, TypesError>
+        requires arrays { AreArrays linker.program arrays.items }
+        requires few { length linker.program + length arrays.items < 2 ^ 32 }
+        requires few_methods { length (all_methods linker.program) < 2 ^ 32 }
+        requires few_fields { length (all_fields linker.program) < 2 ^ 32 }
+        ensures { IfOk result (λ types. types ≡ record { program = linker.program; prefix = linker.prefix; arrays = arrays.items }) }
+    {
+        let kept = Arrays::of(alloc, linker.classes(), &arrays)?;
+        let members = Members {
+            method_starts: method_starts(alloc, linker.classes())?,
+            field_starts: field_starts(alloc, linker.classes())?,
+            field_sums: field_sums(alloc, linker.classes())?,
+        };
+        Ok(Types {
+            linker,
+            arrays,
+            kept,
+            members,
+        })
+    }
+
+    /// The number of classes and arrays.
+    pub fn class_count(&self) -> u32
+        ensures { result ≡ length (types_of self.now) }
+    {
+        self.linker.classes().class_count() + self.arrays.len() as u32
+    }
+
+    /// The number of the class of this name, or of the array of this descriptor.
+    pub fn class_named(&self, name: &[u8]) -> Option<u32>
+        ensures { result ≡ text_number self.now name.now }
+    {
+        number_in(self.linker.classes(), &self.kept.texts, name)
+    }
+
+    /// The name of a class, or the descriptor of an array.
+    pub fn name_of(&self, class: u32) -> &[u8]
+        requires { class < length (types_of self.now) }
+        ensures { slice_get (texts_of self.now) class ≡ Some result.now }
+    {
+        let table = self.linker.classes();
+        match class.checked_sub(table.class_count()) {
+            Some(array) => self.kept.texts[array as usize].as_slice(),
+            None => table.name_of(class),
+        }
+    }
+
+    /// The access flags of a class (JVMS table 4.1-A); 0 of an array.
+    pub fn flags_of(&self, class: u32) -> u16
+        requires { class < length (types_of self.now) }
+        ensures { result ≡ flags_at self.now class }
+    {
+        let table = self.linker.classes();
+        if class < table.class_count() {
+            table.flags_of(class)
+        } else {
+            0
+        }
+    }
+
+    /// The superclass; none of an array and of a class without a superclass.
+    pub fn super_of(&self, class: u32) -> Option<u32>
+        requires { class < length (types_of self.now) }
+        ensures { result ≡ super_at self.now class }
+    {
+        let table = self.linker.classes();
+        if class < table.class_count() {
+            table.super_of(class)
+        } else {
+            None
+        }
+    }
+
+    /// The interfaces that a class lists; none of an array.
+    pub fn interfaces_of(&self, class: u32) -> &[u32]
+        requires { class < length (types_of self.now) }
+        ensures { result.now ≡ interfaces_at self.now class }
+    {
+        let table = self.linker.classes();
+        if class < table.class_count() {
+            table.interfaces_of(class)
+        } else {
+            &[]
+        }
+    }
+
+    /// What the elements of an array of references are; none of a class and of an array of a base type.
+    pub fn component(&self, class: u32) -> Option<u32>
+        requires { class < length (types_of self.now) }
+        ensures { result ≡ component_at self.now class }
+    {
+        let array = class.checked_sub(self.linker.classes().class_count())?;
+        self.kept.components[array as usize]
+    }
+
+    // The shape of a class or an array.
+    fn shape_of(&self, class: u32) -> Shape
+        requires { class < length (types_of self.now) }
+        ensures is { shape_type self.now.program result ≡ type_at self.now class }
+        ensures element { IsElement self.now.program result.of }
+    {
+        match class.checked_sub(self.linker.classes().class_count()) {
+            Some(array) => self.kept.shapes[array as usize],
+            None => Shape {
+                dims: 0,
+                of: Element::Class(class),
+            },
+        }
+    }
+
+    /// Whether the first is a subtype of the second (JVMS 4.10.1.2).
+    pub fn sub_type(&self, a: u32, b: u32) -> bool
+        requires first { a < length (types_of self.now) }
+        requires second { b < length (types_of self.now) }
+        ensures { result ≡ is_subtype_at self.now a b }
+    {
+        is_subtype(&self.linker, self.shape_of(a), self.shape_of(b))
+    }
+
+    /// The class String.
+    pub fn string(&self) -> Option<u32>
+        ensures { result ≡ string_at self.now }
+    {
+        self.linker
+            .classes()
+            .class_named(string_of(self.linker.base()))
+    }
+
+    /// The arrays of chars.
+    pub fn chars(&self) -> Option<u32>
+        ensures { result ≡ chars_at self.now }
+    {
+        self.class_named(b"[C")
+    }
+
+    /// The class of the object that stops a run, where it is there.
+    pub fn stop(&self) -> Option<u32>
+        ensures { result ≡ stop_at self.now }
+    {
+        match self.linker.base() {
+            BaseNames::Plain => None,
+            BaseNames::Sandbox => self.linker.classes().class_named(b"djvm/Stop"),
+        }
+    }
+
+    // The class whose members those of a class or an array are, where it is there.
+    fn member_class(&self, class: u32) -> Option<u32>
+        requires { class < length (types_of self.now) }
+        ensures is { result ≡ class_number self.now.program (member_class self.now.prefix (type_at self.now class)) }
+        ensures there { IfSome result (λ k. k < length self.now.program) }
+    {
+        self.linker.classes().names_differ();
+        if class < self.linker.classes().class_count() {
+            Some(class)
+        } else {
+            self.linker.object()
+        }
+    }
+
+    // The place of the method of a number.
+    fn method_place(&self, method: MethodId) -> Place
+        requires { method.number < length (all_methods self.now.program) }
+        ensures there { result.class < length self.now.program }
+        ensures within { result.member < length (methods_at self.now.program result.class) }
+        ensures is { method_there self.now.program result ≡ slice_get (all_methods self.now.program) method.number }
+    {
+        place_in(&self.members.method_starts, method.number)
+    }
+
+    // The number of the method at a place.
+    fn method_id(&self, place: Place) -> MethodId
+        requires there { place.class < length self.now.program }
+        requires within { place.member < length (methods_at self.now.program place.class) }
+        ensures is { slice_get (all_methods self.now.program) result.number ≡ method_there self.now.program place }
+        ensures number { result.number ≡ methods_before self.now.program place.class + place.member }
+    {
+        MethodId {
+            number: self.members.method_starts[place.class as usize] + place.member,
+        }
+    }
+
+    // The number of the first method of its class that has the name and the descriptor of the one at a place.
+    fn first_method(&self, place: Place) -> MethodId
+        requires there { place.class < length self.now.program }
+        requires within { place.member < length (methods_at self.now.program place.class) }
+        ensures { Some result.number ≡ found_method_number self.now.program (method_there self.now.program place) }
+    {
+        let Place { class, member } = place;
+        let table = self.linker.classes();
+        table.names_differ();
+        let name = table.method_name(class, member);
+        let desc = table.method_desc(class, member);
+        match table.method_named(class, name, desc) {
+            Some(first) => self.method_id(Place {
+                class,
+                member: first,
+            }),
+            None => unreachable!(),
+        }
+    }
+
+    // The place of the field of a number.
+    fn field_place(&self, field: FieldId) -> Place
+        requires { field.number < length (all_fields self.now.program) }
+        ensures there { result.class < length self.now.program }
+        ensures within { result.member < length (fields_at self.now.program result.class) }
+        ensures is { field_there self.now.program result ≡ slice_get (all_fields self.now.program) field.number }
+    {
+        place_in(&self.members.field_starts, field.number)
+    }
+
+    // The number of the field at a place.
+    fn field_id(&self, place: Place) -> FieldId
+        requires there { place.class < length self.now.program }
+        requires within { place.member < length (fields_at self.now.program place.class) }
+        ensures is { slice_get (all_fields self.now.program) result.number ≡ field_there self.now.program place }
+        ensures number { result.number ≡ fields_before self.now.program place.class + place.member }
+    {
+        FieldId {
+            number: self.members.field_starts[place.class as usize] + place.member,
+        }
+    }
+
+    // The number of the first field of its class that has the name and the descriptor of the one at a place.
+    fn first_field(&self, place: Place) -> FieldId
+        requires there { place.class < length self.now.program }
+        requires within { place.member < length (fields_at self.now.program place.class) }
+        ensures { Some result.number ≡ found_field_number self.now.program (field_there self.now.program place) }
+    {
+        let Place { class, member } = place;
+        let table = self.linker.classes();
+        table.names_differ();
+        let name = table.field_name(class, member);
+        let desc = table.field_desc(class, member);
+        match table.field_named(class, name, desc) {
+            Some(first) => self.field_id(Place {
+                class,
+                member: first,
+            }),
+            None => unreachable!(),
+        }
+    }
+
+    /// The number of instance fields of a class, inherited ones included.
+    pub fn field_count(&self, class: u32) -> u32
+        requires { class < length self.now.program }
+        ensures { IsFieldCount self.now class result }
+    {
+        self.linker.classes().names_differ();
+        self.members.field_sums[class as usize]
+    }
+
+    /// The method at a place among those that a class declares, or none past the last.
+    pub fn method_at(&self, class: u32, at: u32) -> Option<MethodId>
+        requires { class < length (types_of self.now) }
+        ensures { IsNthMethod self.now class at (option_map number_of_method result) }
+    {
+        let table = self.linker.classes();
+        if table.class_count() <= class || table.method_count(class) <= at as usize {
+            return None;
+        }
+        Some(self.method_id(Place { class, member: at }))
+    }
+
+    /// The field at a place among those that a class declares, or none past the last.
+    pub fn field_at(&self, class: u32, at: u32) -> Option<FieldId>
+        requires { class < length (types_of self.now) }
+        ensures { IsNthField self.now class at (option_map number_of_field result) }
+    {
+        let table = self.linker.classes();
+        if table.class_count() <= class || table.field_count(class) <= at as usize {
+            return None;
+        }
+        Some(self.field_id(Place { class, member: at }))
+    }
+
+    /// The method of a number.
+    pub fn method(&self, method: MethodId) -> MemberOf<'_>
+        requires { method.number < length (all_methods self.now.program) }
+        ensures { IsMethodThere self.now method.number result }
+    {
+        let Place { class, member } = self.method_place(method);
+        let table = self.linker.classes();
+        MemberOf {
+            class,
+            flags: table.method_flags(class, member),
+            name: table.method_name(class, member),
+            desc: table.method_desc(class, member),
+        }
+    }
+
+    /// The field of a number.
+    pub fn field(&self, field: FieldId) -> MemberOf<'_>
+        requires { field.number < length (all_fields self.now.program) }
+        ensures { IsFieldThere self.now field.number result }
+    {
+        let Place { class, member } = self.field_place(field);
+        let table = self.linker.classes();
+        MemberOf {
+            class,
+            flags: table.field_flags(class, member),
+            name: table.field_name(class, member),
+            desc: table.field_desc(class, member),
+        }
+    }
+
+    /// The place of an instance field among those of an object.
+    pub fn place(&self, field: FieldId) -> u32
+        requires { field.number < length (all_fields self.now.program) }
+        ensures { Some result ≡ option_map (place_of self.now.program) (slice_get (all_fields self.now.program) field.number) }
+    {
+        let Place { class, member } = self.field_place(field);
+        let table = self.linker.classes();
+        table.names_differ();
+        let others = self.members.field_sums[class as usize] - table.instance_fields(class);
+        others + table.instance_fields_before(class, member)
+    }
+
+    /// The method to which a name and a descriptor resolve in a class or an array (JVMS 5.4.3.3 and 5.4.3.4).
+    pub fn resolve_method(&self, class: u32, name: &[u8], desc: &[u8]) -> Option<MethodId>
+        requires { class < length (types_of self.now) }
+        ensures found { IsDescriptor desc.now → option_map number_of_method result ≡ found_method_number self.now.program (resolved_method self.now class name.now desc.now) }
+        ensures none { (IsDescriptor desc.now → ⊥) → result ≡ None }
+    {
+        if !is_descriptor(desc) {
+            return None;
+        }
+        let class = self.member_class(class)?;
+        let place = self.linker.resolve_method(class, name, desc)?;
+        Some(self.first_method(place))
+    }
+
+    /// The field to which a name and a descriptor resolve in a class or an array (JVMS 5.4.3.2).
+    pub fn resolve_field(&self, class: u32, name: &[u8], desc: &[u8]) -> Option<FieldId>
+        requires { class < length (types_of self.now) }
+        ensures found { IsDescriptor desc.now → option_map number_of_field result ≡ found_field_number self.now.program (resolved_field self.now class name.now desc.now) }
+        ensures none { (IsDescriptor desc.now → ⊥) → result ≡ None }
+    {
+        if !is_descriptor(desc) {
+            return None;
+        }
+        let class = self.member_class(class)?;
+        let place = self.linker.resolve_field(class, name, desc)?;
+        Some(self.first_field(place))
+    }
+
+    /// The method that is taken where a method is called on an object of a class or an array (JVMS 6.5, invokevirtual and invokeinterface).
+    pub fn select(&self, method: MethodId, class: u32) -> Option<MethodId>
+        requires there { method.number < length (all_methods self.now.program) }
+        requires class { class < length (types_of self.now) }
+        ensures { option_map number_of_method result ≡ found_method_number self.now.program (selected self.now method.number class) }
+    {
+        let class = self.member_class(class);
+        let taken = self.linker.select(self.method_place(method), class)?;
+        Some(self.first_method(taken))
+    }
+}

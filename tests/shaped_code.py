@@ -1,0 +1,219 @@
+"""Makes methods of texts, for the cases on rule 19: instructions by their names, with labels, frames and rows of an exception table.
+
+A text has instructions, separated by commas, as
+
+    iconst_0, ifeq Else, goto End, Else: {same} nop, !End: {append int} return
+
+Before an instruction may stand labels, each with a colon; its frame in braces; and `!`, by which a case tells that rule 19 has
+this instruction's number. An instruction is a name of JVMS 6.5 and its operands: a number, a slot, labels, a type of newarray, a class, or
+a class, a name and a descriptor. `wide` stands before the name. A tableswitch has its least number and a label for each number from there on,
+a lookupswitch a number and a label for each; the last word is the default's label. ldc and its like have the name of a constant.
+
+Frames are `same`, `stack TYPE`, `chop N`, `append TYPE..` and `full TYPE.. / TYPE..`; `same+` and `stack+` are the forms with two bytes
+of delta. Types are those of TYPES, `ref`, which is of Object, `ref:CLASS`, and `new:LABEL`. Rows are `FROM TO HANDLER`, and a class where they
+catch no others, separated by commas; TO may be `end`.
+"""
+
+import re
+
+from class_files import DOUBLE, FIELD, FLOAT, INTEGER, INTERFACE_METHOD, LONG, METHOD, PUBLIC, STATIC, code, invoke_dynamic, row, u1, u2, u4
+
+
+def expanded(text):
+    for name in text.split():
+        yield from [name[:-1] + str(number) for number in range(4)] if name.endswith("_n") else [name]
+
+
+NAMES = "nop aconst_null iconst_m1 iconst_0 iconst_1 iconst_2 iconst_3 iconst_4 iconst_5 lconst_0 lconst_1 fconst_0 fconst_1 fconst_2 dconst_0"
+NAMES += " dconst_1 bipush sipush ldc ldc_w ldc2_w iload lload fload dload aload iload_n lload_n fload_n dload_n aload_n iaload laload faload"
+NAMES += " daload aaload baload caload saload istore lstore fstore dstore astore istore_n lstore_n fstore_n dstore_n astore_n iastore lastore"
+NAMES += " fastore dastore aastore bastore castore sastore pop pop2 dup dup_x1 dup_x2 dup2 dup2_x1 dup2_x2 swap iadd ladd fadd dadd isub lsub"
+NAMES += " fsub dsub imul lmul fmul dmul idiv ldiv fdiv ddiv irem lrem frem drem ineg lneg fneg dneg ishl lshl ishr lshr iushr lushr iand land"
+NAMES += " ior lor ixor lxor iinc i2l i2f i2d l2i l2f l2d f2i f2l f2d d2i d2l d2f i2b i2c i2s lcmp fcmpl fcmpg dcmpl dcmpg ifeq ifne iflt ifge"
+NAMES += " ifgt ifle if_icmpeq if_icmpne if_icmplt if_icmpge if_icmpgt if_icmple if_acmpeq if_acmpne goto jsr ret tableswitch lookupswitch"
+NAMES += " ireturn lreturn freturn dreturn areturn return getstatic putstatic getfield putfield invokevirtual invokespecial invokestatic"
+NAMES += " invokeinterface invokedynamic new newarray anewarray arraylength athrow checkcast instanceof monitorenter monitorexit wide"
+NAMES += " multianewarray ifnull ifnonnull goto_w jsr_w breakpoint"
+OPCODES = {name: op for op, name in enumerate(expanded(NAMES))}
+assert OPCODES["breakpoint"] == 202
+
+BASES = dict(zip("boolean char float double byte short int long".split(), range(4, 12)))
+TYPES = {"top": 0, "int": 1, "float": 2, "double": 3, "long": 4, "null": 5, "this": 6}
+CONSTANTS = {"int": INTEGER, "float": FLOAT, "long": LONG, "double": DOUBLE}
+
+WITH_SLOT = tuple(kind + each for kind in "ilfda" for each in ("load", "store")) + ("ret", "iinc")
+OF_FIELDS = ("getstatic", "putstatic", "getfield", "putfield")
+OF_CLASSES = ("new", "anewarray", "checkcast", "instanceof")
+
+
+def signed(number, size):
+    return int(number).to_bytes(size, "big", signed=True)
+
+
+def parameters(descriptor):
+    return re.findall(r"\[*(?:L[^;]*;|[A-Z])", descriptor[1 : descriptor.index(")")])
+
+
+def slots_of(descriptor):
+    return sum(2 if text in "JD" else 1 for text in parameters(descriptor))
+
+
+class Text:
+    """What stands before each instruction of a text, and its words."""
+
+    PART = re.compile(r"\s*(?:(!)|(\w+):|\{([^}]*)\})")
+
+    def __init__(self, text):
+        self.words, self.frames, self.labels, self.marked = [], {}, {}, None
+        for number, part in enumerate(text.split(",")):
+            found = self.PART.match(part)
+            while found:
+                mark, label, frame = found.groups()
+                if mark:
+                    assert self.marked is None
+                    self.marked = number
+                elif label:
+                    self.labels[label] = number
+                else:
+                    self.frames[number] = frame
+                part = part[found.end() :]
+                found = self.PART.match(part)
+            self.words.append(part.split())
+        self.labels["end"] = len(self.words)
+
+
+class Body:
+    """The code of a text, with its stack map and its rows."""
+
+    def __init__(self, pool, text, rows=""):
+        self.pool, self.text, self.starts = pool, Text(text), [0]
+        for words in self.text.words:
+            self.starts.append(self.starts[-1] + len(self.bytes_of(words, self.starts[-1], 0)))
+        parts = [self.bytes_of(words, at) for words, at in zip(self.text.words, self.starts)]
+        self.code = b"".join(parts)
+        self.rows = [self.row(*each.split()) for each in rows.split(",") if each]
+
+    def address(self, label):
+        return self.starts[self.text.labels[label]]
+
+    def row(self, start, end, handler, of_class=None):
+        return *map(self.address, (start, end, handler)), self.pool.class_name(of_class) if of_class else 0
+
+    def bytes_of(self, words, at, target=None):
+        """The bytes of an instruction at this address; each label stands for the target, where one is told."""
+
+        def offset(label, size):
+            return signed(self.address(label) - at if target is None else target, size)
+
+        name, *operands = words
+        if name == "wide":
+            name, slot, *more = operands
+            return b"\xc4" + u1(OPCODES[name]) + u2(int(slot)) + b"".join(signed(each, 2) for each in more)
+        op = u1(OPCODES[name])
+        if name in ("bipush", "sipush"):
+            return op + signed(operands[0], 1 if name == "bipush" else 2)
+        if name in WITH_SLOT:
+            return op + u1(int(operands[0])) + b"".join(signed(each, 1) for each in operands[1:])
+        if name in ("goto_w", "jsr_w"):
+            return op + offset(operands[0], 4)
+        if name in ("tableswitch", "lookupswitch"):
+            return op + bytes(-(at + 1) % 4) + offset(operands[-1], 4) + self.table(name, operands[:-1], offset)
+        if name == "newarray":
+            return op + u1(BASES[operands[0]])
+        if name.startswith("if") or name in ("goto", "jsr"):
+            return op + offset(operands[0], 2)
+        return op + self.constant(name, operands) if operands else op
+
+    def table(self, name, operands, offset):
+        if name == "tableswitch":
+            low, targets = int(operands[0]), operands[1:]
+            return signed(low, 4) + signed(low + len(targets) - 1, 4) + b"".join(offset(label, 4) for label in targets)
+        pairs = list(zip(operands[::2], operands[1::2]))
+        return u4(len(pairs)) + b"".join(signed(match, 4) + offset(label, 4) for match, label in pairs)
+
+    def constant(self, name, operands):
+        if name.startswith("ldc"):
+            index = self.constant_named(operands[0])
+            return u1(index) if name == "ldc" else u2(index)
+        if name in OF_CLASSES:
+            return u2(self.pool.class_name(operands[0]))
+        if name == "multianewarray":
+            return u2(self.pool.class_name(operands[0])) + u1(int(operands[1]))
+        if name == "invokedynamic":
+            return u2(self.pool.once(invoke_dynamic(0, self.pool.name_and_type(*operands)))) + bytes(2)
+        tag = FIELD if name in OF_FIELDS else INTERFACE_METHOD if name == "invokeinterface" else METHOD
+        index = u2(self.pool.member(tag, *operands[:3]))
+        if name != "invokeinterface":
+            return index
+        return index + bytes([int(operands[3]) if operands[3:] else 1 + slots_of(operands[2]), 0])
+
+    def constant_named(self, name):
+        if name in CONSTANTS:
+            return self.pool.once(CONSTANTS[name])
+        return self.pool.class_name(name[6:]) if name.startswith("class:") else self.pool.string("x")
+
+    # The stack map.
+
+    def stack_map(self):
+        last, made = -1, []
+        for number, frame in sorted(self.text.frames.items()):
+            delta, last = self.starts[number] - last - 1, self.starts[number]
+            made.append(self.frame(delta, *frame.split()))
+        return u2(len(made)) + b"".join(made)
+
+    def frame(self, delta, form, *operands):
+        if form == "same" and delta < 64:
+            return u1(delta)
+        if form == "stack" and delta < 64:
+            return u1(64 + delta) + self.types(operands)
+        if form == "chop":
+            return u1(251 - int(operands[0])) + u2(delta)
+        if form == "full":
+            middle = operands.index("/")
+            lists = operands[:middle], operands[middle + 1 :]
+            return u1(255) + u2(delta) + b"".join(u2(len(each)) + self.types(each) for each in lists)
+        tag = {"same": 251, "stack": 247, "append": 251 + len(operands)}[form.rstrip("+")]
+        return u1(tag) + u2(delta) + self.types(operands)
+
+    def types(self, told):
+        return b"".join(map(self.type, told))
+
+    def type(self, told):
+        if told in TYPES:
+            return u1(TYPES[told])
+        kind, _, name = told.partition(":")
+        return u1(8) + u2(self.address(name)) if kind == "new" else u1(7) + u2(self.pool.class_name(name or "java/lang/Object"))
+
+    def attribute(self, stack, locals):
+        if not self.text.frames:
+            return code(self.code, stack, locals, self.rows)
+        frames = self.stack_map()
+        listed = row(1, self.pool.text("StackMapTable")) + u4(len(frames)) + frames
+        return code(self.code, stack, locals, self.rows, listed)
+
+
+class Method:
+    """A method that a case tells: its name and its descriptor, `()V` where it has none, with a blank between them where the name has a
+    parenthesis too; and its text."""
+
+    def __init__(self, head, text, rows="", flags=PUBLIC | STATIC, stack=9, locals=9):
+        head = head if "(" in head else head + "()V"
+        self.name, self.descriptor = head.split() if " " in head else (head[: head.index("(")], head[head.index("(") :])
+        self.text, self.rows = text, rows
+        self.flags, self.stack, self.locals = flags, stack, locals
+
+    def made(self, pool):
+        """The method as class_files.py takes it, and the marked number, or None."""
+        body = Body(pool, self.text, self.rows)
+        return (self.name, self.descriptor, self.flags, [body.attribute(self.stack, self.locals)]), body.text.marked
+
+
+def made_all(pool, methods, of_file="A"):
+    """The methods, and the lines that are told of them."""
+    made, lines = [], []
+    for one in methods:
+        method, number = one.made(pool)
+        made.append(method)
+        if number is not None:
+            lines.append("%s %s%s %d 19" % (of_file, one.name, one.descriptor, number))
+    return made, list(dict.fromkeys(lines))
