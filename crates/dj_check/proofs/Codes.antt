@@ -55,7 +55,7 @@ few_bodies (Some body) = omega arith
 -- code with the maps that it has
 pub mapped_code : (pool : List Constant) (info : CodeInfo) (maps : List (List ℕ)) (view : Option WholeCode) → maps_of pool info ≡ maps → IsMappedView info maps view → IsCodeView pool info view
 mapped_code pool info maps None are is = inl is
-mapped_code pool info maps (Some code) are is = record { stack = is.stack; locals = is.locals; bytes = is.bytes; labels = is.labels; maps = are ∙ is.maps_are }
+mapped_code pool info maps (Some code) are is = record { stack = is.stack; locals = is.locals; bytes = is.bytes; labels = is.labels; maps = are ∙ is.maps_are; frames = is.frames }
 
 -- whole code has no fault
 pub whole_code_sound : (pool : List Constant) (info : CodeInfo) (code : WholeCode) → IsWholeCode pool info code → IsFaultyCode pool info → ⊥

@@ -4,6 +4,7 @@ pub mod Anys
 pub mod Stands
 pub mod MarkLaws
 pub mod Judging
+pub mod PlainLaws
 pub mod MethodLaws
 pub mod MapLaws
 pub mod FileLaws

@@ -1,10 +1,9 @@
 -- What methods violate, by their code.
-use Rattle.std.proofs.Common.{◌≡◌, ◌≢◌, ℕ, ◌<◌, ◌^◌, ◌⊎◌, ◌↔◌, Bool, true, false, List, [], ◌∷◌, ◌++◌, length, Option, None, refl, sym, ap, ◌∙◌, subst, inl, inr, arith, Contains, IsTrue, codes}
-use Rattle.std.specs.List.{AllByRecursion}
+use Rattle.std.proofs.Common.{◌≡◌, ◌≢◌, ℕ, ◌<◌, ◌^◌, ◌⊎◌, ◌↔◌, Bool, true, false, List, [], ◌∷◌, length, Option, None, refl, sym, ap, ◌∙◌, subst, inl, inr, arith, Contains, IsTrue}
 use Rattle.std.proofs.lemmas.List.{length-map}
 use Rattle.dj_pool.specs.Pool.{Constant}
-use Rattle.dj_class.specs.ClassFile.{AttributeInfo, MemberInfo, ClassFile}
-use Rattle.dj_class.specs.Code.{CodeInfo, IsCodeAttribute, IsCode}
+use Rattle.dj_class.specs.ClassFile.{MemberInfo, ClassFile}
+use Rattle.dj_class.specs.Code.{CodeInfo, IsCode}
 use Rattle.dj_class.proofs.CodeLaws.{one_code}
 use Rattle.dj_labels.specs.declared.labelled.Labelled.{Labelled}
 use Rattle.dj_labels.specs.Labels.{IsCut, IsLabelled, addressed}
@@ -17,26 +16,17 @@ use Rattle.dj_report.proofs.Adding.{adds_same, adds_both}
 use Rattle.dj_check.specs.declared.code.WholeCode.{WholeCode}
 use Rattle.dj_check.specs.declared.marks.Place.{Place}
 use Rattle.dj_check.specs.declared.marks.Mark.{Mark}
-use Rattle.dj_check.specs.Attributes.{is_named, bodies_of, codes_of, maps_of}
+use Rattle.dj_check.specs.Attributes.{codes_of, maps_of}
 use Rattle.dj_check.specs.Code.{IsCodeOf, IsLabelledOf, IsFloatMap, HasFloatMap}
 use Rattle.dj_check.specs.Floats.{NamesFloat}
 use Rattle.dj_check.specs.Members.{IsFloatMethod, IsInterfaceMethod}
 use Rattle.dj_check.specs.Methods.{CodeViolates, ViolatesWithin, MethodViolates}
 use Rattle.dj_check.specs.Rules.{FieldViolates}
-use Rattle.dj_check.specs.Passes.{IsWholeMethod, IsShortCode, HasMapOf}
+use Rattle.dj_check.specs.Passes.{bodies_in, IsWholeMethod, IsShortCode, HasMapOf}
 use Rattle.dj_check.specs.Marks.{mark_at, place_of, MarksOf, RuledWhole, CodeViolatesAt, CodeMark}
-use Rattle.dj_check.proofs.NamedBodies.{body_if, IsShort}
+use Rattle.dj_check.proofs.NamedBodies.{maps_short}
 
 -- ---- whole code is short
-
-short_more : (named : Bool) (a : AttributeInfo) (bodies : List (List ℕ)) → IsShort a.body → AllByRecursion IsShort bodies → AllByRecursion IsShort (body_if named a ++ bodies)
-short_more true a bodies short all = (short, all)
-short_more false a bodies short all = all
-
-code_bodies_short : (pool : List Constant) (name : List ℕ) (attributes : List AttributeInfo) → AllByRecursion IsCodeAttribute attributes → AllByRecursion IsShort (bodies_of pool name attributes)
-code_bodies_short pool name [] all = tt
-code_bodies_short pool name (a ∷ attributes) all =
-    short_more (is_named pool name a) a (bodies_of pool name attributes) all.0.body (code_bodies_short pool name attributes all.1)
 
 few_instrs : (code : List ℕ) (labelled : Labelled) (starts : List ℕ) → length code < 2 ^ 16 → IsCut code starts (addressed starts labelled.code) (length code) → length labelled.code < 2 ^ 32
 few_instrs code labelled starts small cut =
@@ -53,7 +43,7 @@ short_code pool m code is =
     record {
       few = subst (λ (bytes : List ℕ). length bytes < 2 ^ 16) (sym is.whole.whole.bytes) small;
       instrs = few_instrs info.code code.labelled is.whole.whole.labels.starts small is.whole.whole.labels.cut;
-      map = subst (AllByRecursion IsShort) is.whole.whole.maps (code_bodies_short pool (codes "StackMapTable") info.attributes valid.attributes);
+      map = maps_short pool info (bodies_in code.map) valid.attributes is.whole.whole.maps;
     }
 
 -- ---- the code of a method is one

@@ -1,13 +1,14 @@
 -- The bodies of attributes of one name.
-use Rattle.std.proofs.Common.{◌≡◌, ℕ, zero, suc, ◌+◌, ◌<◌, ◌≤◌, ◌^◌, Bool, true, false, cond, List, [], ◌∷◌, ◌++◌, length, map, take, get_or, Bor, refl, sym, ap, ◌∙◌, subst, append-nil, arith}
+use Rattle.std.proofs.Common.{◌≡◌, ℕ, zero, suc, ◌+◌, ◌<◌, ◌≤◌, ◌^◌, Bool, true, false, cond, codes, List, [], ◌∷◌, ◌++◌, length, map, take, get_or, Bor, refl, sym, ap, ◌∙◌, subst, append-nil, arith}
 use Rattle.std.specs.List.{flat_map, AllByRecursion}
 use Rattle.std.proofs.lemmas.List.{take_more, map_push}
 use Rattle.std.proofs.lemmas.Grind.{flat_map-append}
 use Rattle.dj_class.specs.declared.class.Attribute.{Attribute}
 use Rattle.dj_pool.specs.Pool.{Constant}
 use Rattle.dj_class.specs.ClassFile.{AttributeInfo, IsAttribute}
+use Rattle.dj_class.specs.Code.{CodeInfo, IsCodeAttribute}
 use Rattle.dj_class.specs.Parts.{attribute_of}
-use Rattle.dj_check.specs.Attributes.{is_named, bodies_of}
+use Rattle.dj_check.specs.Attributes.{is_named, bodies_of, maps_of}
 
 abbrev pub now_of : Bor (List ℕ) → List ℕ
 now_of b = b.now
@@ -60,6 +61,14 @@ bodies_short pool name [] all = tt
 bodies_short pool name (a ∷ attributes) all =
     short_more (is_named pool name a) a (bodies_of pool name attributes) all.0.body (bodies_short pool name attributes all.1)
 
+code_bodies_short : (pool : List Constant) (name : List ℕ) (attributes : List AttributeInfo) → AllByRecursion IsCodeAttribute attributes → AllByRecursion IsShort (bodies_of pool name attributes)
+code_bodies_short pool name [] all = tt
+code_bodies_short pool name (a ∷ attributes) all =
+    short_more (is_named pool name a) a (bodies_of pool name attributes) all.0.body (code_bodies_short pool name attributes all.1)
+
+pub maps_short : (pool : List Constant) (info : CodeInfo) (maps : List (List ℕ)) → AllByRecursion IsCodeAttribute info.attributes → maps_of pool info ≡ maps → AllByRecursion IsShort maps
+maps_short pool info maps all are = subst (AllByRecursion IsShort) are (code_bodies_short pool (codes "StackMapTable") info.attributes all)
+
 pub body_short : (pool : List Constant) (name : List ℕ) (attributes : List AttributeInfo) (body : List ℕ) → AllByRecursion (IsAttribute pool) attributes
     → bodies_of pool name attributes ≡ body ∷ [] → IsShort body
 body_short pool name attributes body all one = (subst (AllByRecursion IsShort) one (bodies_short pool name attributes all)).0
@@ -87,3 +96,8 @@ short_each (b ∷ bodies) all (suc k) d lt = short_each bodies all.1 k d (omega 
 pub each_short : (pool : List Constant) (name : List ℕ) (attributes : List AttributeInfo) (bodies : List (Bor (List ℕ))) → AllByRecursion (IsAttribute pool) attributes
     → map now_of bodies ≡ bodies_of pool name attributes → (k : ℕ) (d : Bor (List ℕ)) → k < length bodies → IsShort (get_or bodies k d).now
 each_short pool name attributes bodies all are = short_each bodies (subst (AllByRecursion IsShort) (sym are) (bodies_short pool name attributes all))
+
+-- so is each of the stack maps of code
+pub each_map_short : (pool : List Constant) (info : CodeInfo) (bodies : List (Bor (List ℕ))) → AllByRecursion IsCodeAttribute info.attributes
+    → map now_of bodies ≡ maps_of pool info → (k : ℕ) (d : Bor (List ℕ)) → k < length bodies → IsShort (get_or bodies k d).now
+each_map_short pool info bodies all are = short_each bodies (subst (AllByRecursion IsShort) (sym are) (code_bodies_short pool (codes "StackMapTable") info.attributes all))

@@ -1,5 +1,5 @@
 -- The code of a method whose Code attribute is sound, and the frames of its stack map.
-use Rattle.std.specs.Prelude.{◌≡◌, ℕ, ◌⊎◌, List, length, Contains}
+use Rattle.std.specs.Prelude.{◌≡◌, ℕ, ◌⊎◌, List, [], ◌∷◌, length, Contains, Option, Some, None}
 use Rattle.dj_ops.specs.declared.instruction.Instr.{Instr}
 use Rattle.dj_ops.specs.declared.frames.VType.{VType}
 use Rattle.dj_ops.specs.declared.frames.VType.TheVariants as types
@@ -58,3 +58,21 @@ MapsFloat pool code = (body : List ℕ) × Contains (maps_of pool code) body × 
 -- the stack map of the method's code has one
 abbrev pub HasFloatMap : List Constant → MemberInfo → Type 0
 HasFloatMap pool m = (code : CodeInfo) × IsCodeOf pool m code × MapsFloat pool code
+
+-- ---- frames
+
+-- the frames of the body of a stack map, or none where it is none, for code with instructions at these addresses
+abbrev pub AreFramesAt : List ℕ → List ℕ → Option (List Frame) → Type 0
+AreFramesAt starts body (Some frames) = IsStackMap body starts frames
+AreFramesAt starts body None = (frames : List Frame) → IsStackMap body starts frames → ⊥
+
+pub record AreFramesOf (code body : List ℕ) (frames : Option (List Frame)) : Type 0 where
+  pub starts : List ℕ
+  pub instrs : List Instr
+  pub cut : IsCut code starts instrs (length code)
+  pub are : AreFramesAt starts body frames
+
+-- by the bodies of the stack maps of code, of which there is one at most
+abbrev pub HasFrames : List ℕ → List (List ℕ) → Option (List Frame) → Type 0
+HasFrames code [] frames = frames ≡ Some []
+HasFrames code (body ∷ bodies) frames = AreFramesOf code body frames

@@ -1,5 +1,5 @@
 -- The rules on instructions: 9 DYNAMIC, 10 REFLECTION, 12 FLOAT, 13 SUBROUTINE, 14 BREAKPOINT and 15 MULTI_ARRAY (JVMS 6.5).
-use Rattle.std.specs.Prelude.{◌≡◌, ℕ, ◌⊎◌, ⊤, List, Option, Some, None, IsTrue, IsSomeAnd, option_and_then}
+use Rattle.std.specs.Prelude.{◌≡◌, ℕ, ◌⊎◌, ⊤, Bool, true, false, not, ◌&&◌, nat_eq, List, Option, Some, None, IsTrue, IsSomeAnd, option_and_then}
 use Rattle.dj_ops.specs.declared.instruction.Instr.{Instr}
 use Rattle.dj_ops.specs.declared.instruction.Instr.TheVariants as instrs
 use Rattle.dj_pool.specs.Pool.{Constant, Float, Double, Class, Handle, MethodType, constant_at}
@@ -92,3 +92,14 @@ IsBreakpoint pool _ = ⊥
 abbrev pub IsMultiArray : List Constant → Instr → Type 0
 IsMultiArray pool (instrs.Multi index dims) = ⊤
 IsMultiArray pool _ = ⊥
+
+-- ---- instructions of no rule
+
+-- an instruction that names no constant, and whose opcode is of no rule; there are others of which no rule is violated
+abbrev pub is_plain : Instr → Bool
+is_plain (instrs.Simple op) = not (is_float_op op) && not (nat_eq op 202)
+is_plain (instrs.Push op value) = true
+is_plain (instrs.Local op slot wide) = not (is_float_op op) && not (nat_eq op 169)
+is_plain (instrs.Inc slot by wide) = true
+is_plain (instrs.Branch op target) = not (is_subroutine_jump op)
+is_plain _ = false

@@ -2,6 +2,7 @@
 use Rattle.std.specs.Prelude.{◌≡◌, ◌≢◌, ◌↔◌, ℕ, Bool, true, false, IsTrue, ◌⊎◌, ◌<◌, ◌^◌, List, [], ◌∷◌, length, Contains, Option, Some, None}
 use Rattle.std.specs.List.{AllByRecursion}
 use Rattle.std.specs.Borrow.{Bor}
+use Rattle.dj_ops.specs.declared.frames.Frame.{Frame}
 use Rattle.dj_ops.specs.declared.rows.CatchRow.{CatchRow}
 use Rattle.dj_pool.specs.Pool.{Constant}
 use Rattle.dj_class.specs.ClassFile.{MemberInfo, ClassFile}
@@ -9,11 +10,13 @@ use Rattle.dj_report.specs.declared.report.PathFile.{PathFile}
 use Rattle.dj_rules.specs.Violations.{this_name}
 use Rattle.dj_class.specs.Code.{CodeInfo, IsCode}
 use Rattle.dj_labels.specs.declared.labelled.Labelled.{Labelled}
+use Rattle.dj_labels.specs.declared.labelled.Labelling.{Labelling}
 use Rattle.dj_labels.specs.declared.errors.CodeError.{CodeError}
 use Rattle.dj_labels.specs.declared.errors.CodeError.TheVariants as code_errors
 use Rattle.dj_frames.specs.declared.read.FrameError.{FrameError}
 use Rattle.dj_frames.specs.declared.read.FrameError.TheVariants as frame_errors
 use Rattle.dj_labels.specs.Labels.{IsLabelled}
+use Rattle.dj_labels.specs.Passes.{AreStarts}
 use Rattle.dj_check.specs.declared.code.WholeCode.{WholeCode}
 use Rattle.dj_check.specs.declared.code.MethodCode.{MethodCode}
 use Rattle.dj_check.specs.declared.code.MethodCode.TheVariants as methods
@@ -21,7 +24,7 @@ use Rattle.dj_check.specs.declared.good.GoodFile.{GoodFile}
 use Rattle.dj_check.specs.Heads.{HasRepeats}
 use Rattle.dj_check.specs.Gathered.{IsHeadOf}
 use Rattle.dj_check.specs.Attributes.{codes_of, maps_of}
-use Rattle.dj_check.specs.Code.{IsFloatMap}
+use Rattle.dj_check.specs.Code.{HaveFloatType, IsFloatMap, AreFramesAt, HasFrames}
 use Rattle.dj_check.specs.Malformed.{IsRefused, IsGood, LacksLabels, IsFaultyCode, IsFaultyBody, IsFaultyMethod}
 
 -- ---- code
@@ -36,10 +39,25 @@ abbrev pub lacks_memory_of_frames : FrameError → Bool
 lacks_memory_of_frames frame_errors.Memory = true
 lacks_memory_of_frames _ = false
 
--- the labels of code, or none where there are none
-abbrev pub IsLabelling : List ℕ → List CatchRow → Option Labelled → Type 0
+-- the labels of code, and where its instructions start
+pub record IsLabellingOf (code : List ℕ) (table : List CatchRow) (labelling : Labelling) : Type 0 where
+  pub labels : IsLabelled code table labelling.labelled
+  pub starts : AreStarts code labelling.starts.items
+
+-- or none where there are none
+abbrev pub IsLabelling : List ℕ → List CatchRow → Option Labelling → Type 0
 IsLabelling code table None = (labelled : Labelled) → IsLabelled code table labelled → ⊥
-IsLabelling code table (Some labelled) = IsLabelled code table labelled
+IsLabelling code table (Some labelling) = IsLabellingOf code table labelling
+
+-- the frames by the bodies of the stack maps, of which there is one at most, for code with these starts
+abbrev pub HasFramesAt : List ℕ → List (List ℕ) → Option (List Frame) → Type 0
+HasFramesAt starts [] frames = frames ≡ Some []
+HasFramesAt starts (body ∷ bodies) frames = AreFramesAt starts body frames
+
+-- there are frames, and one of them has a float or a double
+abbrev pub HasFloatFrames : Option (List Frame) → Type 0
+HasFloatFrames None = ⊥
+HasFloatFrames (Some frames) = HaveFloatType frames
 
 -- the body that is there
 abbrev pub bodies_in : Option (Bor (List ℕ)) → List (List ℕ)
@@ -53,6 +71,7 @@ pub record IsWholeCode (pool : List Constant) (info : CodeInfo) (code : WholeCod
   pub bytes : code.code.now ≡ info.code
   pub labels : IsLabelled info.code info.table code.labelled
   pub maps : maps_of pool info ≡ bodies_in code.map
+  pub frames : HasFrames code.code.now (bodies_in code.map) code.frames
 
 -- what is told of code with these bodies of a stack map, at most one, or that it has no labels
 pub record IsMappedCode (info : CodeInfo) (maps : List (List ℕ)) (code : WholeCode) : Type 0 where
@@ -61,6 +80,7 @@ pub record IsMappedCode (info : CodeInfo) (maps : List (List ℕ)) (code : Whole
   pub bytes : code.code.now ≡ info.code
   pub labels : IsLabelled info.code info.table code.labelled
   pub maps_are : maps ≡ bodies_in code.map
+  pub frames : HasFrames code.code.now (bodies_in code.map) code.frames
 
 abbrev pub IsMappedView : CodeInfo → List (List ℕ) → Option WholeCode → Type 0
 IsMappedView info maps None = LacksLabels info

@@ -2,26 +2,31 @@ ghost use Rattle.std.specs.Prelude.{◌≡◌, ◌↔◌, ◌<◌, ◌^◌, leng
 ghost use Rattle.std.specs.List.{AllByRecursion};
 ghost use Rattle.dj_class.specs.ClassFile.{IsAttribute};
 ghost use Rattle.dj_class.specs.Members.{member_of};
+ghost use Rattle.dj_class.specs.Code.{IsCodeAttribute};
 ghost use Rattle.dj_class.specs.CodeViews.{code_of};
 ghost use Rattle.dj_check.specs.Malformed.{IsBodiless};
-ghost use Rattle.dj_check.specs.Passes.{lacks_memory, IsLabelling, bodies_in, IsMappedView, IsCodeView, IsBodyView, IsBodilessView, IsOwnView, IsMethodView};
+ghost use Rattle.dj_check.specs.Passes.{lacks_memory, IsLabellingOf, IsLabelling, bodies_in, IsMappedCode, IsMappedView, IsCodeView, IsBodyView, IsBodilessView, IsOwnView, IsMethodView};
 
 use crate::bodies::bodies_named;
+use crate::maps::frames_in;
 use dj_class::{CodeView, MemberView, read_code};
-use dj_labels::{CodeError, Labelled, label};
-use dj_ops::CatchRow;
+use dj_labels::{CodeError, Labelled, Labelling, label_with_starts};
+use dj_ops::{CatchRow, Frames};
 use dj_pool::Pool;
 use dj_rules::{RulesError, is_memory};
 use std::alloc::Global;
 
-/// Code that is whole: its room, its bytes, what it is with numbers for addresses, and the body of its stack map, if it has one.
+/// Code that is whole: its room, its bytes, what it is with numbers for addresses, and its stack map.
 #[derive(Debug, Drop)]
 pub struct WholeCode<'a> {
     pub max_stack: u16,
     pub max_locals: u16,
     pub code: &'a [u8],
     pub labelled: Labelled,
+    /// The body of its stack map, if it has one.
     pub map: Option<&'a [u8]>,
+    /// The frames of its stack map, no frames where it has none, and none where the body is no stack map.
+    pub frames: Option<Frames>,
 }
 
 /// What a method has for code.
@@ -47,17 +52,17 @@ fn lacks_memory(error: &CodeError) -> bool
     matches!(error, CodeError::Memory)
 }
 
-// The labelled code, or none where it has no labels.
+// The labelled code with its starts, or none where it has no labels.
 fn labelling_of(
     alloc: Global,
     code: &[u8],
     table: &[CatchRow],
-) -> Result<Option<Labelled>, RulesError>
+) -> Result<Option<Labelling>, RulesError>
     requires { length code.now < 2 ^ 16 }
     ensures { IfOk result (IsLabelling code.now table.now) }
 {
-    match label(alloc, code, table) {
-        Ok(labelled) => Ok(Some(labelled)),
+    match label_with_starts(alloc, code, table) {
+        Ok(labelling) => Ok(Some(labelling)),
         Err(error) => {
             if lacks_memory(&error) {
                 Err(RulesError::Memory)
@@ -68,23 +73,40 @@ fn labelling_of(
     }
 }
 
+// The code of a view with this body of a stack map and these labels.
+fn code_with_labels<'a>(
+    alloc: Global,
+    view: &CodeView<'a>,
+    map: Option<&'a [u8]>,
+    labelling: Labelling,
+) -> Result<WholeCode<'a>, RulesError>
+    requires labels { IsLabellingOf view.now.code.now view.now.table labelling }
+    requires short { AllByRecursion (λ body. length body < 2 ^ 32) (bodies_in map) }
+    ensures { IfOk result (IsMappedCode (code_of view.now) (bodies_in map.entry)) }
+{
+    let frames = frames_in(alloc, &labelling.starts, map)?;
+    Ok(WholeCode {
+        max_stack: view.max_stack,
+        max_locals: view.max_locals,
+        code: view.code,
+        labelled: labelling.labelled,
+        map,
+        frames,
+    })
+}
+
 // The code of a view with this body of a stack map, where it has labels.
 fn code_with_map<'a>(
     alloc: Global,
     view: &CodeView<'a>,
     map: Option<&'a [u8]>,
 ) -> Result<Option<WholeCode<'a>>, RulesError>
-    requires { length view.now.code.now < 2 ^ 16 }
+    requires few { length view.now.code.now < 2 ^ 16 }
+    requires short { AllByRecursion (λ body. length body < 2 ^ 32) (bodies_in map) }
     ensures { IfOk result (IsMappedView (code_of view.now) (bodies_in map.entry)) }
 {
     match labelling_of(alloc, view.code, view.table.as_slice()) {
-        Ok(Some(labelled)) => Ok(Some(WholeCode {
-            max_stack: view.max_stack,
-            max_locals: view.max_locals,
-            code: view.code,
-            labelled,
-            map,
-        })),
+        Ok(Some(labelling)) => Ok(Some(code_with_labels(alloc, view, map, labelling)?)),
         Ok(None) => Ok(None),
         Err(error) => Err(error),
     }
@@ -96,7 +118,8 @@ fn whole_code<'a>(
     pool: &Pool<'_>,
     view: &CodeView<'a>,
 ) -> Result<Option<WholeCode<'a>>, RulesError>
-    requires { length view.now.code.now < 2 ^ 16 }
+    requires few { length view.now.code.now < 2 ^ 16 }
+    requires short { AllByRecursion IsCodeAttribute (code_of view.now).attributes }
     ensures { IfOk result (IsCodeView pool.now (code_of view.now)) }
 {
     let maps = bodies_named(alloc, pool, b"StackMapTable", view.attributes.as_slice())?;

@@ -2,7 +2,7 @@ ghost use Rattle.std.specs.Prelude.{◌≡◌, ◌↔◌, ◌⊎◌, ℕ, IsTrue
 ghost use Rattle.dj_pool.specs.Pool.{constant_at};
 ghost use Rattle.dj_pool.specs.Views.{constant_of};
 ghost use Rattle.dj_check.specs.Classes.{IsGetClass, NamesGetClass, NamesReflective, class_text_index, names_at};
-ghost use Rattle.dj_check.specs.Instructions.{index_of, member_index_of, IsHandleOrType, IsClass, IsFloatNumber, NamesSuch, NamesSuchMember, PushesSuch, IsDynamic, IsReflection, IsFloat, IsSubroutine, IsBreakpoint, IsMultiArray};
+ghost use Rattle.dj_check.specs.Instructions.{index_of, member_index_of, IsHandleOrType, IsClass, IsFloatNumber, NamesSuch, NamesSuchMember, PushesSuch, IsDynamic, IsReflection, IsFloat, IsSubroutine, IsBreakpoint, IsMultiArray, is_plain};
 ghost use Rattle.dj_check.specs.Judged.{AreTexts};
 ghost use Rattle.dj_check.specs.Methods.{InstrViolates};
 
@@ -214,6 +214,28 @@ pub fn is_multi_array(pool: &Pool<'_>, instr: &Instr) -> bool
     ensures { IsTrue result ↔ IsMultiArray pool.now instr.now }
 {
     matches!(instr, Instr::Multi { index: _, dims: _ })
+}
+
+/// Whether it is seen by its opcode that no rule on instructions is violated, as it is of most instructions.
+pub fn is_plain(instr: &Instr) -> bool
+    ensures { result ≡ is_plain instr.now }
+{
+    match instr {
+        Instr::Simple { op } => !is_float_op(*op) && *op != 202,
+        Instr::Push { op: _, value: _ } => true,
+        Instr::Local {
+            op,
+            slot: _,
+            wide: _,
+        } => !is_float_op(*op) && *op != 169,
+        Instr::Inc {
+            slot: _,
+            by: _,
+            wide: _,
+        } => true,
+        Instr::Branch { op, target: _ } => !is_subroutine_jump(*op),
+        _ => false,
+    }
 }
 
 // Whether it is of one of the rules on what instructions name or push.

@@ -1,11 +1,11 @@
 ghost use Rattle.std.specs.Prelude.{◌≡◌, ◌↔◌, ◌<◌, ◌^◌, length, IsTrue, IfOk};
+ghost use Rattle.std.specs.List.{AllByRecursion};
 ghost use Rattle.std.specs.List.Sorted.{IsStrictlyIncreasing};
-ghost use Rattle.dj_check.specs.Code.{IsFloatType, HaveFloats, HasFloatType, HaveFloatType, IsFloatMapAt, IsFloatMap};
-ghost use Rattle.dj_check.specs.Passes.{lacks_memory_of_frames};
+ghost use Rattle.dj_check.specs.Code.{IsFloatType, HaveFloats, HasFloatType, HaveFloatType, AreFramesAt};
+ghost use Rattle.dj_check.specs.Passes.{lacks_memory_of_frames, bodies_in, HasFramesAt};
 
 use dj_frames::{FrameError, read_frames};
-use dj_labels::read_starts;
-use dj_ops::{Form, Frame, VType};
+use dj_ops::{Form, Frame, Frames, VType};
 use dj_rules::RulesError;
 use std::alloc::Global;
 
@@ -40,7 +40,8 @@ fn has_float_type(frame: &Frame) -> bool
     }
 }
 
-fn have_float_type(frames: &[Frame]) -> bool
+/// Whether one of the frames has a float or a double.
+pub fn have_float_type(frames: &[Frame]) -> bool
     ensures { IsTrue result ↔ HaveFloatType frames.now }
 {
     for frame in frames {
@@ -57,33 +58,36 @@ fn lacks_memory(error: &FrameError) -> bool
     matches!(error, FrameError::Memory)
 }
 
-// Whether the body is a stack map of code with these starts that has a float or a double.
-fn is_float_map_at(alloc: Global, starts: &[u32], body: &[u8]) -> Result<bool, RulesError>
+// The frames of the body of a stack map, for code with these starts, or none where it is none.
+fn frames_at(alloc: Global, starts: &[u32], body: &[u8]) -> Result<Option<Frames>, RulesError>
     requires short { length body.now < 2 ^ 32 }
     requires rise { IsStrictlyIncreasing starts.now }
-    ensures { IfOk result (λ float. IsTrue float ↔ IsFloatMapAt starts.now body.now) }
+    ensures { IfOk result (AreFramesAt starts.now body.now) }
 {
     match read_frames(alloc, body, starts) {
-        Ok(frames) => Ok(have_float_type(frames.as_slice())),
+        Ok(frames) => Ok(Some(frames)),
         Err(error) => {
             if lacks_memory(&error) {
                 Err(RulesError::Memory)
             } else {
-                Ok(false)
+                Ok(None)
             }
         }
     }
 }
 
-/// Whether the body is a stack map of the code that has a float or a double.
-pub fn is_float_map(alloc: Global, code: &[u8], body: &[u8]) -> Result<bool, RulesError>
-    requires few { length code.now < 2 ^ 16 }
-    requires short { length body.now < 2 ^ 32 }
-    ensures { IfOk result (λ float. IsTrue float ↔ IsFloatMap code.now body.now) }
+/// The frames for code with these starts, of which this is the body of its stack map, if it has one.
+pub fn frames_in(
+    alloc: Global,
+    starts: &[u32],
+    map: Option<&[u8]>,
+) -> Result<Option<Frames>, RulesError>
+    requires short { AllByRecursion (λ body. length body < 2 ^ 32) (bodies_in map) }
+    requires rise { IsStrictlyIncreasing starts.now }
+    ensures { IfOk result (HasFramesAt starts.now (bodies_in map.entry)) }
 {
-    match read_starts(alloc, code) {
-        Ok(starts) => is_float_map_at(alloc, &starts, body),
-        // Code that has labels has starts, so that memory alone was short.
-        Err(_) => Err(RulesError::Memory),
+    match map {
+        Some(body) => frames_at(alloc, starts, body),
+        None => Ok(Some(Frames::new(alloc))),
     }
 }

@@ -1,4 +1,4 @@
-ghost use Rattle.std.specs.Prelude.{◌≡◌, ◌↔◌, [], codes, Some, IsTrue, IfOk, OnOk};
+ghost use Rattle.std.specs.Prelude.{◌≡◌, ◌↔◌, [], codes, Some, IsTrue, OnOk};
 ghost use Rattle.dj_class.specs.Members.{member_of};
 ghost use Rattle.dj_class.specs.Views.{class_of};
 ghost use Rattle.dj_report.specs.Lines.{Gains};
@@ -9,17 +9,16 @@ ghost use Rattle.dj_check.specs.Members.{IsFloatMethod, IsInterfaceMethod};
 ghost use Rattle.dj_check.specs.Rules.{FieldViolates};
 ghost use Rattle.dj_check.specs.Methods.{MethodViolates};
 ghost use Rattle.dj_check.specs.Marks.{names_in, MarksOf, RuledWhole, AreMarksOf};
-ghost use Rattle.dj_check.specs.Passes.{IsWholeMethod, IsShortCode, HasMapOf};
+ghost use Rattle.dj_check.specs.Passes.{IsWholeMethod, HasFloatFrames};
 
 use crate::code::WholeCode;
 use crate::judged::{JudgedText, text_in};
-use crate::maps::is_float_map;
+use crate::maps::have_float_type;
 use crate::marks::{Mark, Place, add_mark_if};
 use crate::passes::add_code_marks;
 use dj_class::{ClassView, MemberView};
 use dj_pool::Pool;
 use dj_rules::RulesError;
-use std::alloc::Global;
 
 // The numbers of the rules FLOAT and INTERFACE_CODE.
 const FLOAT: u8 = 12;
@@ -38,13 +37,12 @@ pub fn names_of(pool: &Pool<'_>, texts: &[JudgedText], member: &MemberView<'_>) 
 }
 
 // Whether the stack map of the code has a float or a double.
-fn maps_float(alloc: Global, code: &WholeCode<'_>) -> Result<bool, RulesError>
-    requires { IsShortCode code.now }
-    ensures { IfOk result (λ float. IsTrue float ↔ HasMapOf code.now) }
+fn maps_float(code: &WholeCode<'_>) -> bool
+    ensures { IsTrue result ↔ HasFloatFrames code.now.frames }
 {
-    match code.map {
-        Some(map) => is_float_map(alloc, code.code, map),
-        None => Ok(false),
+    match &code.frames {
+        Some(frames) => have_float_type(frames.as_slice()),
+        None => false,
     }
 }
 
@@ -78,20 +76,19 @@ fn add_whole_marks(
 
 // Whether the descriptor or the stack map of a method with code has a float or a double.
 fn is_float_method(
-    alloc: Global,
     view: &ClassView<'_>,
     texts: &[JudgedText],
     method: &MemberView<'_>,
     code: &WholeCode<'_>,
-) -> Result<bool, RulesError>
+) -> bool
     requires texts { AreTexts view.now.pool texts.now }
     requires code { IsWholeMethod view.now.pool (member_of method.now) code.now }
-    ensures { IfOk result (λ float. IsTrue float ↔ IsFloatMethod view.now.pool (member_of method.now)) }
+    ensures { IsTrue result ↔ IsFloatMethod view.now.pool (member_of method.now) }
 {
     if text_in(&view.pool, texts, method.desc).float {
-        return Ok(true);
+        return true;
     }
-    maps_float(alloc, code)
+    maps_float(code)
 }
 
 // Whether the method is one of an interface, and not its initialiser.
@@ -103,7 +100,6 @@ fn is_interface_method(view: &ClassView<'_>, method: &MemberView<'_>) -> bool
 
 /// Appends the marks of a method with code.
 pub fn add_own_marks(
-    alloc: Global,
     marks: &mut Vec<Mark>,
     view: &ClassView<'_>,
     texts: &[JudgedText],
@@ -115,7 +111,7 @@ pub fn add_own_marks(
     ensures { OnOk result (Gains (MarksOf (names_in texts.now (member_of method.now)) (MethodViolates (class_of view.now) (member_of method.now))) marks.old.items marks.new.items) }
 {
     let names = names_of(&view.pool, texts, method);
-    let float = is_float_method(alloc, view, texts, method, code)?;
+    let float = is_float_method(view, texts, method, code);
     let interface_code = is_interface_method(view, method);
     add_whole_marks(marks, names, float, interface_code)?;
     add_code_marks(marks, names, &view.pool, texts, &code.labelled)

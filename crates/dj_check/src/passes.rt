@@ -6,7 +6,7 @@ ghost use Rattle.dj_check.specs.Methods.{InstrViolates, CatchesError};
 ghost use Rattle.dj_check.specs.Marks.{place_of, MarksAt, MarksOf, ViolatesBelow, RangeViolates, IsAmongRanges, CodeMark};
 
 use crate::instructions::{
-    is_breakpoint, is_dynamic, is_float, is_multi_array, is_reflection, is_subroutine,
+    is_breakpoint, is_dynamic, is_float, is_multi_array, is_plain, is_reflection, is_subroutine,
 };
 use crate::judged::JudgedText;
 use crate::marks::{Mark, Place, add_mark_if};
@@ -49,6 +49,23 @@ fn add_instr_marks(
     add_mark_if(marks, place, MULTI_ARRAY, is_multi_array(pool, instr))
 }
 
+// The same, where most instructions are not looked at by each rule.
+fn add_marks_at(
+    marks: &mut Vec<Mark>,
+    place: Place,
+    pool: &Pool<'_>,
+    texts: &[JudgedText],
+    instr: &Instr,
+) -> Result<(), RulesError>
+    requires { AreTexts pool.now texts.now }
+    ensures { OnOk result (Gains (MarksAt place (InstrViolates pool.now instr.now)) marks.old.items marks.new.items) }
+{
+    if is_plain(instr) {
+        return Ok(());
+    }
+    add_instr_marks(marks, place, pool, texts, instr)
+}
+
 // Appends the marks of all instructions of a member of these names.
 fn add_all_instr_marks(
     marks: &mut Vec<Mark>,
@@ -67,7 +84,7 @@ fn add_all_instr_marks(
             desc: names.1,
             number: Some(at as u32),
         };
-        add_instr_marks(marks, place, pool, texts, &code[at])?;
+        add_marks_at(marks, place, pool, texts, &code[at])?;
     }
     Ok(())
 }

@@ -4,4 +4,5 @@ pub mod Shared
 pub mod Numbered
 pub mod Joins
 pub mod Listed
+pub mod Lacking
 mod TableFacts

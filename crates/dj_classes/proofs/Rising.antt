@@ -19,16 +19,16 @@ use Rattle.dj_classes.proofs.Orders.{is_name_before-cmp, names_from_cmp, greater
 
 -- ---- members
 
-contains_first : (c : Class) (rows : List Class) → Contains (c ∷ rows) c
+pub contains_first : (c : Class) (rows : List Class) → Contains (c ∷ rows) c
 contains_first c rows = (0, omega arith, refl)
 
-contains_later : (c : Class) (rows : List Class) (v : Class) → Contains rows v → Contains (c ∷ rows) v
+pub contains_later : (c : Class) (rows : List Class) (v : Class) → Contains rows v → Contains (c ∷ rows) v
 contains_later c rows v m = Contains-append_right (c ∷ []) rows v m
 
-contains_none : (v : Class) → Contains [] v → ⊥
+pub contains_none : (v : Class) → Contains [] v → ⊥
 contains_none v m = let h = m.1 in omega arith
 
-contains_cases : (c : Class) (rows : List Class) (v : Class) → Contains (c ∷ rows) v → (c ≡ v) ⊎ Contains rows v
+pub contains_cases : (c : Class) (rows : List Class) (v : Class) → Contains (c ∷ rows) v → (c ≡ v) ⊎ Contains rows v
 contains_cases c rows v (zero, h, e) = inl e
 contains_cases c rows v (suc k, h, e) = inr (k, omega arith, e)
 
@@ -59,7 +59,7 @@ members_inserted c (d ∷ rows) v = by (is_name_before c.name d.name) (members_i
     λ m. under d (c ∷ rows) (inserted c rows) v later.1 (members_swapped c d rows v m),
   )
 
-members_joined : (classes : List Class) (v : Class) → Contains (joined classes []) v ↔ Contains classes v
+pub members_joined : (classes : List Class) (v : Class) → Contains (joined classes []) v ↔ Contains classes v
 members_joined [] v = (λ m. m, λ m. m)
 members_joined (c ∷ classes) v =
     let rest = members_joined classes v in
@@ -110,7 +110,7 @@ rise_inserted c (d ∷ rows) other rise = by (class_cmp c d) refl (is_name_befor
   by Greater e true is later = let greater = ap is_lt e in absurd cc
   by Greater e false is later = (each_inserted (λ y. class_cmp d y ≡ Less) c rows (less_from_greater c d e) rise.0, later)
 
-rise_joined : (classes : List Class) → Differ classes → RiseStrictly (joined classes [])
+pub rise_joined : (classes : List Class) → Differ classes → RiseStrictly (joined classes [])
 unfolding IsStrictlySortedBy
 rise_joined [] differ = tt
 rise_joined (c ∷ classes) differ =

@@ -7,6 +7,7 @@ use Rattle.std.specs.List.{flat_map}
 use Rattle.std.specs.List.Sorted.{IsStrictlySortedBy}
 use Rattle.dj_model.specs.Program.{Program, Class}
 use Rattle.dj_model.specs.Linking.{option_list}
+use Rattle.dj_declared.specs.Files.{bare_class}
 use Rattle.dj_classes.specs.Tables.{class_number, class_numbers}
 
 -- by the bytes of the names
@@ -27,9 +28,10 @@ interfaces_in program c = class_numbers program c.interfaces
 abbrev pub numbers_at : List (Option ℕ) → List ℕ → List ℕ
 numbers_at numbers places = flat_map (λ place. option_list (get_or numbers place None)) places
 
--- rows in order, and the numbers of each one's superclass and interfaces
+-- rows in order, without code and constants, and the numbers of each one's superclass and interfaces
 pub record IsTable (rows : Program) (supers : List (Option ℕ)) (interfaces : List (List ℕ)) : Type 0 where
   pub rise : RiseStrictly rows
   pub few : length rows < 2 ^ 31
+  pub bare : map bare_class rows ≡ rows
   pub supers_are : supers ≡ map (super_in rows) rows
   pub interfaces_are : interfaces ≡ map (interfaces_in rows) rows

@@ -1,7 +1,7 @@
 -- Classes and their members by numbers: a class by its place in the program, a member by its place among those of its class.
-use Rattle.std.specs.Prelude.{◌≡◌, ◌≢◌, ℕ, suc, ◌<◌, List, [], ◌∷◌, map, Option, Some, None, if◌then◌else◌, slice_get, option_and_then, IsFalse}
+use Rattle.std.specs.Prelude.{◌≡◌, ℕ, suc, ◌<◌, Bool, List, [], ◌∷◌, ◌++◌, map, is_none, Option, Some, None, if◌then◌else◌, slice_get, option_and_then, IsFalse}
 use Rattle.std.specs.Option.{option_map}
-use Rattle.std.specs.List.{flat_map}
+use Rattle.std.specs.List.{flat_map, list_any}
 use Rattle.dj_names.specs.Types.{Name, same_name}
 use Rattle.dj_names.specs.Library.{Library}
 use Rattle.dj_class.specs.ClassFile.{ClassFile}
@@ -44,6 +44,16 @@ super_number program class = option_and_then (class_number program) (superclass_
 
 abbrev pub interface_numbers : Program → ℕ → List ℕ
 interface_numbers program class = class_numbers program (interfaces_of (slice_get program class))
+
+-- ---- classes that stand under absent ones
+
+-- no class of this name is there
+abbrev pub is_lacking : Program → Name → Bool
+is_lacking program name = is_none (class_number program name)
+
+-- no class of the name of the superclass is there, or none of that of an interface that the class lists
+abbrev pub lacks_above : Program → Class → Bool
+lacks_above program c = list_any (is_lacking program) (option_list c.superclass ++ c.interfaces)
 
 -- ---- names that classes share
 

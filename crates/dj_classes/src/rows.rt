@@ -1,5 +1,6 @@
-ghost use Rattle.std.specs.Prelude.{◌≡◌, ◌<◌, ◌^◌, None, get_or, length, map, IfOk, MatchOption};
+ghost use Rattle.std.specs.Prelude.{◌≡◌, ◌<◌, ◌^◌, ◌&&◌, None, is_none, is_some, nat_lt, get_or, length, map, IfOk, MatchOption};
 ghost use Rattle.std.specs.List.Sorted.{IsPermutation, IsSorted};
+ghost use Rattle.dj_declared.specs.Files.{bare_class};
 ghost use Rattle.dj_classes.specs.Tables.{class_number, IsLeastShared};
 ghost use Rattle.dj_classes.specs.Rows.{class_cmp, RiseStrictly, super_in, interfaces_in, numbers_at};
 
@@ -130,4 +131,28 @@ pub fn interfaces_in(alloc: Global, rows: &[DeclaredClass]) -> Result<Vec<Number
         interfaces.push(numbers_in(alloc, rows, row)?)?;
     }
     Ok(interfaces)
+}
+
+/// A law: classes as they are declared have no code and no constants.
+pub fn are_bare(rows: &[DeclaredClass])
+    ensures { map bare_class rows.now ≡ rows.now }
+{
+    for row in rows {
+        row.is_bare();
+    }
+}
+
+/// Whether a class has a superclass, where there is no number for it.
+pub fn lacks_super(row: &DeclaredClass, number: Option<u32>) -> bool
+    ensures { result ≡ (is_none number && is_some row.now.superclass) }
+{
+    number.is_none() && row.superclass().is_some()
+}
+
+/// Whether a class lists more interfaces than these.
+pub fn lacks_interface(row: &DeclaredClass, numbers: &[u32]) -> bool
+    ensures { result ≡ nat_lt (length numbers.now) (length row.now.interfaces) }
+{
+    let (_, places) = row.interfaces();
+    numbers.len() < places.len()
 }

@@ -1,20 +1,20 @@
-ghost use Rattle.std.specs.Prelude.{◌≡◌, ℕ, ◌<◌, ◌^◌, false, [], length, Some, is_some, IfOk, IfSome, IsErrOf, slice_get};
+ghost use Rattle.std.specs.Prelude.{◌≡◌, ℕ, ◌<◌, ◌^◌, false, [], length, map, Some, is_some, IfOk, IfSome, IsErrOf, slice_get};
 ghost use Rattle.std.specs.Option.{option_map};
 ghost use Rattle.dj_names.specs.Types.{Name};
 ghost use Rattle.dj_names.specs.Descriptors.{Describes};
 ghost use Rattle.dj_model.specs.Program.{method_in, field_in};
 ghost use Rattle.dj_model.specs.Linking.{count_fields, fields_before};
 ghost use Rattle.dj_model.specs.Libraries.{joined};
-ghost use Rattle.dj_declared.specs.Files.{desc_in};
-ghost use Rattle.dj_declared.specs.Members.{IsDescriptor, method_flags, method_name, method_has_body, field_flags, field_name, has_method_named, method_place, field_place};
-ghost use Rattle.dj_classes.specs.Tables.{class_number, name_at, flags_in, unnamed_fields_in, super_number, interface_numbers, methods_at, fields_at, IsShared, IsLeastShared};
+ghost use Rattle.dj_declared.specs.Files.{desc_in, bare_class};
+ghost use Rattle.dj_declared.specs.Members.{IsDescriptor, method_flags, method_name, method_has_body, method_native, field_flags, field_name, has_method_named, method_place, field_place};
+ghost use Rattle.dj_classes.specs.Tables.{class_number, name_at, flags_in, unnamed_fields_in, super_number, interface_numbers, lacks_above, methods_at, fields_at, IsShared, IsLeastShared};
 ghost use Rattle.dj_classes.specs.declared.error.TableError.TheVariants.{Duplicate};
 
 use crate::error::TableError;
 use crate::numbers::Numbers;
 use crate::rows;
 use dj_declared::DeclaredClass;
-use dj_names::Name;
+use dj_names::{Name, NativeId};
 use std::alloc::Global;
 use std::marker::Model;
 
@@ -52,6 +52,7 @@ impl ClassTable {
         }
         let supers = rows::supers_in(alloc, &rows)?;
         let interfaces = rows::interfaces_in(alloc, &rows)?;
+        rows::are_bare(&rows);
         Ok(ClassTable {
             rows,
             supers,
@@ -70,6 +71,13 @@ impl ClassTable {
     /// A law: a name is that of one class at most.
     pub fn names_differ(&self)
         ensures { (k : ℕ) (name : Name) → name_at self.now k ≡ Some name → class_number self.now name ≡ Some k }
+    {
+        let _ = &self.rows;
+    }
+
+    /// A law: there is no code, and there are no constants.
+    pub fn are_bare(&self)
+        ensures { map bare_class self.now ≡ self.now }
     {
         let _ = &self.rows;
     }
@@ -111,6 +119,16 @@ impl ClassTable {
         ensures { result.now ≡ interface_numbers self.now class }
     {
         self.interfaces[class as usize].as_slice()
+    }
+
+    /// Whether the superclass of a class, or an interface that it lists, isn't there.
+    pub fn lacks_above(&self, class: u32) -> bool
+        requires { class < length self.now }
+        ensures { Some result ≡ option_map (lacks_above self.now) (slice_get self.now class) }
+    {
+        let row = &self.rows[class as usize];
+        rows::lacks_super(row, self.supers[class as usize])
+            || rows::lacks_interface(row, self.interfaces[class as usize].as_slice())
     }
 
     /// The place, among the methods of a class, of the first one with this name and this descriptor.
@@ -216,6 +234,15 @@ impl ClassTable {
         ensures { Some result ≡ option_map method_has_body (slice_get (methods_at self.now class) member) }
     {
         self.rows[class as usize].method_has_body(member)
+    }
+
+    /// Which method of the library a method is, by its place among those of its class; none of one with code, and of one with neither.
+    pub fn method_native(&self, class: u32, member: u32) -> Option<NativeId>
+        requires there { class < length self.now }
+        requires within { member < length (methods_at self.now class) }
+        ensures { Some result ≡ option_map method_native (slice_get (methods_at self.now class) member) }
+    {
+        self.rows[class as usize].method_native(member)
     }
 
     /// The name of a field, by its place among those of its class.

@@ -1,5 +1,5 @@
 -- Rows that aren't static, counted.
-use Rattle.std.proofs.Common.{◌≡◌, ℕ, zero, suc, ◌+◌, ◌<◌, ◌≤◌, ◌&&◌, Bool, true, false, not, cond, List, [], ◌∷◌, ◌++◌, map, length, take, get_or, All, Option, Some, None, IfSome, nat_eq, bit_and, refl, sym, ap, ◌∙◌, subst, arith, add-one, if◌then◌else◌, inl, inr}
+use Rattle.std.proofs.Common.{◌≡◌, ℕ, zero, suc, ◌+◌, ◌<◌, ◌&&◌, Bool, true, false, not, cond, List, [], ◌∷◌, ◌++◌, map, length, take, get_or, All, Option, Some, None, IfSome, nat_eq, bit_and, refl, sym, ap, ◌∙◌, subst, arith, add-one, if◌then◌else◌, inl, inr}
 use Rattle.std.specs.Prelude.{slice_get}
 use Rattle.std.specs.Option.{option_map}
 use Rattle.std.specs.List.{AllByRecursion}

@@ -1,14 +1,13 @@
 -- The rows of a class file's members.
-use Rattle.std.proofs.Common.{◌≡◌, ℕ, zero, suc, ◌+◌, ◌<◌, ◌↔◌, ◌||◌, Bool, true, false, cond, List, [], ◌∷◌, ◌++◌, length, map, get_or, All, Option, Some, None, IsSomeAnd, IsTrue, refl, sym, ap, ◌∙◌, subst, arith, inl, inr, unwrap_or}
+use Rattle.std.proofs.Common.{◌≡◌, ℕ, zero, suc, ◌+◌, ◌<◌, ◌↔◌, ◌||◌, Bool, true, false, cond, List, [], ◌∷◌, ◌++◌, length, map, take, set, get_or, All, Option, Some, None, IsSomeAnd, IsTrue, refl, sym, ap, ◌∙◌, subst, arith, inl, inr, unwrap_or}
 use Rattle.std.specs.Prelude.{◌/◌, ◌%◌, ◌^◌, slice_get, option_and_then, bit_and}
 use Rattle.std.specs.Option.{is_some}
 use Rattle.std.specs.Int.{bit_at, IsBitSet}
 use Rattle.std.specs.List.{AllByRecursion}
 use Rattle.std.proofs.lemmas.Bool.{cases_eq, cases_lt, eq-eqb, ne_eqb}
 use Rattle.std.proofs.lemmas.Nat.{bit_set_by_shift, and_mask}
-use Rattle.std.proofs.lemmas.Option.{slice_get_past}
-use Rattle.std.proofs.lemmas.List.{get_or_append_left, get_or_default}
-use Rattle.std.proofs.Math.Seq.{get_or-append_seam}
+use Rattle.std.proofs.lemmas.Option.{slice_get_past, same_Some}
+use Rattle.std.proofs.lemmas.List.{take_more, length-set, get_or-set_same, get_or-set_other}
 use Rattle.std.proofs.lemmas.List.Elements.{All-from_recursion}
 use Rattle.dj_names.specs.declared.descriptor.Desc.TheVariants as descs
 use Rattle.dj_names.specs.Types.{Name}
@@ -16,6 +15,8 @@ use Rattle.dj_names.specs.DescReading.{desc_read}
 use Rattle.dj_names.specs.Names.{IsUnqualifiedName, IsMethodName}
 use Rattle.dj_names.specs.Descriptors.{IsFieldDescriptor, IsMethodDescriptor}
 use Rattle.dj_pool.specs.Pool.{Constant, text_of, text_at}
+use Rattle.dj_class.specs.declared.class.MemberView.{MemberView}
+use Rattle.dj_class.specs.Members.{member_of}
 use Rattle.dj_class.specs.ClassFile.{MemberInfo, IsMember, IsField, IsMethod}
 use Rattle.dj_model.specs.Program.{Abstract, Runs, has_flag}
 use Rattle.dj_declared.specs.declared.members.MemberBody.{MemberBody}
@@ -23,25 +24,12 @@ use Rattle.dj_declared.specs.declared.members.MemberBody.TheVariants as bodies
 use Rattle.dj_declared.specs.declared.members.MemberRow.{MemberRow}
 use Rattle.dj_declared.specs.Files.{desc_in, name_in, no_code, is_bodiless, declared_method, declared_field}
 use Rattle.dj_declared.specs.Members.{IsDescriptor}
-use Rattle.dj_declared.specs.Marks.{IsNamed, AreNamed}
-use Rattle.dj_declared.specs.Texts.{Numbers, number_in, text_in, LeadBack, Keep}
-use Rattle.dj_declared.specs.Rows.{body_of, row_method, row_field, IsSound, AreSound, AreNumbered, kept_body, method_row_of, field_row_of}
+use Rattle.dj_declared.specs.Texts.{Numbers, number_in, text_in, Keep}
+use Rattle.dj_declared.specs.Rows.{body_of, row_method, row_field, IsSound, AreSound, number_at, AreNumbered, IsNamed, AreNamed, kept_body, method_row_of, field_row_of}
 use Rattle.dj_declared.proofs.DescTests.{is_descriptor, read_descriptor}
+use Rattle.dj_declared.proofs.TextLaws.{leads_back}
 
 -- ---- the numbers of the pool's texts
-
-pub numbered_more : (pool : List Constant) (i n : ℕ) (marks : List Bool) (places : List ℕ) (old new : Numbers) (d : Bool) → i < length marks → length places ≡ i → AreNumbered pool i marks places old → Keep old new
-    → (get_or marks i d ≡ true → (text : Name) → text_at pool i ≡ Some text → number_in new text ≡ Some n) → AreNumbered pool (i + 1) marks (places ++ n ∷ []) new
-numbered_more pool i n marks places old new d in_marks long before keeps told j text lt marked at = elim (cases_eq j i) [
-  | inl same ↦
-      let here : get_or (places ++ n ∷ []) j 0 ≡ n = ap (λ (k : ℕ). get_or (places ++ n ∷ []) k 0) (same ∙ sym long) ∙ get_or-append_seam places n [] 0 in
-      let mark : get_or marks i d ≡ true = get_or_default marks i d false in_marks ∙ subst (λ (k : ℕ). get_or marks k false ≡ true) same marked in
-      told mark text (subst (λ (k : ℕ). text_at pool k ≡ Some text) same at) ∙ ap Some (sym here)
-  | inr apart ↦
-      let within : j < i = omega arith in
-      let inside : j < length places = omega (arith, within, long) in
-      keeps text (get_or places j 0) (before j text within marked at) ∙ ap Some (sym (get_or_append_left places (n ∷ []) 0 j inside))
-]
 
 -- an index past the pool has no text
 past_text : (found : Option Constant) (text : Name) → found ≡ None → option_and_then text_of found ≡ Some text → ⊥
@@ -53,6 +41,27 @@ within_pool pool (suc index) text at = elim (cases_lt index (length pool)) [
   | inl lt ↦ omega arith
   | inr past ↦ absurd (past_text (slice_get pool index) text (slice_get_past pool index past) at)
 ]
+
+told_number : (number told : ℕ) → Some number ≡ Some told → number ≡ told
+told_number number told e = cc
+
+told_text : (found : Option Name) (text told : Name) → found ≡ Some text → found ≡ Some told → text ≡ told
+told_text found text told e f = same_Some text told (sym e ∙ f)
+
+-- one number more
+pub numbered_more : (pool : List Constant) (places : List (Option ℕ)) (index number : ℕ) (text : Name) (old new : Numbers) → AreNumbered pool places old → Keep old new → text_at pool index ≡ Some text → number_in new text ≡ Some number
+    → AreNumbered pool (set places index (Some number)) new
+numbered_more pool places index number text old new before keeps at is = record {
+  rooms = length-set places index (Some number) ∙ before.rooms;
+  told = λ other told found e there. elim (cases_eq other index) [
+    | inl same ↦
+        let within : index < length places = omega (arith, within_pool pool index text at, before.rooms) in
+        let here : number ≡ told = told_number number told (sym (ap (λ (k : ℕ). get_or (set places index (Some number)) k None) same ∙ get_or-set_same places index (Some number) None within) ∙ e) in
+        let text_is : text ≡ found = told_text (text_at pool index) text found at (ap (text_at pool) (sym same) ∙ there) in
+        ap (number_in new) (sym text_is) ∙ is ∙ ap Some here
+    | inr apart ↦ keeps found told (before.told other told found (sym (get_or-set_other places index other (Some number) None apart) ∙ e) there)
+  ];
+}
 
 -- ---- flags
 
@@ -77,26 +86,27 @@ body_is : (b : Bool) → body_of (cond b bodies.Empty bodies.Code) ≡ cond b Ab
 body_is true = refl
 body_is false = refl
 
-module _ (pool : List Constant) (marks : List Bool) (places : List ℕ) (numbers : Numbers) (back : LeadBack numbers) (long : length marks ≡ length pool + 1) (numbered : AreNumbered pool (length marks) marks places numbers) where
+module _ (pool : List Constant) (places : List (Option ℕ)) (numbers : Numbers) (numbered : AreNumbered pool places numbers) where
   abbrev Marked : ℕ → Type 0
-  Marked index = index < length marks → get_or marks index false ≡ true
+  Marked index = is_some (get_or places index None) ≡ true
 
-  number_is : (index : ℕ) (text : Name) → text_at pool index ≡ Some text → Marked index → number_in numbers text ≡ Some (get_or places index 0)
-  number_is index text at mark =
-      let lt : index < length marks = subst (λ (n : ℕ). index < n) (sym long) (within_pool pool index text at) in
-      numbered index text lt (mark lt) at
+  number_is : (index : ℕ) (text : Name) → text_at pool index ≡ Some text → Marked index → number_in numbers text ≡ Some (number_at places index)
+  number_is index text at there = by (get_or places index None) refl there where
+    by : (found : Option ℕ) → get_or places index None ≡ found → is_some found ≡ true → number_in numbers text ≡ Some (unwrap_or found 0)
+    by None e there = absurd cc
+    by (Some number) e there = numbered.told index number text e at
 
-  text_is : (index : ℕ) (text : Name) → text_at pool index ≡ Some text → Marked index → text_in numbers (get_or places index 0) ≡ text
-  text_is index text at mark = back text (get_or places index 0) (number_is index text at mark)
+  text_is : (index : ℕ) (text : Name) → text_at pool index ≡ Some text → Marked index → text_in numbers (number_at places index) ≡ text
+  text_is index text at mark = leads_back numbers text (number_at places index) (number_is index text at mark)
 
-  own_number : (index : ℕ) (text : Name) → text_at pool index ≡ Some text → Marked index → number_in numbers (text_in numbers (get_or places index 0)) ≡ Some (get_or places index 0)
+  own_number : (index : ℕ) (text : Name) → text_at pool index ≡ Some text → Marked index → number_in numbers (text_in numbers (number_at places index)) ≡ Some (number_at places index)
   own_number index text at mark = ap (number_in numbers) (text_is index text at mark) ∙ number_is index text at mark
 
-  same_text : (index : ℕ) (text : Name) → text_at pool index ≡ Some text → Marked index → text_in numbers (get_or places index 0) ≡ name_in pool index
+  same_text : (index : ℕ) (text : Name) → text_at pool index ≡ Some text → Marked index → text_in numbers (number_at places index) ≡ name_in pool index
   same_text index text at mark = text_is index text at mark ∙ sym (ap (λ (o : Option Name). unwrap_or o []) at)
 
-  sound_row : (IsName IsDesc : Name → Type 0) → ((text : Name) → IsDesc text → IsDescriptor text) → (m : MemberInfo) (body : MemberBody) → IsMember IsName IsDesc pool m → IsNamed marks m
-      → IsSound numbers (record { flags = m.flags; name = get_or places m.name 0; desc = get_or places m.desc 0; body = body })
+  sound_row : (IsName IsDesc : Name → Type 0) → ((text : Name) → IsDesc text → IsDescriptor text) → (m : MemberInfo) (body : MemberBody) → IsMember IsName IsDesc pool m → IsNamed places m
+      → IsSound numbers (record { flags = m.flags; name = number_at places m.name; desc = number_at places m.desc; body = body })
   sound_row IsName IsDesc means m body is named =
       let name = found IsName (text_at pool m.name) is.name in
       let desc = found IsDesc (text_at pool m.desc) is.desc in
@@ -112,7 +122,7 @@ module _ (pool : List Constant) (marks : List Bool) (places : List ℕ) (numbers
   field_means : (text : Name) → IsFieldDescriptor text → IsDescriptor text
   field_means text d = is_descriptor text (descs.Field d.0) d.1
 
-  method_is : (m : MemberInfo) → IsMethod pool m → IsNamed marks m → row_method numbers (method_row_of places m) ≡ declared_method pool m
+  method_is : (m : MemberInfo) → IsMethod pool m → IsNamed places m → row_method numbers (method_row_of places m) ≡ declared_method pool m
   method_is m is named =
       let name = found IsMethodName (text_at pool m.name) is.name in
       let desc = found IsMethodDescriptor (text_at pool m.desc) is.desc in
@@ -123,7 +133,7 @@ module _ (pool : List Constant) (marks : List Bool) (places : List ℕ) (numbers
         body = body_is (is_bodiless m.flags) i;
       }
 
-  field_is : (f : MemberInfo) → IsField pool f → IsNamed marks f → row_field numbers (field_row_of places f) ≡ declared_field pool f
+  field_is : (f : MemberInfo) → IsField pool f → IsNamed places f → row_field numbers (field_row_of places f) ≡ declared_field pool f
   field_is f is named =
       let name = found IsUnqualifiedName (text_at pool f.name) is.name in
       let desc = found IsFieldDescriptor (text_at pool f.desc) is.desc in
@@ -134,36 +144,63 @@ module _ (pool : List Constant) (marks : List Bool) (places : List ℕ) (numbers
         constant = None;
       }
 
-  methods_sound : (ms : List MemberInfo) → AllByRecursion (IsMethod pool) ms → AreNamed marks ms → AllByRecursion (IsSound numbers) (map (method_row_of places) ms)
+  methods_sound : (ms : List MemberInfo) → AllByRecursion (IsMethod pool) ms → AreNamed places ms → AllByRecursion (IsSound numbers) (map (method_row_of places) ms)
   methods_sound [] all named = tt
   methods_sound (m ∷ ms) all named = (sound_row IsMethodName IsMethodDescriptor method_means m (kept_body m.flags) all.0 named.0, methods_sound ms all.1 named.1)
 
-  fields_sound : (fs : List MemberInfo) → AllByRecursion (IsField pool) fs → AreNamed marks fs → AllByRecursion (IsSound numbers) (map (field_row_of places) fs)
+  fields_sound : (fs : List MemberInfo) → AllByRecursion (IsField pool) fs → AreNamed places fs → AllByRecursion (IsSound numbers) (map (field_row_of places) fs)
   fields_sound [] all named = tt
   fields_sound (f ∷ fs) all named = (sound_row IsUnqualifiedName IsFieldDescriptor field_means f bodies.Empty all.0 named.0, fields_sound fs all.1 named.1)
 
-  methods_are : (ms : List MemberInfo) → AllByRecursion (IsMethod pool) ms → AreNamed marks ms → map (row_method numbers) (map (method_row_of places) ms) ≡ map (declared_method pool) ms
+  methods_are : (ms : List MemberInfo) → AllByRecursion (IsMethod pool) ms → AreNamed places ms → map (row_method numbers) (map (method_row_of places) ms) ≡ map (declared_method pool) ms
   methods_are [] all named = refl
   methods_are (m ∷ ms) all named = λ i. method_is m all.0 named.0 i ∷ methods_are ms all.1 named.1 i
 
-  fields_are : (fs : List MemberInfo) → AllByRecursion (IsField pool) fs → AreNamed marks fs → map (row_field numbers) (map (field_row_of places) fs) ≡ map (declared_field pool) fs
+  fields_are : (fs : List MemberInfo) → AllByRecursion (IsField pool) fs → AreNamed places fs → map (row_field numbers) (map (field_row_of places) fs) ≡ map (declared_field pool) fs
   fields_are [] all named = refl
   fields_are (f ∷ fs) all named = λ i. field_is f all.0 named.0 i ∷ fields_are fs all.1 named.1 i
 
   -- the rows of the fields and of the methods are sound
-  pub file_sound : (fs ms : List MemberInfo) (fields methods : List MemberRow) → AllByRecursion (IsField pool) fs → AllByRecursion (IsMethod pool) ms → AreNamed marks fs → AreNamed marks ms → fields ≡ map (field_row_of places) fs → methods ≡ map (method_row_of places) ms
+  pub file_sound : (fs ms : List MemberInfo) (fields methods : List MemberRow) → AllByRecursion (IsField pool) fs → AllByRecursion (IsMethod pool) ms → AreNamed places fs → AreNamed places ms → fields ≡ map (field_row_of places) fs → methods ≡ map (method_row_of places) ms
       → AreSound numbers fields methods
   file_sound fs ms fields methods all_fields all_methods fields_named methods_named fields_is methods_is = record {
     fields_are = subst (λ (rows : List MemberRow). All (IsSound numbers) rows) (sym fields_is) (All-from_recursion (IsSound numbers) (map (field_row_of places) fs) (fields_sound fs all_fields fields_named));
     methods_are = subst (λ (rows : List MemberRow). All (IsSound numbers) rows) (sym methods_is) (All-from_recursion (IsSound numbers) (map (method_row_of places) ms) (methods_sound ms all_methods methods_named));
   }
 
-  pub file_fields : (fs : List MemberInfo) (fields : List MemberRow) → AllByRecursion (IsField pool) fs → AreNamed marks fs → fields ≡ map (field_row_of places) fs → map (row_field numbers) fields ≡ map (declared_field pool) fs
+  pub file_fields : (fs : List MemberInfo) (fields : List MemberRow) → AllByRecursion (IsField pool) fs → AreNamed places fs → fields ≡ map (field_row_of places) fs → map (row_field numbers) fields ≡ map (declared_field pool) fs
   file_fields fs fields all named is = ap (map (row_field numbers)) is ∙ fields_are fs all named
 
-  pub file_methods : (ms : List MemberInfo) (methods : List MemberRow) → AllByRecursion (IsMethod pool) ms → AreNamed marks ms → methods ≡ map (method_row_of places) ms → map (row_method numbers) methods ≡ map (declared_method pool) ms
+  pub file_methods : (ms : List MemberInfo) (methods : List MemberRow) → AllByRecursion (IsMethod pool) ms → AreNamed places ms → methods ≡ map (method_row_of places) ms → map (row_method numbers) methods ≡ map (declared_method pool) ms
   file_methods ms methods all named is = ap (map (row_method numbers)) is ∙ methods_are ms all named
 
+-- ---- a loop's step
+
+module _ (ms : List MemberView) (i : ℕ) (m : MemberView) (within : i < length ms) (item : m ≡ get_or ms i m) where
+  one_more : take (i + 1) ms ≡ take i ms ++ m ∷ []
+  one_more = take_more ms i m within ∙ ap (λ (x : MemberView). take i ms ++ x ∷ []) (sym item)
+
+  mapped_push : (f : MemberInfo → MemberRow) (xs : List MemberView) → map f (map member_of (xs ++ m ∷ [])) ≡ map f (map member_of xs) ++ f (member_of m) ∷ []
+  mapped_push f [] = refl
+  mapped_push f (x ∷ xs) = ap (λ (rows : List MemberRow). f (member_of x) ∷ rows) (mapped_push f xs)
+
+  pub rows_more : (f : MemberInfo → MemberRow) (rows more : List MemberRow) (row : MemberRow) → rows ≡ map f (map member_of (take i ms)) → row ≡ f (member_of m) → more ≡ rows ++ row ∷ [] → more ≡ map f (map member_of (take (i + 1) ms))
+  rows_more f rows more row before is pushed =
+      pushed ∙ ap (λ (xs : List MemberRow). xs ++ row ∷ []) before ∙ ap (λ (x : MemberRow). map f (map member_of (take i ms)) ++ x ∷ []) is
+      ∙ sym (mapped_push f (take i ms)) ∙ ap (λ (xs : List MemberView). map f (map member_of xs)) (sym one_more)
+
+  named_push : (places : List (Option ℕ)) (xs : List MemberView) → AreNamed places (map member_of xs) → IsNamed places (member_of m) → AreNamed places (map member_of (xs ++ m ∷ []))
+  named_push places [] all is = (is, tt)
+  named_push places (x ∷ xs) all is = (all.0, named_push places xs all.1 is)
+
+  pub named_more : (places : List (Option ℕ)) → AreNamed places (map member_of (take i ms)) → IsNamed places (member_of m) → AreNamed places (map member_of (take (i + 1) ms))
+  named_more places all is = subst (λ (xs : List MemberView). AreNamed places (map member_of xs)) (sym one_more) (named_push places (take i ms) all is)
+
 -- the rows of lent numbers and lent members
-pub rows_of_lent : (f : List ℕ → MemberInfo → MemberRow) (rows : List MemberRow) (lent places : List ℕ) (members ms : List MemberInfo) → rows ≡ map (f lent) members → lent ≡ places → members ≡ ms → rows ≡ map (f places) ms
-rows_of_lent f rows lent places members ms is same_places same_members = is ∙ ap (λ (ns : List ℕ). map (f ns) members) same_places ∙ ap (map (f places)) same_members
+pub rows_of_lent : (f : List (Option ℕ) → MemberInfo → MemberRow) (rows : List MemberRow) (lent places : List (Option ℕ)) (members ms : List MemberInfo) → rows ≡ map (f lent) members → lent ≡ places → members ≡ ms → rows ≡ map (f places) ms
+rows_of_lent f rows lent places members ms is same_places same_members = is ∙ ap (λ (ns : List (Option ℕ)). map (f ns) members) same_places ∙ ap (map (f places)) same_members
+
+-- lent numbers of lent members
+pub named_of_lent : (lent places : List (Option ℕ)) (members ms : List MemberInfo) → AreNamed lent members → lent ≡ places → members ≡ ms → AreNamed places ms
+named_of_lent lent places members ms all same_places same_members =
+    subst (λ (xs : List MemberInfo). AreNamed places xs) same_members (subst (λ (ns : List (Option ℕ)). AreNamed ns members) same_places all)

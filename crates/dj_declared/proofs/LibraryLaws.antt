@@ -14,8 +14,9 @@ use Rattle.dj_model.specs.Program.{Method}
 use Rattle.dj_model.specs.Libraries.{library_body, library_method}
 use Rattle.dj_declared.specs.declared.members.MemberRow.{MemberRow}
 use Rattle.dj_declared.specs.Files.{desc_in}
-use Rattle.dj_declared.specs.Texts.{Numbers, number_in, text_in, LeadBack, Keep}
+use Rattle.dj_declared.specs.Texts.{Numbers, number_in, text_in}
 use Rattle.dj_declared.specs.Rows.{body_of, row_method, IsSound, AreSound, IsRowOf, AreRowsOf, native_body}
+use Rattle.dj_declared.proofs.TextLaws.{leads_back}
 use Rattle.dj_declared.proofs.DescTests.{desc_in_text, is_descriptor, read_descriptor}
 
 -- ---- a method
@@ -24,11 +25,11 @@ native_is : (native : Option NativeId) → body_of (native_body native) ≡ libr
 native_is None = refl
 native_is (Some id) = refl
 
-pub row_of_method : (numbers : Numbers) (back : LeadBack numbers) (m : LibMethod) (text : Name) (n d : ℕ) → IsDesc m.desc → text ≡ desc_text m.desc → number_in numbers m.name ≡ Some n → number_in numbers text ≡ Some d
+pub row_of_method : (numbers : Numbers) (m : LibMethod) (text : Name) (n d : ℕ) → IsDesc m.desc → text ≡ desc_text m.desc → number_in numbers m.name ≡ Some n → number_in numbers text ≡ Some d
     → IsRowOf numbers (record { flags = m.flags; name = n; desc = d; body = native_body m.native }) (library_method (library_method_view m))
-row_of_method numbers back m text n d valid spelled name desc =
-    let name_is : text_in numbers n ≡ m.name = back m.name n name in
-    let desc_is : text_in numbers d ≡ text = back text d desc in
+row_of_method numbers m text n d valid spelled name desc =
+    let name_is : text_in numbers n ≡ m.name = leads_back numbers m.name n name in
+    let desc_is : text_in numbers d ≡ text = leads_back numbers text d desc in
     let described : Describes text m.desc = record { text_is = spelled; valid = valid } in
     let desc_same : desc_in (text_in numbers d) ≡ m.desc = ap desc_in (desc_is ∙ spelled) ∙ desc_in_text m.desc valid in
     record {
@@ -40,45 +41,22 @@ row_of_method numbers back m text n d valid spelled name desc =
       is = λ i. record { flags = m.flags; name = name_is i; desc = desc_same i; body = native_is m.native i };
     }
 
--- ---- with more texts
+-- ---- with more rows
 
-module _ (old new : Numbers) (keep : Keep old new) (back : LeadBack new) where
-  same_text : (number : ℕ) → number_in old (text_in old number) ≡ Some number → text_in new number ≡ text_in old number
-  same_text number own = back (text_in old number) number (keep (text_in old number) number own)
-
-  still_own : (number : ℕ) → number_in old (text_in old number) ≡ Some number → number_in new (text_in new number) ≡ Some number
-  still_own number own = ap (number_in new) (same_text number own) ∙ keep (text_in old number) number own
-
-  still_sound : (row : MemberRow) → IsSound old row → IsSound new row
-  still_sound row sound = record {
-    name = still_own row.name sound.name;
-    desc = still_own row.desc sound.desc;
-    described = ap (λ (t : Name). is_some (desc_read t)) (same_text row.desc sound.desc) ∙ sound.described;
-  }
-
-  same_method : (row : MemberRow) → IsSound old row → row_method new row ≡ row_method old row
-  same_method row sound = λ i. record {
-    flags = row.flags;
-    name = same_text row.name sound.name i;
-    desc = desc_in (same_text row.desc sound.desc i);
-    body = body_of row.body;
-  }
-
-  sound_more : (rows : List MemberRow) (row : MemberRow) → AllByRecursion (IsSound old) rows → IsSound new row → AllByRecursion (IsSound new) (rows ++ row ∷ [])
+module _ (numbers : Numbers) where
+  sound_more : (rows : List MemberRow) (row : MemberRow) → AllByRecursion (IsSound numbers) rows → IsSound numbers row → AllByRecursion (IsSound numbers) (rows ++ row ∷ [])
   sound_more [] row all last = (last, tt)
-  sound_more (r ∷ rows) row all last = (still_sound r all.0, sound_more rows row all.1 last)
+  sound_more (r ∷ rows) row all last = (all.0, sound_more rows row all.1 last)
 
-  methods_more : (rows : List MemberRow) (row : MemberRow) (m : Method) → AllByRecursion (IsSound old) rows → row_method new row ≡ m → map (row_method new) (rows ++ row ∷ []) ≡ map (row_method old) rows ++ m ∷ []
-  methods_more [] row m all is = ap (λ (x : Method). x ∷ []) is
-  methods_more (r ∷ rows) row m all is = λ i. same_method r all.0 i ∷ methods_more rows row m all.1 is i
+  methods_more : (rows : List MemberRow) (row : MemberRow) (m : Method) → row_method numbers row ≡ m → map (row_method numbers) (rows ++ row ∷ []) ≡ map (row_method numbers) rows ++ m ∷ []
+  methods_more [] row m is = ap (λ (x : Method). x ∷ []) is
+  methods_more (r ∷ rows) row m is = ap (λ (xs : List Method). row_method numbers r ∷ xs) (methods_more rows row m is)
 
-  rows_more : (rows : List MemberRow) (row : MemberRow) (ms : List Method) (m : Method) → AreRowsOf old rows ms → IsRowOf new row m → AreRowsOf new (rows ++ row ∷ []) (ms ++ m ∷ [])
-  rows_more rows row ms m are is =
-      let all : AllByRecursion (IsSound old) rows = recursion_from_All (IsSound old) rows are.sound in
-      record {
-        sound = All-from_recursion (IsSound new) (rows ++ row ∷ []) (sound_more rows row all is.sound);
-        are = methods_more rows row m all is.is ∙ ap (λ (xs : List Method). xs ++ m ∷ []) are.are;
-      }
+  rows_more : (rows : List MemberRow) (row : MemberRow) (ms : List Method) (m : Method) → AreRowsOf numbers rows ms → IsRowOf numbers row m → AreRowsOf numbers (rows ++ row ∷ []) (ms ++ m ∷ [])
+  rows_more rows row ms m are is = record {
+    sound = All-from_recursion (IsSound numbers) (rows ++ row ∷ []) (sound_more rows row (recursion_from_All (IsSound numbers) rows are.sound) is.sound);
+    are = methods_more rows row m is.is ∙ ap (λ (xs : List Method). xs ++ m ∷ []) are.are;
+  }
 
 -- ---- a loop's step
 
@@ -93,11 +71,11 @@ pub taken_more : (ms : List LibMethod) (i : ℕ) (m : LibMethod) → i < length 
 taken_more ms i m lt is =
     sym (pushed (take i ms) m) ∙ ap (λ (x : LibMethod). methods_of (take i ms ++ x ∷ [])) is ∙ ap methods_of (sym (take_more ms i m lt))
 
-pub rows_of_more : (old new : Numbers) (keep : Keep old new) (back : LeadBack new) (ms : List LibMethod) (i : ℕ) (m : LibMethod) (rows more : List MemberRow) (row : MemberRow) → i < length ms → m ≡ get_or ms i m
-    → AreRowsOf old rows (methods_of (take i ms)) → IsRowOf new row (library_method (library_method_view m)) → more ≡ rows ++ row ∷ [] → AreRowsOf new more (methods_of (take (i + 1) ms))
-rows_of_more old new keep back ms i m rows more row lt item are is pushed_is =
-    subst (λ (xs : List MemberRow). AreRowsOf new xs (methods_of (take (i + 1) ms))) (sym pushed_is)
-    (subst (AreRowsOf new (rows ++ row ∷ [])) (taken_more ms i m lt item) (rows_more old new keep back rows row (methods_of (take i ms)) (library_method (library_method_view m)) are is))
+pub rows_of_more : (numbers : Numbers) (ms : List LibMethod) (i : ℕ) (m : LibMethod) (rows more : List MemberRow) (row : MemberRow) → i < length ms → m ≡ get_or ms i m
+    → AreRowsOf numbers rows (methods_of (take i ms)) → IsRowOf numbers row (library_method (library_method_view m)) → more ≡ rows ++ row ∷ [] → AreRowsOf numbers more (methods_of (take (i + 1) ms))
+rows_of_more numbers ms i m rows more row lt item are is pushed_is =
+    subst (λ (xs : List MemberRow). AreRowsOf numbers xs (methods_of (take (i + 1) ms))) (sym pushed_is)
+    (subst (AreRowsOf numbers (rows ++ row ∷ [])) (taken_more ms i m lt item) (rows_more numbers rows row (methods_of (take i ms)) (library_method (library_method_view m)) are is))
 
 -- before the first
 pub no_rows : (numbers : Numbers) → AreRowsOf numbers [] []

@@ -1,223 +1,343 @@
--- Texts and their numbers, with one text more.
-use Rattle.std.proofs.Common.{◌≡◌, ℕ, zero, suc, ◌+◌, ◌<◌, Bool, true, false, cond, eqb, List, [], ◌∷◌, ◌++◌, length, All, get_or, Option, Some, None, Result, Ok, Err, refl, sym, ap, ◌∙◌, subst, arith, Ordering}
+-- Texts in ascending order, in one list of bytes.
+use Rattle.std.proofs.Common.{◌≡◌, ℕ, zero, suc, ◌+◌, ◌-◌, ◌<◌, ◌≤◌, Bool, true, false, cond, List, [], ◌∷◌, ◌++◌, length, get_or, take, drop, Option, Some, None, Result, Ok, Err, refl, sym, ap, ◌∙◌, subst, arith, add-one, inl, inr}
+use Rattle.std.specs.Option.{option_map}
+use Rattle.std.specs.Prelude.{OnOk, OnErr}
+use Rattle.std.specs.Ordering.{nat_cmp, ordering_reverse}
+use Rattle.std.specs.declared.cmp.Ordering.{Ordering}
 use Rattle.std.specs.declared.cmp.Ordering.TheVariants.{Less, Equal, Greater}
-use Rattle.std.specs.Prelude.{OnOk, OnErr, slice_get}
-use Rattle.std.specs.Global.{Vec}
-use Rattle.std.specs.Ordering.{nat_cmp, is_eq, match_ordering}
 use Rattle.std.specs.Cmp.Lexicographic.{slice_cmp}
-use Rattle.std.specs.List.{AllByRecursion}
-use Rattle.std.specs.Map.{lookup, values_of}
-use Rattle.std.specs.BTreeMap.{is_at, insert_entry}
-use Rattle.std.specs.FinMap.{slice_cmp-IsAntisymmetric, nat_cmp-IsAntisymmetric}
-use Rattle.std.proofs.lemmas.Bool.{eq-eqb, ne_eqb}
-use Rattle.std.proofs.lemmas.Option.{same_Some}
-use Rattle.std.proofs.lemmas.List.{length_push}
+use Rattle.std.specs.FinMap.{nat_cmp-IsAntisymmetric, slice_cmp-IsAntisymmetric}
+use Rattle.std.proofs.lemmas.Bool.{cases_lt, cases_Bool}
 use Rattle.std.proofs.lemmas.Cmp.{nat_list_cmp_total, tied_itself}
-use Rattle.std.proofs.lemmas.List.Elements.{recursion_from_All, All-from_recursion}
-use Rattle.std.proofs.lemmas.Map.Views.{All-values-insert_entry}
-use Rattle.dj_names.specs.Types.{Name}
-use Rattle.dj_declared.specs.Texts.{Numbers, number_in, text_among, LeadBack, AreKept, Keep}
+use Rattle.std.proofs.lemmas.List.{length_push, length-drop, get_or_append_left, get_or_default, length-append, take_all, take-append-le, drop-append-le}
+use Rattle.std.proofs.lemmas.Option.{same_Some, none-some}
+use Rattle.std.proofs.Math.Seq.{get_or-append_seam, drop-append_seam}
+use Rattle.dj_names.specs.Types.{Name, same_name}
+use Rattle.dj_declared.specs.Texts.{Numbers, number_in, text_in, LeadBack, Keep, AreAscending, AreBefore, texts_from, AreEnds, start_at}
+use Rattle.dj_declared.proofs.DescTests.{same_name_is, same_name_itself}
 
-abbrev Entries : Type 0
-Entries = List (Vec ℕ × ℕ)
+abbrev next : ℕ → ℕ
+next number = number + 1
 
-abbrev order : Vec ℕ → Vec ℕ → Ordering
-order x y = slice_cmp nat_cmp x.items y.items
+abbrev cmp : Name → Name → Ordering
+cmp = slice_cmp nat_cmp
 
--- the number that is found of a text
-abbrev found_in : Entries → Name → Option ℕ
-found_in entries text = lookup (is_at (λ (key : Vec ℕ). slice_cmp nat_cmp text key.items)) entries
+-- ---- the number of a text
 
-same_items : (a b : Name) → slice_cmp nat_cmp a b ≡ Equal → a ≡ b
-same_items a b e = slice_cmp-IsAntisymmetric nat_cmp-IsAntisymmetric a b e
+pub leads_back : (texts : Numbers) → LeadBack texts
+leads_back [] text number is = absurd (none-some number is)
+leads_back (first ∷ texts) text number is = by (same_name first text) (number_in texts text) refl (leads_back texts text) is where
+  by : (b : Bool) (found : Option ℕ) → same_name first text ≡ b → ((k : ℕ) → found ≡ Some k → text_in texts k ≡ text) → cond b (Some 0) (option_map next found) ≡ Some number → text_in (first ∷ texts) number ≡ text
+  by true found same later is = ap (text_in (first ∷ texts)) (sym (same_Some 0 number is)) ∙ same_name_is first text same
+  by false None same later is = absurd (none-some number is)
+  by false (Some k) same later is = ap (text_in (first ∷ texts)) (sym (same_Some (k + 1) number is) ∙ add-one k) ∙ later k refl
 
-tied : (a b : Name) → a ≡ b → slice_cmp nat_cmp a b ≡ Equal
-tied a b e = ap (λ (t : Name). slice_cmp nat_cmp t b) e ∙ tied_itself nat_list_cmp_total b
+pub number_within : (texts : Numbers) (text : Name) (number : ℕ) → number_in texts text ≡ Some number → number < length texts
+number_within [] text number is = absurd (none-some number is)
+number_within (first ∷ texts) text number is = by (same_name first text) (number_in texts text) (number_within texts text) is where
+  by : (b : Bool) (found : Option ℕ) → ((k : ℕ) → found ≡ Some k → k < length texts) → cond b (Some 0) (option_map next found) ≡ Some number → number < length (first ∷ texts)
+  by true found later is = let e = same_Some 0 number is in omega (arith, e)
+  by false None later is = absurd (none-some number is)
+  by false (Some k) later is = let e = same_Some (k + 1) number is in let lt = later k refl in omega (arith, e, lt)
 
--- ---- the text of the new number
+kept_by_more : (old : Numbers) (more text : Name) (number : ℕ) → number_in old text ≡ Some number → number_in (old ++ more ∷ []) text ≡ Some number
+kept_by_more [] more text number is = absurd (none-some number is)
+kept_by_more (first ∷ old) more text number is = by (same_name first text) (number_in old text) (number_in (old ++ more ∷ []) text) (kept_by_more old more text) is where
+  by : (b : Bool) (found later : Option ℕ) → ((k : ℕ) → found ≡ Some k → later ≡ Some k) → cond b (Some 0) (option_map next found) ≡ Some number → cond b (Some 0) (option_map next later) ≡ Some number
+  by true found later kept is = is
+  by false None later kept is = absurd (none-some number is)
+  by false (Some k) later kept is = ap (option_map next) (kept k refl) ∙ is
 
-own_by : (e : Vec ℕ × ℕ) (es : Entries) (key : Vec ℕ) (n : ℕ) (r : Ordering) → order key e.0 ≡ r → e.1 < n → text_among (insert_entry order es key n) n ≡ key.items
-    → text_among (match_ordering r ((key, n) ∷ e ∷ es) ((e.0, n) ∷ es) (e ∷ insert_entry order es key n)) n ≡ key.items
-own_by e es key n Less is lt rest = ap (λ (b : Bool). cond b key.items (text_among (e ∷ es) n)) (eq-eqb n n refl)
-own_by e es key n Equal is lt rest = ap (λ (b : Bool). cond b e.0.items (text_among es n)) (eq-eqb n n refl) ∙ sym (same_items key.items e.0.items is)
-own_by e es key n Greater is lt rest = ap (λ (b : Bool). cond b e.0.items (text_among (insert_entry order es key n) n)) (ne_eqb e.1 n (λ same. absurd (omega arith))) ∙ rest
+pub kept_by_added : (old new : Numbers) (more : Name) → new ≡ old ++ more ∷ [] → Keep old new
+kept_by_added old new more added text number is = ap (λ (texts : Numbers). number_in texts text) added ∙ kept_by_more old more text number is
 
-own_text : (es : Entries) (key : Vec ℕ) (n : ℕ) → AllByRecursion (λ (k : ℕ). k < n) (values_of es) → text_among (insert_entry order es key n) n ≡ key.items
-own_text [] key n all = ap (λ (b : Bool). cond b key.items []) (eq-eqb n n refl)
-own_text (e ∷ es) key n all = own_by e es key n (order key e.0) refl all.0 (own_text es key n all.1)
+-- ---- by the order
 
--- ---- the texts of the other numbers
+equal_texts : (a b : Name) → cmp a b ≡ Equal → a ≡ b
+equal_texts a b e = slice_cmp-IsAntisymmetric nat_cmp-IsAntisymmetric a b e
 
-none_at : (e : Vec ℕ × ℕ) (es : Entries) (key : Name) → found_in (e ∷ es) key ≡ None → slice_cmp nat_cmp key e.0.items ≡ Equal → ⊥
-none_at e es key none is = let bad : Some e.1 ≡ None = ap (λ (r : Ordering). cond (is_eq r) (Some e.1) (found_in es key)) (sym is) ∙ none in absurd cc
+equal_itself : (a : Name) → cmp a a ≡ Equal
+equal_itself a = tied_itself nat_list_cmp_total a
 
-none_later_by : (e : Vec ℕ × ℕ) (later : Option ℕ) (r : Ordering) → cond (is_eq r) (Some e.1) later ≡ None → later ≡ None
-none_later_by e later Less none = none
-none_later_by e later Equal none = absurd cc
-none_later_by e later Greater none = none
+less_back : (a b : Name) → cmp a b ≡ Greater → cmp b a ≡ Less
+less_back a b e = nat_list_cmp_total.antisymm b a ∙ ap ordering_reverse e
 
-none_later : (e : Vec ℕ × ℕ) (es : Entries) (key : Name) → found_in (e ∷ es) key ≡ None → found_in es key ≡ None
-none_later e es key none = none_later_by e (found_in es key) (slice_cmp nat_cmp key e.0.items) none
+greater_back : (a b : Name) → cmp a b ≡ Less → cmp b a ≡ Greater
+greater_back a b e = nat_list_cmp_total.antisymm b a ∙ ap ordering_reverse e
 
-other_by : (e : Vec ℕ × ℕ) (es : Entries) (key : Vec ℕ) (n j : ℕ) (r : Ordering) → order key e.0 ≡ r → (j ≡ n → ⊥) → found_in (e ∷ es) key.items ≡ None → text_among (insert_entry order es key n) j ≡ text_among es j
-    → text_among (match_ordering r ((key, n) ∷ e ∷ es) ((e.0, n) ∷ es) (e ∷ insert_entry order es key n)) j ≡ text_among (e ∷ es) j
-other_by e es key n j Less is other none rest = ap (λ (b : Bool). cond b key.items (text_among (e ∷ es) j)) (ne_eqb n j (λ same. other (sym same)))
-other_by e es key n j Equal is other none rest = absurd (none_at e es key.items none is)
-other_by e es key n j Greater is other none rest = ap (λ (t : Name). cond (eqb e.1 j) e.0.items t) rest
+differs : (a b : Name) (r : Ordering) → cmp a b ≡ r → (r ≡ Equal → ⊥) → same_name a b ≡ false
+differs a b r e other = elim (cases_Bool (same_name a b)) [
+  | inl same ↦ absurd (other (sym e ∙ ap (λ (t : Name). cmp t b) (same_name_is a b same) ∙ equal_itself b))
+  | inr apart ↦ apart
+]
 
-other_text : (es : Entries) (key : Vec ℕ) (n j : ℕ) → (j ≡ n → ⊥) → found_in es key.items ≡ None → text_among (insert_entry order es key n) j ≡ text_among es j
-other_text [] key n j other none = ap (λ (b : Bool). cond b key.items []) (ne_eqb n j (λ same. other (sym same)))
-other_text (e ∷ es) key n j other none = other_by e es key n j (order key e.0) refl other none (other_text es key n j other (none_later e es key.items none))
+less_differs : (a b : Name) → cmp a b ≡ Less → same_name a b ≡ false
+less_differs a b e = differs a b Less e (λ same. absurd cc)
 
--- ---- the number of each text
+greater_differs : (a b : Name) → cmp a b ≡ Greater → same_name a b ≡ false
+greater_differs a b e = differs a b Greater e (λ same. absurd cc)
 
-apart : (text key : Name) (r : Ordering) → slice_cmp nat_cmp text key ≡ r → (text ≡ key → ⊥) → is_eq r ≡ false
-apart text key Less e other = refl
-apart text key Equal e other = absurd (other (same_items text key e))
-apart text key Greater e other = refl
+-- no text is this one
+pub none_of : (texts : Numbers) (text : Name) → ((place : ℕ) → place < length texts → same_name (text_in texts place) text ≡ false) → number_in texts text ≡ None
+none_of [] text none = refl
+none_of (first ∷ texts) text none =
+    ap (λ (b : Bool). cond b (Some 0) (option_map next (number_in texts text))) (none 0 (omega arith))
+    ∙ ap (option_map next) (none_of texts text (λ place lt. none (suc place) (omega (arith, lt))))
 
-found_by : (e : Vec ℕ × ℕ) (es : Entries) (key : Vec ℕ) (n : ℕ) (text : Name) (r : Ordering) → order key e.0 ≡ r → (text ≡ key.items → ⊥) → found_in (insert_entry order es key n) text ≡ found_in es text
-    → found_in (match_ordering r ((key, n) ∷ e ∷ es) ((e.0, n) ∷ es) (e ∷ insert_entry order es key n)) text ≡ found_in (e ∷ es) text
-found_by e es key n text Less is other rest = ap (λ (b : Bool). cond b (Some n) (found_in (e ∷ es) text)) (apart text key.items (slice_cmp nat_cmp text key.items) refl other)
-found_by e es key n text Equal is other rest =
-    let differ : is_eq (slice_cmp nat_cmp text e.0.items) ≡ false = apart text e.0.items (slice_cmp nat_cmp text e.0.items) refl (λ same. other (same ∙ sym (same_items key.items e.0.items is))) in
-    ap (λ (b : Bool). cond b (Some n) (found_in es text)) differ ∙ sym (ap (λ (b : Bool). cond b (Some e.1) (found_in es text)) differ)
-found_by e es key n text Greater is other rest = ap (λ (o : Option ℕ). cond (is_eq (slice_cmp nat_cmp text e.0.items)) (Some e.1) o) rest
+-- the first that is
+first_of : (texts : Numbers) (text : Name) (number : ℕ) → number < length texts → ((place : ℕ) → place < number → same_name (text_in texts place) text ≡ false) → same_name (text_in texts number) text ≡ true → number_in texts text ≡ Some number
+first_of [] text number lt none is = absurd (omega (arith, lt))
+first_of (first ∷ texts) text zero lt none is = ap (λ (b : Bool). cond b (Some 0) (option_map next (number_in texts text))) is
+first_of (first ∷ texts) text (suc number) lt none is =
+    ap (λ (b : Bool). cond b (Some 0) (option_map next (number_in texts text))) (none 0 (omega arith))
+    ∙ ap (option_map next) (first_of texts text number (omega (arith, lt)) (λ place below. none (suc place) (omega (arith, below))) is)
+    ∙ ap Some (add-one number)
 
-found_other : (es : Entries) (key : Vec ℕ) (n : ℕ) (text : Name) → (text ≡ key.items → ⊥) → found_in (insert_entry order es key n) text ≡ found_in es text
-found_other [] key n text other = ap (λ (b : Bool). cond b (Some n) None) (apart text key.items (slice_cmp nat_cmp text key.items) refl other)
-found_other (e ∷ es) key n text other = found_by e es key n text (order key e.0) refl other (found_other es key n text other)
+pub texts_long : (start : ℕ) (ends bytes : List ℕ) → length (texts_from start ends bytes) ≡ length ends
+texts_long start [] bytes = refl
+texts_long start (end ∷ ends) bytes = let e = texts_long end ends bytes in omega (arith, e)
 
--- a number that is found is that of an entry
-found_below_by : (e : Vec ℕ × ℕ) (later : Option ℕ) (n j : ℕ) (b : Bool) → e.1 < n → (later ≡ Some j → j < n) → cond b (Some e.1) later ≡ Some j → j < n
-found_below_by e later n j true lt rest is = let same : e.1 ≡ j = cc in omega arith
-found_below_by e later n j false lt rest is = rest is
+-- ---- a search
 
-found_below : (es : Entries) (text : Name) (n j : ℕ) → AllByRecursion (λ (k : ℕ). k < n) (values_of es) → found_in es text ≡ Some j → j < n
-found_below [] text n j all is = absurd cc
-found_below (e ∷ es) text n j all is = found_below_by e (found_in es text) n j (is_eq (slice_cmp nat_cmp text e.0.items)) all.0 (found_below es text n j all.1) is
+-- of the texts that end there those up to a place are before the text, and those from another place on are after it
+pub record IsBetween (ends bytes : List ℕ) (text : Name) (low high : ℕ) : Type 0 where
+  pub order : low ≤ high
+  pub within : high ≤ length ends
+  pub before : (place : ℕ) → place < low → cmp (text_in (texts_from 0 ends bytes) place) text ≡ Less
+  pub after : (place : ℕ) → high ≤ place → place < length ends → cmp (text_in (texts_from 0 ends bytes) place) text ≡ Greater
 
--- ---- with one text more
+pub between_all : (ends bytes : List ℕ) (text : Name) → IsBetween ends bytes text 0 (length ends)
+between_all ends bytes text = record {
+  order = omega arith;
+  within = omega arith;
+  before = λ place lt. absurd (omega (arith, lt));
+  after = λ place le lt. absurd (omega (arith, le, lt));
+}
 
-equal_texts : (a b : Name) (r : Ordering) → slice_cmp nat_cmp a b ≡ r → is_eq r ≡ true → a ≡ b
-equal_texts a b Less e t = absurd cc
-equal_texts a b Equal e t = same_items a b e
-equal_texts a b Greater e t = absurd cc
+rises : (ends bytes : List ℕ) → AreAscending (texts_from 0 ends bytes) → (i j : ℕ) → i < j → j < length ends → cmp (text_in (texts_from 0 ends bytes) i) (text_in (texts_from 0 ends bytes) j) ≡ Less
+rises ends bytes ascend i j lt within = ascend i j lt (let long = texts_long 0 ends bytes in omega (arith, within, long))
 
-one_number : (a b : ℕ) → Some a ≡ Some b → a ≡ b
-one_number a b e = cc
+module _ (ends bytes : List ℕ) (text : Name) (low high middle : ℕ) (ascend : AreAscending (texts_from 0 ends bytes)) (is : IsBetween ends bytes text low high) (lt : middle < high) (le : low ≤ middle) where
+  pub between_higher : Less ≡ cmp (text_in (texts_from 0 ends bytes) middle) text → IsBetween ends bytes text (middle + 1) high
+  between_higher less = record {
+    order = omega (arith, lt);
+    within = is.within;
+    before = λ place below. elim (cases_lt place middle) [
+      | inl under ↦
+          (let wide = is.within in
+          nat_list_cmp_total.trans (text_in (texts_from 0 ends bytes) place) (text_in (texts_from 0 ends bytes) middle) text (rises ends bytes ascend place middle under (omega (arith, lt, wide))) (sym less))
+      | inr over ↦ (let same : place ≡ middle = omega (arith, over, below) in ap (λ (k : ℕ). cmp (text_in (texts_from 0 ends bytes) k) text) same ∙ sym less)
+    ];
+    after = is.after;
+  }
 
-differing_texts : (a b : Name) → a ≡ b → is_eq (slice_cmp nat_cmp a b) ≡ false → ⊥
-differing_texts a b e f = let bad : true ≡ false = sym (ap is_eq (tied a b e)) ∙ f in absurd cc
+  pub between_lower : Greater ≡ cmp (text_in (texts_from 0 ends bytes) middle) text → IsBetween ends bytes text low middle
+  between_lower greater = record {
+    order = le;
+    within = (let wide = is.within in omega (arith, lt, wide));
+    before = is.before;
+    after = λ place above inside. elim (cases_lt middle place) [
+      | inl over ↦
+          greater_back text (text_in (texts_from 0 ends bytes) place)
+          (nat_list_cmp_total.trans text (text_in (texts_from 0 ends bytes) middle) (text_in (texts_from 0 ends bytes) place) (less_back (text_in (texts_from 0 ends bytes) middle) text (sym greater)) (rises ends bytes ascend middle place over inside))
+      | inr under ↦ (let same : place ≡ middle = omega (arith, above, under) in ap (λ (k : ℕ). cmp (text_in (texts_from 0 ends bytes) k) text) same ∙ sym greater)
+    ];
+  }
 
-absent_other : (text key : Name) (found : Name → Option ℕ) (j : ℕ) → found key ≡ None → found text ≡ Some j → text ≡ key → ⊥
-absent_other text key found j none some same = let bad : Some j ≡ None = sym some ∙ ap found same ∙ none in absurd cc
+pub found_there : (ends bytes : List ℕ) (text : Name) (middle : ℕ) → AreAscending (texts_from 0 ends bytes) → middle < length ends → Equal ≡ cmp (text_in (texts_from 0 ends bytes) middle) text → Some middle ≡ number_in (texts_from 0 ends bytes) text
+found_there ends bytes text middle ascend lt equal =
+    let is : text_in (texts_from 0 ends bytes) middle ≡ text = equal_texts (text_in (texts_from 0 ends bytes) middle) text (sym equal) in
+    sym (first_of (texts_from 0 ends bytes) text middle (let long = texts_long 0 ends bytes in omega (arith, lt, long))
+    (λ place below. less_differs (text_in (texts_from 0 ends bytes) place) text (ap (cmp (text_in (texts_from 0 ends bytes) place)) (sym is) ∙ rises ends bytes ascend place middle below lt))
+    (same_name_itself (text_in (texts_from 0 ends bytes) middle) text is))
 
-pub kept_more : (old new : Numbers) (key : Vec ℕ) (n : ℕ) → number_in old key.items ≡ None → new.entries ≡ insert_entry order old.entries key n → Keep old new
-kept_more old new key n none is text j found =
-    ap (λ (es : Entries). found_in es text) is
-    ∙ found_other old.entries key n text (absent_other text key.items (found_in old.entries) j none found)
-    ∙ found
+pub found_nowhere : (ends bytes : List ℕ) (text : Name) (low high : ℕ) → IsBetween ends bytes text low high → high ≤ low → None ≡ number_in (texts_from 0 ends bytes) text
+found_nowhere ends bytes text low high is met = sym (none_of (texts_from 0 ends bytes) text (λ place lt. elim (cases_lt place low) [
+  | inl under ↦ less_differs (text_in (texts_from 0 ends bytes) place) text (is.before place under)
+  | inr over ↦ greater_differs (text_in (texts_from 0 ends bytes) place) text (is.after place (omega (arith, over, met)) (let long = texts_long 0 ends bytes in omega (arith, lt, long)))
+]))
 
-back_at : (old : Entries) (key : Vec ℕ) (n : ℕ) (text : Name) (j : ℕ) → AllByRecursion (λ (k : ℕ). k < n) (values_of old) → found_in old key.items ≡ None → ((t : Name) (k : ℕ) → found_in old t ≡ Some k → text_among old k ≡ t)
-    → (b : Bool) → is_eq (slice_cmp nat_cmp text key.items) ≡ b → found_in (insert_entry order old key n) text ≡ Some j → found_in (insert_entry order old key n) key.items ≡ Some n → text_among (insert_entry order old key n) j ≡ text
-back_at old key n text j all none back true same found own =
-    let is : text ≡ key.items = equal_texts text key.items (slice_cmp nat_cmp text key.items) refl same in
-    let number : n ≡ j = one_number n j (sym own ∙ ap (found_in (insert_entry order old key n)) (sym is) ∙ found) in
-    ap (text_among (insert_entry order old key n)) (sym number) ∙ own_text old key n all ∙ sym is
-back_at old key n text j all none back false same found own =
-    let other : text ≡ key.items → ⊥ = λ (e : text ≡ key.items). differing_texts text key.items e same in
-    let before : found_in old text ≡ Some j = sym (found_other old key n text other) ∙ found in
-    let below : j < n = found_below old text n j all before in
-    other_text old key n j (λ same. absurd (omega arith)) none ∙ back text j before
+-- ---- one text more
 
-pub back_more : (old new : Numbers) (key : Vec ℕ) (n : ℕ) → All (λ (k : ℕ). k < n) (values_of old.entries) → number_in old key.items ≡ None → number_in new key.items ≡ Some n → new.entries ≡ insert_entry order old.entries key n → LeadBack old → LeadBack new
-back_more old new key n all none own is back text j found =
-    ap (λ (es : Entries). text_among es j) is
-    ∙ back_at old.entries key n text j (recursion_from_All (λ (k : ℕ). k < n) (values_of old.entries) all) none back (is_eq (slice_cmp nat_cmp text key.items)) refl
-    (sym (ap (λ (es : Entries). found_in es text) is) ∙ found) (sym (ap (λ (es : Entries). found_in es key.items) is) ∙ own)
+module _ (texts : Numbers) (more : Name) (before : AreBefore texts more) where
+  old_text : (place : ℕ) → place < length texts → text_in (texts ++ more ∷ []) place ≡ text_in texts place
+  old_text place lt = get_or_append_left texts (more ∷ []) [] place lt
 
-wider : (n m : ℕ) (ns : List ℕ) → n < m → AllByRecursion (λ (k : ℕ). k < n) ns → AllByRecursion (λ (k : ℕ). k < m) ns
-wider n m [] lt all = tt
-wider n m (k ∷ ns) lt all = (omega (arith, all.0), wider n m ns lt all.1)
+  new_text : text_in (texts ++ more ∷ []) (length texts) ≡ more
+  new_text = get_or-append_seam texts more [] []
 
-pub below_more : (old new : Numbers) (key : Vec ℕ) (n m : ℕ) → n < m → All (λ (k : ℕ). k < n) (values_of old.entries) → new.entries ≡ insert_entry order old.entries key n → All (λ (k : ℕ). k < m) (values_of new.entries)
-below_more old new key n m lt all is =
-    let wide : All (λ (k : ℕ). k < m) (values_of old.entries) = All-from_recursion (λ (k : ℕ). k < m) (values_of old.entries) (wider n m (values_of old.entries) lt (recursion_from_All (λ (k : ℕ). k < n) (values_of old.entries) all)) in
-    subst (λ (es : Entries). All (λ (k : ℕ). k < m) (values_of es)) (sym is) (All-values-insert_entry order key n (λ (k : ℕ). k < m) old.entries wide lt)
+  ascend_push : AreAscending texts → AreAscending (texts ++ more ∷ [])
+  ascend_push ascend i j lt within = let long = length_push texts more in elim (cases_lt j (length texts)) [
+    | inl old ↦ ap (λ (t : Name). cmp t (text_in (texts ++ more ∷ []) j)) (old_text i (omega (arith, lt, old))) ∙ ap (cmp (text_in texts i)) (old_text j old) ∙ ascend i j lt old
+    | inr new ↦
+        (let last : j ≡ length texts = omega (arith, new, within, long) in
+        ap (λ (k : ℕ). cmp (text_in (texts ++ more ∷ []) i) (text_in (texts ++ more ∷ []) k)) last
+        ∙ ap (cmp (text_in (texts ++ more ∷ []) i)) new_text
+        ∙ ap (λ (t : Name). cmp t more) (old_text i (omega (arith, lt, last)))
+        ∙ before i (omega (arith, lt, last)))
+  ]
 
--- ---- the texts by their numbers
+  number_push : number_in (texts ++ more ∷ []) more ≡ Some (length texts)
+  number_push =
+      first_of (texts ++ more ∷ []) more (length texts) (let long = length_push texts more in omega (arith, long))
+      (λ place lt. ap (λ (t : Name). same_name t more) (old_text place lt) ∙ less_differs (text_in texts place) more (before place lt))
+      (same_name_itself (text_in (texts ++ more ∷ []) (length texts)) more new_text)
 
-get_before : (texts : List Name) (text : Name) (j : ℕ) (key : Name) → slice_get texts j ≡ Some text → slice_get (texts ++ key ∷ []) j ≡ Some text
-get_before [] text j key e = absurd cc
-get_before (t ∷ texts) text zero key e = e
-get_before (t ∷ texts) text (suc j) key e = get_before texts text j key e
+-- what is told of the texts with one more
+pub ascend_more : (texts new : Numbers) (more : Name) → AreBefore texts more → new ≡ texts ++ more ∷ [] → AreAscending texts → AreAscending new
+ascend_more texts new more before added ascend = subst AreAscending (sym added) (ascend_push texts more before ascend)
 
-get_last : (texts : List Name) (key : Name) (j : ℕ) → length texts ≡ j → slice_get (texts ++ key ∷ []) j ≡ Some key
-get_last [] key zero e = refl
-get_last [] key (suc j) e = absurd (omega (arith, e))
-get_last (t ∷ texts) key zero e = absurd (omega (arith, e))
-get_last (t ∷ texts) key (suc j) e = get_last texts key j (omega (arith, e))
+pub number_more : (texts new : Numbers) (more : Name) (number : ℕ) → AreBefore texts more → new ≡ texts ++ more ∷ [] → number ≡ length texts → number_in new more ≡ Some number
+number_more texts new more number before added is = ap (λ (ts : Numbers). number_in ts more) added ∙ number_push texts more before ∙ ap Some (sym is)
 
-kept_at : (old : Entries) (texts : List Name) (key : Vec ℕ) (n : ℕ) (text : Name) (j : ℕ) → length texts ≡ n → ((t : Name) (k : ℕ) → found_in old t ≡ Some k → slice_get texts k ≡ Some t)
-    → (b : Bool) → is_eq (slice_cmp nat_cmp text key.items) ≡ b → found_in (insert_entry order old key n) text ≡ Some j → found_in (insert_entry order old key n) key.items ≡ Some n → slice_get (texts ++ key.items ∷ []) j ≡ Some text
-kept_at old texts key n text j count kept true same found own =
-    let is : text ≡ key.items = equal_texts text key.items (slice_cmp nat_cmp text key.items) refl same in
-    let number : n ≡ j = one_number n j (sym own ∙ ap (found_in (insert_entry order old key n)) (sym is) ∙ found) in
-    get_last texts key.items j (count ∙ number) ∙ ap Some (sym is)
-kept_at old texts key n text j count kept false same found own =
-    let other : text ≡ key.items → ⊥ = λ (e : text ≡ key.items). differing_texts text key.items e same in
-    get_before texts text j key.items (kept text j (sym (found_other old key n text other) ∙ found))
+-- all are before a text that the last one is before
+pub before_by_last : (ends bytes : List ℕ) (text : Name) → AreAscending (texts_from 0 ends bytes) → 0 < length ends → Less ≡ cmp (text_in (texts_from 0 ends bytes) (length ends - 1)) text → AreBefore (texts_from 0 ends bytes) text
+before_by_last ends bytes text ascend some less place lt = let long = texts_long 0 ends bytes in elim (cases_lt place (length ends - 1)) [
+  | inl under ↦ nat_list_cmp_total.trans (text_in (texts_from 0 ends bytes) place) (text_in (texts_from 0 ends bytes) (length ends - 1)) text (ascend place (length ends - 1) under (omega (arith, some, long))) (sym less)
+  | inr over ↦ (let same : place ≡ length ends - 1 = omega (arith, over, lt, long) in ap (λ (k : ℕ). cmp (text_in (texts_from 0 ends bytes) k) text) same ∙ sym less)
+]
+
+pub before_none : (ends bytes : List ℕ) (text : Name) → length ends ≡ 0 → AreBefore (texts_from 0 ends bytes) text
+before_none ends bytes text none place lt = absurd (let long = texts_long 0 ends bytes in omega (arith, long, none, lt))
+
+-- ---- in one list of bytes
+
+pub text_there : (start : ℕ) (ends bytes : List ℕ) (place : ℕ) → place < length ends → text_in (texts_from start ends bytes) place ≡ take (get_or ends place 0 - start_at start ends place) (drop (start_at start ends place) bytes)
+text_there start [] bytes place lt = absurd (omega (arith, lt))
+text_there start (end ∷ ends) bytes zero lt = refl
+text_there start (end ∷ ends) bytes (suc zero) lt = text_there end ends bytes zero (omega (arith, lt))
+text_there start (end ∷ ends) bytes (suc (suc place)) lt = text_there end ends bytes (suc place) (omega (arith, lt))
+
+-- from a place on each text ends where it begins or later, and the last one at the end of so many bytes
+abbrev IsRun : ℕ → List ℕ → ℕ → Type 0
+IsRun start [] long = start ≡ long
+IsRun start (end ∷ ends) long = (start ≤ end) × IsRun end ends long
+
+begins_after : (start end : ℕ) (ends : List ℕ) (place : ℕ) → start_at start (end ∷ ends) (suc place) ≡ start_at end ends place
+begins_after start end ends zero = refl
+begins_after start end ends (suc place) = refl
+
+one_longer : (end : ℕ) (ends : List ℕ) → suc (length ends) ≡ length (end ∷ ends)
+one_longer end ends = omega arith
+
+run_of : (start : ℕ) (ends : List ℕ) (long : ℕ) → ((place : ℕ) → place < length ends → start_at start ends place ≤ get_or ends place 0) → start_at start ends (length ends) ≡ long → IsRun start ends long
+run_of start [] long rise last = last
+run_of start (end ∷ ends) long rise last = (
+  rise 0 (omega arith),
+  run_of end ends long
+      (λ place lt. subst (λ (n : ℕ). n ≤ get_or ends place 0) (begins_after start end ends place) (rise (suc place) (omega (arith, lt))))
+      (sym (begins_after start end ends (length ends)) ∙ ap (start_at start (end ∷ ends)) (one_longer end ends) ∙ last),
+)
+
+ends_reach : (start : ℕ) (ends : List ℕ) (long : ℕ) → IsRun start ends long → start ≤ long
+ends_reach start [] long are = omega (arith, are)
+ends_reach start (end ∷ ends) long are = let le = are.0 in let far = ends_reach end ends long are.1 in omega (arith, le, far)
+
+bounds_in : (start : ℕ) (ends : List ℕ) (long place : ℕ) → IsRun start ends long → place < length ends → (start_at start ends place ≤ get_or ends place 0) × (get_or ends place 0 ≤ long)
+bounds_in start [] long place are lt = absurd (omega (arith, lt))
+bounds_in start (end ∷ ends) long zero are lt = (are.0, ends_reach end ends long are.1)
+bounds_in start (end ∷ ends) long (suc place) are lt =
+    let later = bounds_in end ends long place are.1 (omega (arith, lt)) in
+    (subst (λ (n : ℕ). n ≤ get_or ends place 0) (sym (begins_after start end ends place)) later.0, later.1)
+
+whole_run : (ends : List ℕ) (long : ℕ) → AreEnds ends long → IsRun 0 ends long
+whole_run ends long are = run_of 0 ends long are.rise are.last
+
+pub text_bounds : (ends : List ℕ) (long place : ℕ) → AreEnds ends long → place < length ends → (start_at 0 ends place ≤ get_or ends place 0) × (get_or ends place 0 ≤ long)
+text_bounds ends long place are lt = bounds_in 0 ends long place (whole_run ends long are) lt
+
+-- where the text before it ends
+pub begins : (ends : List ℕ) (place value : ℕ) → place ≤ length ends → (place ≡ 0 → ⊥) → value ≡ get_or ends (place - 1) value → value ≡ start_at 0 ends place
+begins ends zero value le other is = absurd (other refl)
+begins ends (suc place) value le other is = is ∙ ap (λ (k : ℕ). get_or ends k value) (before place) ∙ get_or_default ends place value 0 (omega (arith, le)) where
+  before : (k : ℕ) → suc k - 1 ≡ k
+  before k = omega arith
+
+pub begins_first : (ends : List ℕ) (place : ℕ) → place ≡ 0 → 0 ≡ start_at 0 ends place
+begins_first ends place is = sym (ap (start_at 0 ends) is)
+
+pub starts_before : (ends bytes : List ℕ) (place start : ℕ) → AreEnds ends (length bytes) → place < length ends → start ≡ start_at 0 ends place → start ≤ get_or ends place 0
+starts_before ends bytes place start are lt is = let bounds = text_bounds ends (length bytes) place are lt in omega (arith, bounds.0, is)
+
+pub ends_inside : (ends bytes : List ℕ) (place : ℕ) → AreEnds ends (length bytes) → place < length ends → get_or ends place 0 ≤ length bytes
+ends_inside ends bytes place are lt = (text_bounds ends (length bytes) place are lt).1
+
+pub text_read : (ends bytes : List ℕ) (place start : ℕ) → place < length ends → start ≡ start_at 0 ends place → take (get_or ends place 0 - start) (drop start bytes) ≡ text_in (texts_from 0 ends bytes) place
+text_read ends bytes place start lt is = ap (λ (s : ℕ). take (get_or ends place 0 - s) (drop s bytes)) is ∙ sym (text_there 0 ends bytes place lt)
+
+run_more : (start : ℕ) (ends : List ℕ) (long more : ℕ) → IsRun start ends long → long ≤ more → IsRun start (ends ++ more ∷ []) more
+run_more start [] long more are le = (omega (arith, are, le), refl)
+run_more start (end ∷ ends) long more are le = (are.0, run_more end ends long more are.1 le)
+
+last_in : (start : ℕ) (ends : List ℕ) (long : ℕ) → IsRun start ends long → start_at start ends (length ends) ≡ long
+last_in start [] long are = are
+last_in start (end ∷ ends) long are = ap (start_at start (end ∷ ends)) (sym (one_longer end ends)) ∙ begins_after start end ends (length ends) ∙ last_in end ends long are.1
+
+pub ends_more : (ends new : List ℕ) (long more : ℕ) → AreEnds ends long → long ≤ more → new ≡ ends ++ more ∷ [] → AreEnds new more
+ends_more ends new long more are le added =
+    let run = run_more 0 ends long more (whole_run ends long are) le in
+    subst (λ (es : List ℕ). AreEnds es more) (sym added) (record {
+      rise = λ place lt. (bounds_in 0 (ends ++ more ∷ []) more place run lt).0;
+      last = last_in 0 (ends ++ more ∷ []) more run;
+    })
+
+same_part : (bytes text : List ℕ) (start end : ℕ) → start ≤ end → end ≤ length bytes → take (end - start) (drop start (bytes ++ text)) ≡ take (end - start) (drop start bytes)
+same_part bytes text start end le far =
+    let long = length-drop start bytes in
+    ap (take (end - start)) (drop-append-le start bytes text (omega (arith, le, far))) ∙ take-append-le (end - start) (drop start bytes) text (omega (arith, le, far, long))
+
+last_part : (bytes text : List ℕ) → take (length bytes + length text - length bytes) (drop (length bytes) (bytes ++ text)) ≡ text
+last_part bytes text = ap (take (length bytes + length text - length bytes)) (drop-append_seam bytes text) ∙ take_all (length bytes + length text - length bytes) text (omega arith)
+
+texts_push : (start : ℕ) (ends bytes text : List ℕ) → IsRun start ends (length bytes) → texts_from start (ends ++ (length bytes + length text) ∷ []) (bytes ++ text) ≡ texts_from start ends bytes ++ text ∷ []
+texts_push start [] bytes text are = ap (λ (t : Name). t ∷ []) (ap (λ (k : ℕ). take (length bytes + length text - k) (drop k (bytes ++ text))) are ∙ last_part bytes text)
+texts_push start (end ∷ ends) bytes text are =
+    let part = same_part bytes text start end are.0 (ends_reach end ends (length bytes) are.1) in
+    let later = texts_push end ends bytes text are.1 in
+    λ i. part i ∷ later i
+
+pub texts_more : (ends bytes text new_ends new_bytes : List ℕ) (end : ℕ) → AreEnds ends (length bytes) → end ≡ length bytes + length text → new_ends ≡ ends ++ end ∷ [] → new_bytes ≡ bytes ++ text
+    → texts_from 0 new_ends new_bytes ≡ texts_from 0 ends bytes ++ text ∷ []
+texts_more ends bytes text new_ends new_bytes end are is ends_is bytes_is =
+    ap (λ (es : List ℕ). texts_from 0 es new_bytes) (ends_is ∙ ap (λ (e : ℕ). ends ++ e ∷ []) is)
+    ∙ ap (texts_from 0 (ends ++ (length bytes + length text) ∷ [])) bytes_is
+    ∙ texts_push 0 ends bytes text (whole_run ends (length bytes) are)
+
+-- a text that was appended is taken away
+pub taken_back : (bytes text more back : List ℕ) (start : ℕ) → start ≡ length bytes → more ≡ bytes ++ text → back ≡ take start more → back ≡ bytes
+taken_back bytes text more back start is appended taken =
+    taken ∙ ap (take start) appended ∙ ap (λ (n : ℕ). take n (bytes ++ text)) is ∙ take-append-le (length bytes) bytes text (omega arith) ∙ take_all (length bytes) bytes (omega arith)
+
+-- ---- a table
 
 -- what a table of texts keeps
-pub record Holds (numbers : Numbers) (texts : List Name) : Type 0 where
-  pub back : LeadBack numbers
-  pub below : All (λ (k : ℕ). k < length texts) (values_of numbers.entries)
-  pub kept : AreKept numbers texts
+pub record Holds (ends bytes : List ℕ) : Type 0 where
+  pub few : length ends ≤ 65536
+  pub ended : AreEnds ends (length bytes)
+  pub ascend : AreAscending (texts_from 0 ends bytes)
 
-pub holds_more : (old new : Numbers) (texts more : List Name) (key : Vec ℕ) (n : ℕ) → n ≡ length texts → more ≡ texts ++ key.items ∷ [] → Holds old texts → number_in old key.items ≡ None → number_in new key.items ≡ Some n
-    → new.entries ≡ insert_entry order old.entries key n → Holds new more
-holds_more old new texts more key n count longer holds none own is =
-    let all : All (λ (k : ℕ). k < n) (values_of old.entries) = subst (λ (m : ℕ). All (λ (k : ℕ). k < m) (values_of old.entries)) (sym count) holds.below in
-    let long : length more ≡ n + 1 = ap length longer ∙ length_push texts key.items ∙ ap (λ (m : ℕ). m + 1) (sym count) in
-    record {
-      back = back_more old new key n all none own is holds.back;
-      below = below_more old new key n (length more) (omega (arith, long)) all is;
-      kept = λ text j found. subst (λ (ts : List Name). slice_get ts j ≡ Some text) (sym longer)
-          (kept_at old.entries texts key n text j (sym count) holds.kept (is_eq (slice_cmp nat_cmp text key.items)) refl
-          (sym (ap (λ (es : Entries). found_in es text) is) ∙ found) (sym (ap (λ (es : Entries). found_in es key.items) is) ∙ own));
-    }
+pub holds_same : (ends bytes new_ends new_bytes : List ℕ) → Holds ends bytes → new_bytes ≡ bytes → new_ends ≡ ends → Holds new_ends new_bytes
+holds_same ends bytes new_ends new_bytes holds bytes_is ends_is =
+    subst (λ (bs : List ℕ). Holds new_ends bs) (sym bytes_is) (subst (λ (es : List ℕ). Holds es bytes) (sym ends_is) holds)
 
--- the numbers are the same, and one text more stands at the end
-pub holds_longer : (old new : Numbers) (texts more : List Name) (key : Name) → more ≡ texts ++ key ∷ [] → new.entries ≡ old.entries → Holds old texts → Holds new more
-holds_longer old new texts more key longer is holds =
-    let long : length more ≡ length texts + 1 = ap length longer ∙ length_push texts key in
-    record {
-      back = λ text j found. ap (λ (es : Entries). text_among es j) is ∙ holds.back text j (sym (ap (λ (es : Entries). found_in es text) is) ∙ found);
-      below = subst (λ (es : Entries). All (λ (k : ℕ). k < length more) (values_of es)) (sym is)
-          (All-from_recursion (λ (k : ℕ). k < length more) (values_of old.entries)
-          (wider (length texts) (length more) (values_of old.entries) (omega (arith, long)) (recursion_from_All (λ (k : ℕ). k < length texts) (values_of old.entries) holds.below)));
-      kept = λ text j found. subst (λ (ts : List Name). slice_get ts j ≡ Some text) (sym longer)
-          (get_before texts text j key (holds.kept text j (sym (ap (λ (es : Entries). found_in es text) is) ∙ found)));
-    }
+module _ (ends bytes new_ends new_bytes : List ℕ) (text : Name) (number : ℕ) (holds : Holds ends bytes) (before : AreBefore (texts_from 0 ends bytes) text) (bytes_is : new_bytes ≡ bytes ++ text)
+    (ends_is : new_ends ≡ ends ++ (length bytes + length text) ∷ []) where
+  one_text : texts_from 0 new_ends new_bytes ≡ texts_from 0 ends bytes ++ text ∷ []
+  one_text = texts_more ends bytes text new_ends new_bytes (length bytes + length text) holds.ended refl ends_is bytes_is
 
--- a text that has the number stands there
-within_by : (texts : List Name) (j : ℕ) (text : Name) → slice_get texts j ≡ Some text → j < length texts
-within_by [] j text e = absurd cc
-within_by (t ∷ texts) zero text e = omega arith
-within_by (t ∷ texts) (suc j) text e = let lt = within_by texts j text e in omega (arith, lt)
+  pub holds_more : number ≡ length ends → number < 65536 → Holds new_ends new_bytes
+  holds_more is lt = record {
+    few = (let long = ap length ends_is in let more = length_push ends (length bytes + length text) in omega (arith, long, more, is, lt));
+    ended = subst (λ (n : ℕ). AreEnds new_ends n) (sym (ap length bytes_is ∙ length-append bytes text)) (ends_more ends new_ends (length bytes) (length bytes + length text) holds.ended (omega arith) ends_is);
+    ascend = ascend_more (texts_from 0 ends bytes) (texts_from 0 new_ends new_bytes) text before one_text holds.ascend;
+  }
 
-pub text_within : (numbers : Numbers) (texts lent : List Name) (number : ℕ) (text : Name) → AreKept numbers texts → number_in numbers text ≡ Some number → lent ≡ texts → number < length lent
-text_within numbers texts lent number text kept is same = subst (λ (ts : List Name). number < length ts) (sym same) (within_by texts number text (kept text number is))
+  pub keep_more : Keep (texts_from 0 ends bytes) (texts_from 0 new_ends new_bytes)
+  keep_more = kept_by_added (texts_from 0 ends bytes) (texts_from 0 new_ends new_bytes) text one_text
 
-read_by : (texts : List Name) (j : ℕ) (text found : Name) → slice_get texts j ≡ Some text → found ≡ get_or texts j found → found ≡ text
-read_by [] j text found e is = absurd cc
-read_by (t ∷ texts) zero text found e is = is ∙ same_Some t text e
-read_by (t ∷ texts) (suc j) text found e is = read_by texts j text found e is
+  pub told_more : number ≡ length ends → number_in (texts_from 0 new_ends new_bytes) text ≡ Some number
+  told_more is = number_more (texts_from 0 ends bytes) (texts_from 0 new_ends new_bytes) text number before one_text (is ∙ sym (texts_long 0 ends bytes))
 
-pub text_read : (numbers : Numbers) (texts lent : List Name) (number : ℕ) (text found : Name) → AreKept numbers texts → number_in numbers text ≡ Some number → lent ≡ texts → found ≡ get_or lent number found → found ≡ text
-text_read numbers texts lent number text found kept is same read = read_by texts number text found (kept text number is) (read ∙ ap (λ (ts : List Name). get_or ts number found) same)
-
-pub on_each : {T E : Type 0} (r : Result T E) (P S Q R : Type 0) → OnOk r P → OnOk r S → OnErr r Q → (P → S → R) → (Q → R) → R
-on_each (Ok x) P S Q R ok more err f g = f ok more
-on_each (Err e) P S Q R ok more err f g = g err
+pub on_both : {T E : Type 0} (r : Result T E) (P Q S U R : Type 0) → OnOk r P × OnOk r Q → OnErr r S × OnErr r U → (P → Q → R) → (S → U → R) → R
+on_both (Ok x) P Q S U R ok err f g = f ok.0 ok.1
+on_both (Err e) P Q S U R ok err f g = g err.0 err.1

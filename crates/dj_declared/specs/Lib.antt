@@ -1,6 +1,5 @@
 pub mod Files
 pub mod Members
-pub mod Marks
 pub mod Texts
 pub mod Rows
 pub mod Tables

@@ -3,9 +3,10 @@ use Rattle.std.specs.Prelude.{ℕ, ◌+◌, Bool, List, [], ◌∷◌, Option, S
 use Rattle.std.specs.List.{list_any}
 use Rattle.std.specs.Option.{option_map}
 use Rattle.dj_names.specs.declared.descriptor.Desc.{Desc}
+use Rattle.dj_names.specs.declared.native.NativeId.{NativeId}
 use Rattle.dj_names.specs.Types.{Name, same_name}
 use Rattle.dj_names.specs.Descriptors.{Describes}
-use Rattle.dj_model.specs.Program.{Method, Field, is_named}
+use Rattle.dj_model.specs.Program.{Method, Field, Body, Native, is_named}
 use Rattle.dj_model.specs.Linking.{has_body}
 use Rattle.dj_declared.specs.Files.{desc_in}
 
@@ -21,6 +22,14 @@ method_name m = m.name
 
 abbrev pub method_has_body : Method → Bool
 method_has_body m = has_body m.body
+
+abbrev pub native_in : Body → Option NativeId
+native_in (Native id) = Some id
+native_in body = None
+
+-- what a native method of the library is; none of a method that has code, or neither
+abbrev pub method_native : Method → Option NativeId
+method_native m = native_in m.body
 
 abbrev pub field_name : Field → Name
 field_name f = f.name

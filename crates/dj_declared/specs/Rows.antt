@@ -1,8 +1,8 @@
 -- The code's own: members by the numbers of their texts.
-use Rattle.std.specs.Prelude.{◌≡◌, ℕ, ◌+◌, ◌<◌, ◌≤◌, ◌&&◌, Bool, true, false, not, List, [], ◌∷◌, All, map, option_and_then, Option, Some, None, get_or, is_some, length, take, nat_eq, if◌then◌else◌}
+use Rattle.std.specs.Prelude.{◌≡◌, ℕ, ◌+◌, ◌*◌, ◌<◌, ◌≤◌, ◌&&◌, Bool, true, not, List, [], ◌∷◌, All, map, option_and_then, Option, Some, None, get_or, is_some, length, take, nat_eq, slice_get, unwrap_or, if◌then◌else◌}
 use Rattle.std.specs.Option.{option_map}
-use Rattle.std.specs.Ordering.{nat_cmp, ordering_then}
-use Rattle.std.specs.BTreeMap.{BTreeMap, get_by}
+use Rattle.std.specs.List.{AllByRecursion}
+use Rattle.std.specs.List.Sorted.{IsNonDecreasingBy}
 use Rattle.dj_names.specs.Types.{Name}
 use Rattle.dj_names.specs.DescReading.{desc_read}
 use Rattle.dj_names.specs.declared.native.NativeId.{NativeId}
@@ -70,20 +70,37 @@ first_row name desc (row ∷ rows) = if is_row name desc row then Some 0 else op
 abbrev pub place_named : Numbers → List MemberRow → Name → Name → Option ℕ
 place_named numbers rows name desc = option_and_then (λ n. option_and_then (λ d. first_row n d rows) (number_in numbers desc)) (number_in numbers name)
 
-abbrev pub Places : Type 0
-Places = BTreeMap (ℕ × ℕ) ℕ
+-- ---- the places, in the order of the numbers
 
-abbrev pub place_in : Places → ℕ → ℕ → Option ℕ
-place_in places name desc = get_by (λ key. ordering_then (nat_cmp name key.0) (nat_cmp desc key.1)) places
+-- two numbers as one
+abbrev pub pair_of : ℕ → ℕ → ℕ
+pair_of name desc = name * 65536 + desc
 
--- the first place of each two numbers among these rows
-abbrev pub AreFirst : List MemberRow → Places → Type 0
-AreFirst rows places = (name desc : ℕ) → place_in places name desc ≡ first_row name desc rows
+abbrev pub key_by : Option MemberRow → ℕ → ℕ
+key_by None place = place
+key_by (Some row) place = pair_of row.name row.desc * 65536 + place
 
--- what was found, or else what comes after it
-abbrev pub or_after : Option ℕ → Option ℕ → Option ℕ
-or_after None later = later
-or_after (Some place) later = Some place
+-- what the row at a place is ordered by: the numbers, and the place
+abbrev pub key_at : List MemberRow → ℕ → ℕ
+key_at rows place = key_by (slice_get rows place) place
+
+-- these are the first places, so many
+pub record AreCounted (count : ℕ) (places : List ℕ) : Type 0 where
+  pub few : count ≤ 65536
+  pub long : length places ≡ count
+  pub each : (place : ℕ) → place < count → get_or places place 0 ≡ place
+
+-- the places of all rows, in the order of the numbers
+pub record AreOrdered (rows : List MemberRow) (order : List ℕ) : Type 0 where
+  pub few : length rows ≤ 65536
+  pub within : All (λ place. place < length rows) order
+  pub whole : (place : ℕ) → place < length rows → ((k : ℕ) → k < length order → get_or order k place ≡ place → ⊥) → ⊥
+  pub ascend : IsNonDecreasingBy (key_at rows) order
+
+-- the row there has these numbers, or it has others
+abbrev pub IsAnswer : List MemberRow → ℕ → ℕ → ℕ → Option ℕ → Type 0
+IsAnswer rows place name desc None = (row : MemberRow) → slice_get rows place ≡ Some row → pair_of row.name row.desc ≡ pair_of name desc → ⊥
+IsAnswer rows place name desc (Some found) = (found ≡ place) × ((row : MemberRow) → slice_get rows place ≡ Some row → is_row name desc row ≡ true)
 
 -- how many of these rows aren't static
 abbrev pub instance_rows : List MemberRow → ℕ
@@ -95,35 +112,41 @@ pub record AreCounts (rows : List MemberRow) (counts : List ℕ) : Type 0 where
   pub long : length counts ≡ length rows + 1
   pub each : (place : ℕ) → place ≤ length rows → get_or counts place 0 ≡ instance_rows (take place rows)
 
--- the place of the row was noted, where none stood before it
-abbrev pub Notes : MemberRow → ℕ → Places → Places → Type 0
-Notes row place old new = (name desc : ℕ) → place_in new name desc ≡ or_after (place_in old name desc) (if is_row name desc row then Some place else None)
-
 -- ---- the rows of a class file
 
--- of the first indexes of the pool, so many, the text of each one that is marked has the number that stands at the index
-abbrev pub AreNumbered : List Constant → ℕ → List Bool → List ℕ → Numbers → Type 0
-AreNumbered pool count marks places numbers =
-    (index : ℕ) (text : List ℕ) → index < count → get_or marks index false ≡ true → text_at pool index ≡ Some text → number_in numbers text ≡ Some (get_or places index 0)
+-- the number that stands at an index
+abbrev pub number_at : List (Option ℕ) → ℕ → ℕ
+number_at places index = unwrap_or (get_or places index None) 0
+
+-- there is a room for each index of the pool, and where a number stands it is that of the index's text
+pub record AreNumbered (pool : List Constant) (places : List (Option ℕ)) (numbers : Numbers) : Type 0 where
+  pub rooms : length places ≡ length pool + 1
+  pub told : (index number : ℕ) (text : List ℕ) → get_or places index None ≡ Some number → text_at pool index ≡ Some text → number_in numbers text ≡ Some number
+
+-- numbers stand at the indexes of the member's name and descriptor
+pub record IsNamed (places : List (Option ℕ)) (m : MemberInfo) : Type 0 where
+  pub name : is_some (get_or places m.name None) ≡ true
+  pub desc : is_some (get_or places m.desc None) ≡ true
+
+abbrev pub AreNamed : List (Option ℕ) → List MemberInfo → Type 0
+AreNamed places members = AllByRecursion (IsNamed places) members
 
 abbrev pub kept_body : ℕ → MemberBody
 kept_body flags = if is_bodiless flags then bodies.Empty else bodies.Code
 
-abbrev pub method_row_of : List ℕ → MemberInfo → MemberRow
-method_row_of places m = record {
+abbrev pub member_row_of : List (Option ℕ) → MemberBody → MemberInfo → MemberRow
+member_row_of places body m = record {
   flags = m.flags;
-  name = get_or places m.name 0;
-  desc = get_or places m.desc 0;
-  body = kept_body m.flags;
+  name = number_at places m.name;
+  desc = number_at places m.desc;
+  body = body;
 }
 
-abbrev pub field_row_of : List ℕ → MemberInfo → MemberRow
-field_row_of places m = record {
-  flags = m.flags;
-  name = get_or places m.name 0;
-  desc = get_or places m.desc 0;
-  body = bodies.Empty;
-}
+abbrev pub method_row_of : List (Option ℕ) → MemberInfo → MemberRow
+method_row_of places m = member_row_of places (kept_body m.flags) m
+
+abbrev pub field_row_of : List (Option ℕ) → MemberInfo → MemberRow
+field_row_of places f = member_row_of places bodies.Empty f
 
 -- ---- the rows of a library
 

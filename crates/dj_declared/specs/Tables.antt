@@ -5,10 +5,10 @@ use Rattle.dj_declared.specs.declared.tables.ClassMembers.{ClassMembers}
 use Rattle.dj_declared.specs.Rows.{row_method, row_field}
 
 abbrev pub methods_of : ClassMembers → List Method
-methods_of members = map (row_method members.texts.numbers) members.methods.rows.items
+methods_of members = map (row_method members.texts) members.methods.rows.items
 
 abbrev pub fields_of : ClassMembers → List Field
-fields_of members = map (row_field members.texts.numbers) members.fields.rows.items
+fields_of members = map (row_field members.texts) members.fields.rows.items
 
 -- these are the members
 pub record AreMembers (fields : List Field) (methods : List Method) (members : ClassMembers) : Type 0 where

@@ -7,8 +7,8 @@ ghost use Rattle.dj_natives.specs.Views.{library_class_view};
 ghost use Rattle.dj_model.specs.Program.{method_in, field_in};
 ghost use Rattle.dj_model.specs.Linking.{count_fields, fields_before};
 ghost use Rattle.dj_model.specs.Libraries.{library_class};
-ghost use Rattle.dj_declared.specs.Files.{desc_in, declared_class};
-ghost use Rattle.dj_declared.specs.Members.{IsDescriptor, method_flags, method_name, method_has_body, field_flags, field_name, has_method_named, method_place, field_place};
+ghost use Rattle.dj_declared.specs.Files.{desc_in, bare_class, declared_class};
+ghost use Rattle.dj_declared.specs.Members.{IsDescriptor, method_flags, method_name, method_has_body, method_native, field_flags, field_name, has_method_named, method_place, field_place};
 
 use crate::error::DeclareError;
 use crate::file::file_members;
@@ -17,7 +17,7 @@ use crate::library::library_members;
 use crate::listed::{ListedNames, class_names, copied_names};
 use crate::tables::ClassMembers;
 use dj_class::ClassView;
-use dj_names::Name;
+use dj_names::{Name, NativeId};
 use dj_natives::LibClass;
 use std::alloc::Global;
 use std::marker::Model;
@@ -83,6 +83,13 @@ pub fn declare_library_class(alloc: Global, class: &LibClass) -> Result<Declared
 }
 
 impl DeclaredClass {
+    /// A law: there is no code, and there are no constants.
+    pub fn is_bare(&self)
+        ensures { bare_class self.now ≡ self.now }
+    {
+        let _ = &self.members;
+    }
+
     /// The name.
     pub fn name(&self) -> &[u8]
         ensures { result.now ≡ self.now.name }
@@ -208,6 +215,14 @@ impl DeclaredClass {
         ensures { Some result ≡ option_map method_has_body (slice_get self.now.methods place) }
     {
         self.members.method_has_body(place)
+    }
+
+    /// Which method of the library the method at a place is; none of one with code, and of one with neither.
+    pub fn method_native(&self, place: u32) -> Option<NativeId>
+        requires { place < length self.now.methods }
+        ensures { Some result ≡ option_map method_native (slice_get self.now.methods place) }
+    {
+        self.members.method_native(place)
     }
 
     /// The name of the field at a place.

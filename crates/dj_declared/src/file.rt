@@ -1,12 +1,11 @@
 //! The members of a class file.
-ghost use Rattle.std.specs.Prelude.{◌≡◌, ◌<◌, ◌^◌, ℕ, true, List, Some, IfOk, OnOk, get_or, length, map};
+ghost use Rattle.std.specs.Prelude.{◌≡◌, ◌+◌, ◌<◌, ◌^◌, Some, None, IfOk, OnOk, get_or, length, map};
 ghost use Rattle.dj_pool.specs.Pool.{text_at};
 ghost use Rattle.dj_class.specs.ClassFile.{IsValid};
 ghost use Rattle.dj_class.specs.Members.{member_of};
 ghost use Rattle.dj_class.specs.Views.{class_of};
 ghost use Rattle.dj_declared.specs.Files.{declared_method, declared_field};
-ghost use Rattle.dj_declared.specs.Texts.{number_in, Keep};
-ghost use Rattle.dj_declared.specs.Rows.{AreNumbered, kept_body, method_row_of, field_row_of};
+ghost use Rattle.dj_declared.specs.Rows.{AreNumbered, IsNamed, AreNamed, kept_body, member_row_of, method_row_of, field_row_of};
 ghost use Rattle.dj_declared.specs.Tables.{AreMembers};
 
 use crate::error::DeclareError;
@@ -18,51 +17,116 @@ use dj_class::{AccessFlags, ClassView, MemberView};
 use dj_pool::Pool;
 use std::alloc::Global;
 
-// The number of the text of an index that names a member; of another one it doesn't matter.
-fn number_text(
+// A text that names members, and its index.
+type NamedText<'a> = (&'a [u8], u16);
+
+// The texts that name members, and by the index of a text its number.
+#[derive(Drop)]
+struct NumberedTexts {
+    texts: TextTable,
+    places: Vec<Option<u16>>,
+}
+
+// Appends the text of an index, where there is one.
+fn push_named<'a>(
+    texts: &mut Vec<NamedText<'a>>,
+    pool: &Pool<'a>,
+    index: usize,
+) -> Result<(), DeclareError> {
+    let Ok(index) = u16::try_from(index) else {
+        return Ok(());
+    };
+    if let Some(text) = pool.text(index) {
+        texts.push((text, index))?;
+    }
+    Ok(())
+}
+
+// The texts of the indexes that are marked, in ascending order. Each index is looked at once, however many members it names.
+fn named_texts<'a>(
     alloc: Global,
-    texts: &mut TextTable,
+    pool: &Pool<'a>,
+    marks: &[bool],
+) -> Result<Vec<NamedText<'a>>, DeclareError> {
+    let mut count = 0usize;
+    for named in marks {
+        count = count.saturating_add(*named as usize);
+    }
+    let mut texts = Vec::with_capacity(alloc, count)?;
+    for (index, named) in marks.iter().enumerate() {
+        if *named {
+            push_named(&mut texts, pool, index)?;
+        }
+    }
+    texts.sort_unstable();
+    Ok(texts)
+}
+
+// How many bytes the texts have.
+fn bytes_of(texts: &[NamedText<'_>]) -> usize {
+    let mut bytes = 0usize;
+    for named in texts {
+        bytes = bytes.saturating_add(named.0.len());
+    }
+    bytes
+}
+
+// Adds the text of an index, and puts its number there.
+fn put_number(
+    table: &mut TextTable,
+    places: &mut Vec<Option<u16>>,
     pool: &Pool<'_>,
     index: u16,
-    named: bool,
-) -> Result<u32, DeclareError>
-    ensures told { IfOk result (λ number. named ≡ true → (text : List ℕ) → text_at pool.now index ≡ Some text → number_in texts.new.numbers text ≡ Some number) }
-    ensures keeps { OnOk result (Keep texts.old.numbers texts.new.numbers) }
+    text: &[u8],
+) -> Result<(), DeclareError>
+    requires numbered { AreNumbered pool.now places.old.items table.old }
+    requires text { text_at pool.now index ≡ Some text.now }
+    ensures { OnOk result (AreNumbered pool.now places.new.items table.new) }
 {
-    if !named {
-        return Ok(0);
-    }
+    let number = table.add(text)?;
+    places[index as usize] = Some(number);
+    Ok(())
+}
+
+// The same, where the index has a text.
+fn put_number_if(
+    table: &mut TextTable,
+    places: &mut Vec<Option<u16>>,
+    pool: &Pool<'_>,
+    index: u16,
+) -> Result<(), DeclareError>
+    requires { AreNumbered pool.now places.old.items table.old }
+    ensures { OnOk result (AreNumbered pool.now places.new.items table.new) }
+{
     match pool.text(index) {
-        Some(text) => texts.intern(alloc, text),
-        None => Ok(0),
+        Some(text) => put_number(table, places, pool, index, text),
+        None => Ok(()),
     }
 }
 
-// The numbers of the texts that name members, by index. Each index is looked at once, however many members it names.
+// The numbers of texts in ascending order, by index. Of equal texts, which stand next to each other, one is kept.
 fn number_texts(
     alloc: Global,
-    texts: &mut TextTable,
+    table: &mut TextTable,
     pool: &Pool<'_>,
-    marks: &[bool],
-) -> Result<Vec<u32>, DeclareError>
-    requires { length marks.now < 2 ^ 16 }
-    ensures { IfOk result (λ places. AreNumbered pool.now (length marks.now) marks.now places.items texts.new.numbers) }
+    texts: &[NamedText<'_>],
+) -> Result<Vec<Option<u16>>, DeclareError>
+    ensures { IfOk result (λ places. AreNumbered pool.now places.items table.new) }
 {
-    let mut places = Vec::new(alloc);
-    for (index, named) in marks.iter().enumerate() {
-        let number = number_text(alloc, texts, pool, index as u16, *named)?;
-        places.push(number)?;
+    let mut places = vec![in alloc; None; pool.as_slice().len() + 1]?;
+    for named in texts {
+        put_number_if(table, &mut places, pool, named.1)?;
     }
     Ok(places)
 }
 
 // The number at an index.
-fn number_at(places: &[u32], index: u16) -> u32
-    ensures { result ≡ get_or places.now index 0 }
+fn number_at(places: &[Option<u16>], index: u16) -> Result<u16, DeclareError>
+    ensures { IfOk result (λ number. get_or places.now index None ≡ Some number) }
 {
     match places.get(index as usize) {
-        Some(number) => *number,
-        None => 0,
+        Some(Some(number)) => Ok(*number),
+        _ => Err(DeclareError::Memory),
     }
 }
 
@@ -80,22 +144,38 @@ fn body_of(flags: u16) -> MemberBody
     MemberBody::Code
 }
 
+// A member, by the numbers of its texts.
+fn member_row(
+    places: &[Option<u16>],
+    member: &MemberView<'_>,
+    body: MemberBody,
+) -> Result<MemberRow, DeclareError>
+    ensures row { IfOk result (λ row. row ≡ member_row_of places.now body (member_of member.now)) }
+    ensures named { IfOk result (λ row. IsNamed places.now (member_of member.now)) }
+{
+    let name = number_at(places, member.name)?;
+    let desc = number_at(places, member.desc)?;
+    Ok(MemberRow {
+        flags: member.flags,
+        name,
+        desc,
+        body,
+    })
+}
+
 // The methods, by the numbers of their texts.
 fn method_rows(
     alloc: Global,
-    places: &[u32],
+    places: &[Option<u16>],
     methods: &[MemberView<'_>],
 ) -> Result<Vec<MemberRow>, DeclareError>
-    ensures { IfOk result (λ rows. rows.items ≡ map (method_row_of places.now) (map member_of methods.now)) }
+    ensures rows { IfOk result (λ rows. rows.items ≡ map (method_row_of places.now) (map member_of methods.now)) }
+    ensures named { IfOk result (λ rows. AreNamed places.now (map member_of methods.now)) }
 {
-    let mut rows = Vec::new(alloc);
+    let mut rows = Vec::with_capacity(alloc, methods.len())?;
     for method in methods {
-        rows.push(MemberRow {
-            flags: method.flags,
-            name: number_at(places, method.name),
-            desc: number_at(places, method.desc),
-            body: body_of(method.flags),
-        })?;
+        let row = member_row(places, method, body_of(method.flags))?;
+        rows.push(row)?;
     }
     Ok(rows)
 }
@@ -103,21 +183,36 @@ fn method_rows(
 // The fields, by the numbers of their texts.
 fn field_rows(
     alloc: Global,
-    places: &[u32],
+    places: &[Option<u16>],
     fields: &[MemberView<'_>],
 ) -> Result<Vec<MemberRow>, DeclareError>
-    ensures { IfOk result (λ rows. rows.items ≡ map (field_row_of places.now) (map member_of fields.now)) }
+    ensures rows { IfOk result (λ rows. rows.items ≡ map (field_row_of places.now) (map member_of fields.now)) }
+    ensures named { IfOk result (λ rows. AreNamed places.now (map member_of fields.now)) }
 {
-    let mut rows = Vec::new(alloc);
+    let mut rows = Vec::with_capacity(alloc, fields.len())?;
     for field in fields {
-        rows.push(MemberRow {
-            flags: field.flags,
-            name: number_at(places, field.name),
-            desc: number_at(places, field.desc),
-            body: MemberBody::Empty,
-        })?;
+        let row = member_row(places, field, MemberBody::Empty)?;
+        rows.push(row)?;
     }
     Ok(rows)
+}
+
+// The texts that name the members.
+fn file_texts(
+    alloc: Global,
+    pool: &Pool<'_>,
+    fields: &[MemberView<'_>],
+    methods: &[MemberView<'_>],
+) -> Result<NumberedTexts, DeclareError>
+    requires { length pool.now + 1 < 2 ^ 16 }
+    ensures { IfOk result (λ numbered. AreNumbered pool.now numbered.places.items numbered.texts) }
+{
+    let marks = named_indexes(alloc, pool.as_slice().len() + 1, fields, methods)?;
+    let named = named_texts(alloc, pool, &marks)?;
+    let mut texts = TextTable::with_room(alloc, named.len(), bytes_of(&named))?;
+    let places = number_texts(alloc, &mut texts, pool, &named)?;
+    texts.shrink();
+    Ok(NumberedTexts { texts, places })
 }
 
 /// The members of a class file.
@@ -130,15 +225,12 @@ pub(crate) fn file_members(
 {
     let fields = view.fields.as_slice();
     let methods = view.methods.as_slice();
-    let count = view.pool.as_slice().len() + 1;
-    let marks = named_indexes(alloc, count, fields, methods)?;
-    let mut texts = TextTable::new(alloc);
-    let places = number_texts(alloc, &mut texts, &view.pool, &marks)?;
-    let fields = MemberTable::new(alloc, field_rows(alloc, &places, fields)?)?;
-    let methods = MemberTable::new(alloc, method_rows(alloc, &places, methods)?)?;
+    let numbered = file_texts(alloc, &view.pool, fields, methods)?;
+    let fields = MemberTable::new(alloc, field_rows(alloc, &numbered.places, fields)?)?;
+    let methods = MemberTable::new(alloc, method_rows(alloc, &numbered.places, methods)?)?;
     let counts = fields.instance_counts(alloc)?;
     Ok(ClassMembers {
-        texts,
+        texts: numbered.texts,
         fields,
         methods,
         counts,

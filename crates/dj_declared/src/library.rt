@@ -1,9 +1,9 @@
 //! The members of a class of a library.
-ghost use Rattle.std.specs.Prelude.{◌≡◌, [], All, IfOk, OnOk, map};
+ghost use Rattle.std.specs.Prelude.{◌≡◌, [], All, Some, IfOk, map};
 ghost use Rattle.dj_names.specs.Descriptors.{IsDesc};
 ghost use Rattle.dj_natives.specs.Views.{library_method_view};
 ghost use Rattle.dj_model.specs.Libraries.{library_method};
-ghost use Rattle.dj_declared.specs.Texts.{Keep};
+ghost use Rattle.dj_declared.specs.Texts.{number_in};
 ghost use Rattle.dj_declared.specs.Rows.{native_body, IsRowOf, AreRowsOf};
 ghost use Rattle.dj_declared.specs.Tables.{AreMembers};
 
@@ -12,7 +12,7 @@ use crate::members::{MemberBody, MemberRow, MemberTable};
 use crate::spelling::spell_desc;
 use crate::tables::ClassMembers;
 use crate::texts::TextTable;
-use dj_names::NativeId;
+use dj_names::{Name, NativeId};
 use dj_natives::LibMethod;
 use std::alloc::Global;
 
@@ -26,19 +26,66 @@ fn body_of(native: Option<NativeId>) -> MemberBody
     }
 }
 
+// The texts of descriptors.
+fn spelled_descs(alloc: Global, methods: &[LibMethod]) -> Result<Vec<Name>, DeclareError> {
+    let mut texts = Vec::with_capacity(alloc, methods.len())?;
+    for method in methods {
+        texts.push(spell_desc(alloc, &method.desc)?)?;
+    }
+    Ok(texts)
+}
+
+// The texts of names and of descriptors, in ascending order.
+fn sorted_texts<'a>(
+    alloc: Global,
+    methods: &'a [LibMethod],
+    descs: &'a [Name],
+) -> Result<Vec<&'a [u8]>, DeclareError> {
+    let mut texts = Vec::new(alloc);
+    for method in methods {
+        texts.push(method.name.as_slice())?;
+    }
+    for desc in descs {
+        texts.push(desc.as_slice())?;
+    }
+    texts.sort_unstable();
+    Ok(texts)
+}
+
+// The texts that name the methods.
+fn library_texts(alloc: Global, methods: &[LibMethod]) -> Result<TextTable, DeclareError> {
+    let descs = spelled_descs(alloc, methods)?;
+    let named = sorted_texts(alloc, methods, &descs)?;
+    let mut texts = TextTable::with_room(alloc, named.len(), 0)?;
+    for text in &named {
+        texts.add(text)?;
+    }
+    texts.shrink();
+    Ok(texts)
+}
+
+// The number of a text that is there.
+fn number_of(texts: &TextTable, text: &[u8]) -> Result<u16, DeclareError>
+    ensures { IfOk result (λ number. number_in texts.now text.now ≡ Some number) }
+{
+    match texts.find(text) {
+        Some(number) => Ok(number),
+        None => Err(DeclareError::Memory),
+    }
+}
+
 // A method, by the numbers of its texts.
 fn method_row(
     alloc: Global,
-    texts: &mut TextTable,
+    texts: &TextTable,
     method: &LibMethod,
 ) -> Result<MemberRow, DeclareError>
     requires { IsDesc method.now.desc }
-    ensures is { IfOk result (λ row. IsRowOf texts.new.numbers row (library_method (library_method_view method.now))) }
-    ensures keeps { OnOk result (Keep texts.old.numbers texts.new.numbers) }
+    ensures { IfOk result (λ row. IsRowOf texts.now row (library_method (library_method_view method.now))) }
 {
     let text = spell_desc(alloc, &method.desc)?;
-    let name = texts.intern(alloc, method.name.as_slice())?;
-    let desc = texts.intern(alloc, text.as_slice())?;
+    let name = number_of(texts, method.name.as_slice())?;
+    let desc = number_of(texts, text.as_slice())?;
     Ok(MemberRow {
         flags: method.flags,
         name,
@@ -50,13 +97,13 @@ fn method_row(
 // The methods, by the numbers of their texts.
 fn method_rows(
     alloc: Global,
-    texts: &mut TextTable,
+    texts: &TextTable,
     methods: &[LibMethod],
 ) -> Result<Vec<MemberRow>, DeclareError>
     requires { All (λ m. IsDesc m.desc) methods.now }
-    ensures { IfOk result (λ rows. AreRowsOf texts.new.numbers rows.items (map library_method (map library_method_view methods.now))) }
+    ensures { IfOk result (λ rows. AreRowsOf texts.now rows.items (map library_method (map library_method_view methods.now))) }
 {
-    let mut rows = Vec::new(alloc);
+    let mut rows = Vec::with_capacity(alloc, methods.len())?;
     for method in methods {
         let row = method_row(alloc, texts, method)?;
         rows.push(row)?;
@@ -72,8 +119,8 @@ pub(crate) fn library_members(
     requires { All (λ m. IsDesc m.desc) methods.now }
     ensures { IfOk result (AreMembers [] (map library_method (map library_method_view methods.now))) }
 {
-    let mut texts = TextTable::new(alloc);
-    let rows = method_rows(alloc, &mut texts, methods)?;
+    let texts = library_texts(alloc, methods)?;
+    let rows = method_rows(alloc, &texts, methods)?;
     let methods = MemberTable::new(alloc, rows)?;
     let fields = MemberTable::new(alloc, Vec::new(alloc))?;
     let counts = fields.instance_counts(alloc)?;

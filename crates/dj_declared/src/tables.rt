@@ -3,6 +3,7 @@ ghost use Rattle.dj_declared.specs.Rows.{AreSound, AreCounts};
 
 use crate::members::{MemberBody, MemberTable};
 use crate::texts::TextTable;
+use dj_names::NativeId;
 
 /// The fields and the methods of a class.
 #[derive(Drop)]
@@ -12,7 +13,7 @@ pub(crate) struct ClassMembers {
     pub(crate) methods: MemberTable,
     // How many instance fields stand before each place, and before the end.
     pub(crate) counts: Vec<u32>,
-    ghost sound: { AreSound texts.numbers fields.rows.items methods.rows.items },
+    ghost sound: { AreSound texts fields.rows.items methods.rows.items },
     ghost counted: { AreCounts fields.rows.items counts.items },
 }
 
@@ -23,7 +24,7 @@ impl ClassMembers {
     ghost use Rattle.dj_model.specs.Program.{method_in, field_in};
     ghost use Rattle.dj_model.specs.Linking.{count_fields, fields_before};
     ghost use Rattle.dj_declared.specs.Files.{desc_in};
-    ghost use Rattle.dj_declared.specs.Members.{IsDescriptor, method_flags, method_name, method_has_body, field_flags, field_name, has_method_named, method_place, field_place};
+    ghost use Rattle.dj_declared.specs.Members.{IsDescriptor, method_flags, method_name, method_has_body, method_native, field_flags, field_name, has_method_named, method_place, field_place};
     ghost use Rattle.dj_declared.specs.Tables.{methods_of, fields_of};
 
     /// The place of the first method with this name and this descriptor.
@@ -115,6 +116,17 @@ impl ClassMembers {
         match self.methods.row(place).body {
             MemberBody::Empty => false,
             MemberBody::Native(_) | MemberBody::Code => true,
+        }
+    }
+
+    /// Which method of the library the method at a place is; none of one with code, and of one with neither.
+    pub(crate) fn method_native(&self, place: u32) -> Option<NativeId>
+        requires { place < length (methods_of self.now) }
+        ensures { Some result ≡ option_map method_native (slice_get (methods_of self.now) place) }
+    {
+        match self.methods.row(place).body {
+            MemberBody::Native(id) => Some(id),
+            MemberBody::Empty | MemberBody::Code => None,
         }
     }
 

@@ -63,7 +63,7 @@ pub fn judge_code(
 {
     let mut early = Vec::new(alloc);
     let mut late = Vec::new(alloc);
-    add_own_marks(alloc, &mut early, view, texts, method, &code)?;
+    add_own_marks(&mut early, view, texts, method, &code)?;
     let Some(known) = known else {
         return Ok(Marks { early, late });
     };

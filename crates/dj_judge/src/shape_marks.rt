@@ -16,7 +16,7 @@ use dj_check::{Mark, Place, WholeCode, add_mark_if};
 use dj_class::{ClassView, MemberView};
 use dj_link::is_static;
 use dj_pool::Pool;
-use dj_program::{MethodCode, ProgramError, method_code};
+use dj_program::{MethodCode, method_code};
 use dj_rules::RulesError;
 use dj_shape::{PoolKinds, ShapeError, ShapeFault, pool_kinds, shape};
 use std::alloc::Global;
@@ -44,21 +44,13 @@ fn kinds_of(
     }
 }
 
-// The code of the method, with its stack map read.
-fn code_of(
-    alloc: Global,
-    pool: &Pool<'_>,
-    method: &MemberView<'_>,
-    code: WholeCode<'_>,
-) -> Result<MethodCode, RulesError>
+// The code of the method.
+fn code_of(pool: &Pool<'_>, method: &MemberView<'_>, code: WholeCode<'_>) -> MethodCode
     requires { IsWholeMethod pool.now (member_of method.now) code }
-    ensures few { IfOk result (λ read. length read.code.code < 2 ^ 32) }
-    ensures code { IfOk result (λ read. IsMethodCode pool.now (member_of method.now) (parts_of read)) }
+    ensures few { length result.code.code < 2 ^ 32 }
+    ensures code { IsMethodCode pool.now (member_of method.now) (parts_of result) }
 {
-    match method_code(alloc, code) {
-        Ok(read) => Ok(read),
-        Err(ProgramError::Memory) => Err(RulesError::Memory),
-    }
+    method_code(code)
 }
 
 // The fault of the method's code in shape, if it has one.
@@ -75,7 +67,7 @@ fn fault_of(
     requires plain { NamesFloat pool.now (member_of method.now).desc → ⊥ }
     ensures { IfOk result (IsFaultOf pool.now (member_of method.now)) }
 {
-    let read = code_of(alloc, pool, method, code)?;
+    let read = code_of(pool, method, code);
     match shape(alloc, kinds, is_static(method.flags), method.desc, &read) {
         Ok(fault) => Ok(fault),
         Err(ShapeError::Memory) => Err(RulesError::Memory),

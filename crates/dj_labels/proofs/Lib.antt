@@ -4,6 +4,7 @@ pub mod Numbers
 pub mod Once
 pub mod Proper
 pub mod Steps
+pub mod Searched
 pub mod RowLaws
 pub mod TargetLaws
 pub mod InstrLaws

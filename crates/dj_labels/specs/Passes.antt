@@ -1,5 +1,5 @@
 -- The code's own: what its passes hand on to one another.
-use Rattle.std.specs.Prelude.{◌≡◌, ℕ, ◌<◌, ⊤, ℤ, pos, List, [], ◌∷◌, ◌++◌, map, length, slice_get, AllPairs, Option, Some, Contains}
+use Rattle.std.specs.Prelude.{◌≡◌, ℕ, ◌<◌, ⊤, ℤ, pos, List, [], ◌∷◌, ◌++◌, map, length, AllPairs, Contains}
 use Rattle.std.specs.List.{AllByRecursion}
 use Rattle.dj_ops.specs.declared.instruction.Instr.{Instr}
 use Rattle.dj_ops.specs.declared.rows.CatchRow.{CatchRow}
@@ -53,15 +53,6 @@ IsStartsFault code e = ⊥
 -- each comes before the next
 abbrev pub IsRising : List ℕ → Type 0
 IsRising = AllPairs (λ a b. a < b)
-
--- at each address stands the number of the first instructions, so many, that starts there
-pub record TellsFirst (count : ℕ) (numbers : List (Option ℕ)) (starts : List ℕ) : Type 0 where
-  pub told : (address number : ℕ) → slice_get numbers address ≡ Some (Some number) → (number < count) × (slice_get starts number ≡ Some address)
-  pub all : (number address : ℕ) → number < count → slice_get starts number ≡ Some address → slice_get numbers address ≡ Some (Some number)
-
--- at each address stands the number of the instruction that starts there
-abbrev pub TellsNumbers : List (Option ℕ) → List ℕ → Type 0
-TellsNumbers numbers starts = TellsFirst (length starts) numbers starts
 
 -- ---- targets
 

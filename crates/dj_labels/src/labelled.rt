@@ -86,6 +86,13 @@ impl Ranges {
     }
 }
 
+/// Code with its labels, and the addresses at which its instructions start.
+#[derive(Debug, Drop)]
+pub struct Labelling {
+    pub labelled: Labelled,
+    pub starts: Vec<u32>,
+}
+
 /// The code of a method. The targets of its instructions are numbers of instructions, from 0 on.
 #[derive(Debug, Drop)]
 pub struct Labelled {

@@ -6,7 +6,7 @@ ghost use Rattle.dj_labels.specs.Faults.{Refuses, IsRefused, Yields};
 ghost use Rattle.dj_labels.specs.Passes.{AreStarts, StandsSome, IsInstrAt, IsInstrFault, AreInstrs, IsInstrsFault};
 
 use crate::errors::CodeError;
-use crate::labelled::Labelled;
+use crate::labelled::{Labelled, Labelling};
 use crate::rows::ranges_of;
 use crate::starts::{StartTable, read_starts};
 use crate::targets::number_instr;
@@ -35,12 +35,39 @@ fn label_instrs(alloc: Global, code: &[u8], table: &StartTable) -> Result<Instrs
     ensures labelled { IfOk result (AreInstrs code.now table.now.starts.items) }
     ensures refused { IfErr result (IsInstrsFault code.now) }
 {
-    let mut instrs = Instrs::new(alloc);
+    let mut instrs = Instrs::with_capacity(alloc, table.starts.len())?;
     for i in 0..table.starts.len() {
         let instr = label_instr(alloc, code, table, table.starts[i])?;
         instrs.push(instr)?;
     }
     Ok(instrs)
+}
+
+/// The same as `label`, with the addresses at which the instructions start.
+pub fn label_with_starts(
+    alloc: Global,
+    code: &[u8],
+    table: &[CatchRow],
+) -> Result<Labelling, CodeError>
+    requires few { length code.now < 2 ^ 16 }
+    // What is answered are the labels.
+    ensures labelled { IfOk result (λ l. IsLabelled code.now table.now l.labelled) }
+    // The instructions start there.
+    ensures starts { IfOk result (λ l. AreStarts code.now l.starts.items) }
+    // A refusal has its cause, so that where there are labels only memory is short.
+    ensures refused { IfErr result (IsRefused code.now table.now) }
+{
+    let starts = read_starts(alloc, code)?;
+    let numbers = StartTable::new(starts);
+    let instrs = label_instrs(alloc, code, &numbers)?;
+    let ranges = ranges_of(alloc, &numbers, code.len(), table)?;
+    Ok(Labelling {
+        labelled: Labelled {
+            code: instrs,
+            ranges,
+        },
+        starts: numbers.into_starts(),
+    })
 }
 
 /// The instructions of the code, and the ranges of its exception table. The empty code has no instructions.
@@ -55,12 +82,8 @@ pub fn label(alloc: Global, code: &[u8], table: &[CatchRow]) -> Result<Labelled,
     // Where a cause is, that refusal comes.
     ensures all_refused { (e : CodeError) → Refuses code.now table.now e → Yields result (Err e) }
 {
-    let starts = read_starts(alloc, code)?;
-    let numbers = StartTable::new(alloc, starts, code.len())?;
-    let instrs = label_instrs(alloc, code, &numbers)?;
-    let ranges = ranges_of(alloc, &numbers, code.len(), table)?;
-    Ok(Labelled {
-        code: instrs,
-        ranges,
-    })
+    match label_with_starts(alloc, code, table) {
+        Ok(labelling) => Ok(labelling.labelled),
+        Err(error) => Err(error),
+    }
 }

@@ -10,8 +10,8 @@ mod starts;
 mod targets;
 
 pub use errors::CodeError;
-pub use labelled::{Labelled, NoMemory, Protected, Ranges};
-pub use labelling::label;
+pub use labelled::{Labelled, Labelling, NoMemory, Protected, Ranges};
+pub use labelling::{label, label_with_starts};
 pub use laws::{
     labelled_is_well_formed, labels_or_fault, no_labels_where_refused, one_fault, one_labelling,
 };

@@ -1,9 +1,9 @@
-ghost use Rattle.std.specs.Prelude.{◌≡◌, ◌^◌, ◌<◌, ◌≤◌, length, Some, None, Contains, slice_get, IfOk, IfErr, IfSome, IfNone, All};
-ghost use Rattle.dj_labels.specs.Passes.{AreStarts, StandsAt, step_error, IsStep, IsStartsFault, IsRising, TellsNumbers};
+ghost use Rattle.std.specs.Prelude.{◌≡◌, ◌^◌, ◌<◌, length, Some, Contains, slice_get, IfOk, IfErr, IfSome, IfNone};
+ghost use Rattle.dj_labels.specs.Passes.{AreStarts, StandsAt, step_error, IsStep, IsStartsFault, IsRising};
 
 use crate::errors::CodeError;
 use dj_ops::{OpError, read_instr};
-use std::alloc::{AllocError, Global};
+use std::alloc::Global;
 
 /// Why no instruction was read at an address.
 fn step_error(at: u32, error: OpError) -> CodeError
@@ -34,7 +34,8 @@ pub fn read_starts(alloc: Global, code: &[u8]) -> Result<Vec<u32>, CodeError>
     ensures read { IfOk result (λ starts. AreStarts code.now starts.items) }
     ensures refused { IfErr result (IsStartsFault code.now) }
 {
-    let mut starts = Vec::new(alloc);
+    // An instruction has a byte at least.
+    let mut starts = Vec::with_capacity(alloc, code.len())?;
     let mut at = 0;
     while (at as usize) < code.len() {
         starts.push(at)?;
@@ -43,38 +44,42 @@ pub fn read_starts(alloc: Global, code: &[u8]) -> Result<Vec<u32>, CodeError>
     Ok(starts)
 }
 
-/// At each address of code of this size the number of the instruction that starts there.
-fn numbers_of(alloc: Global, starts: &[u32], size: usize) -> Result<Vec<Option<u32>>, AllocError>
-    requires rising { IsRising starts.now }
-    requires within { All (λ start. start < size) starts.now }
-    requires few { length starts.now < 2 ^ 32 }
-    ensures { IfOk result (λ numbers. TellsNumbers numbers.items starts.now) }
+/// The number of the instruction that starts at the address.
+fn number_in(starts: &[u32], address: usize) -> Option<u32>
+    requires { IsRising starts.now }
+    ensures found { IfSome result (λ number. slice_get starts.now number ≡ Some address) }
+    ensures none { IfNone result (Contains starts.now address → ⊥) }
 {
-    let mut numbers = vec![in alloc; None; size]?;
-    for i in 0..starts.len() {
-        numbers[starts[i] as usize] = Some(i as u32);
+    let Ok(key) = u32::try_from(address) else {
+        return None;
+    };
+    match starts.binary_search(&key) {
+        Ok(number) => Some(number as u32),
+        Err(_) => None,
     }
-    Ok(numbers)
 }
 
-/// The addresses at which instructions start, and the numbers of these instructions.
+/// The addresses at which instructions start, which tell the numbers of these instructions.
 #[derive(Drop)]
 pub struct StartTable {
     pub starts: Vec<u32>,
-    numbers: Vec<Option<u32>>,
-    ghost told: { TellsNumbers numbers.items starts.items },
+    ghost rising: { IsRising starts.items },
 }
 
 impl StartTable {
-    /// The numbers of the instructions of code of this size.
-    pub fn new(alloc: Global, starts: Vec<u32>, size: usize) -> Result<StartTable, AllocError>
-        requires rising { IsRising starts.items }
-        requires within { All (λ start. start < size) starts.items }
-        requires few { length starts.items < 2 ^ 32 }
-        ensures { IfOk result (λ table. table.starts.items ≡ starts.items) }
+    /// The numbers of the instructions of code.
+    pub fn new(starts: Vec<u32>) -> StartTable
+        requires { IsRising starts.items }
+        ensures { result.starts.items ≡ starts.items }
     {
-        let numbers = numbers_of(alloc, &starts, size)?;
-        Ok(StartTable { starts, numbers })
+        StartTable { starts }
+    }
+
+    /// The addresses.
+    pub fn into_starts(self) -> Vec<u32>
+        ensures { result.items ≡ self.starts.items }
+    {
+        self.starts
     }
 
     /// The number of the instruction that starts at the address.
@@ -82,9 +87,6 @@ impl StartTable {
         ensures found { IfSome result (λ number. slice_get self.now.starts.items number ≡ Some address) }
         ensures none { IfNone result (Contains self.now.starts.items address → ⊥) }
     {
-        match self.numbers.get(address) {
-            Some(&number) => number,
-            None => None,
-        }
+        number_in(&self.starts, address)
     }
 }

@@ -1,4 +1,4 @@
-ghost use Rattle.std.specs.Prelude.{◌≡◌, [], ◌∷◌, ◌++◌, OnOk, OnErr};
+ghost use Rattle.std.specs.Prelude.{◌≡◌, [], ◌∷◌, ◌++◌, IfOk, OnOk, OnErr};
 
 use crate::instruction::Instr;
 use crate::lists::NoMemory;
@@ -28,6 +28,15 @@ impl Instrs {
         Instrs {
             items: Vec::new(alloc),
         }
+    }
+
+    /// No instructions, with room for so many.
+    pub fn with_capacity(alloc: Global, capacity: usize) -> Result<Instrs, NoMemory>
+        ensures { IfOk result (λ instrs. instrs ≡ []) }
+    {
+        Ok(Instrs {
+            items: Vec::with_capacity(alloc, capacity)?,
+        })
     }
 
     /// Appends an instruction.

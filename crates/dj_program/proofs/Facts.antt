@@ -18,7 +18,8 @@ use Rattle.dj_model.specs.Program as programs
 use Rattle.dj_model.specs.Program.{Code, Abstract, Runs}
 use Rattle.dj_declared.specs.Files.{desc_in, type_in}
 use Rattle.dj_program.specs.Naming.{units_in, named_at, named_by, instruction_in, constant_in}
-use Rattle.dj_program.specs.Codes.{CodeParts, code_in, catches_in, HasFrames}
+use Rattle.dj_check.specs.Code.{HasFrames}
+use Rattle.dj_program.specs.Codes.{CodeParts, code_in, catches_in}
 use Rattle.dj_program.specs.Programs.{IsBodyIn}
 
 -- 1 and 2 the class A, 3 to 5 a field of it, 6 an int, 7 and 8 a long, 9 and 10 a string, 11 a float, 12 to 15 a method of an array, 16 its like of an

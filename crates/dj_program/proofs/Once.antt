@@ -20,9 +20,9 @@ use Rattle.dj_model.specs.Program.{Program, Class, Method, Field, Body, Abstract
 use Rattle.dj_model.specs.Libraries.{joined, library_program}
 use Rattle.dj_check.specs.Attributes.{codes_of, maps_of}
 use Rattle.dj_check.specs.Malformed.{IsBodiless, LacksCode, IsFaulty, IsFaultyMethod}
-use Rattle.dj_check.specs.Code.{IsCodeOf}
+use Rattle.dj_check.specs.Code.{IsCodeOf, AreFramesAt, AreFramesOf, HasFrames}
 use Rattle.dj_declared.specs.Files.{is_bodiless, declared_method, declared_class}
-use Rattle.dj_program.specs.Codes.{CodeParts, code_in, AreFramesAt, AreFramesOf, HasFrames, IsMethodCode}
+use Rattle.dj_program.specs.Codes.{CodeParts, code_in, IsMethodCode}
 use Rattle.dj_program.specs.Programs.{AreSideBySide, IsBodyIn, IsMethodIn, field_in_file, IsClassIn, IsProgramIn}
 use Rattle.dj_program.specs.Laws.{AreWhole, OneProgram}
 

@@ -1,18 +1,16 @@
 -- The code of a method: its instructions, ranges and frames, with what indexes name in place of indexes (JVMS 4.7.3 and 4.7.4).
-use Rattle.std.specs.Prelude.{◌≡◌, ℕ, List, [], ◌∷◌, map, length, Option, Some, None, nat_eq, if◌then◌else◌}
-use Rattle.dj_ops.specs.declared.instruction.Instr.{Instr}
+use Rattle.std.specs.Prelude.{◌≡◌, ℕ, List, map, Option, Some, None, nat_eq, if◌then◌else◌}
 use Rattle.dj_ops.specs.declared.frames.Frame.{Frame}
 use Rattle.dj_pool.specs.Pool.{Constant}
 use Rattle.dj_class.specs.ClassFile.{MemberInfo}
 use Rattle.dj_class.specs.Code.{CodeInfo}
 use Rattle.dj_labels.specs.declared.labelled.Protected.{Protected}
 use Rattle.dj_labels.specs.declared.labelled.Labelled.{Labelled}
-use Rattle.dj_labels.specs.Labels.{IsCut, IsLabelled}
-use Rattle.dj_frames.specs.StackMaps.{IsStackMap}
+use Rattle.dj_labels.specs.Labels.{IsLabelled}
 use Rattle.dj_model.specs.Instructions.{Named}
 use Rattle.dj_model.specs.Program.{Code, Range}
 use Rattle.dj_check.specs.Attributes.{maps_of}
-use Rattle.dj_check.specs.Code.{IsCodeOf}
+use Rattle.dj_check.specs.Code.{IsCodeOf, HasFrames}
 use Rattle.dj_program.specs.Naming.{named_at, instruction_in}
 
 -- ---- what code is made of
@@ -47,22 +45,6 @@ code_in pool parts = record {
 }
 
 -- ---- the code of a method's Code attribute
-
--- the frames of the body of a stack map, or none where it is none, for code with instructions at these addresses
-abbrev pub AreFramesAt : List ℕ → List ℕ → Option (List Frame) → Type 0
-AreFramesAt starts body (Some frames) = IsStackMap body starts frames
-AreFramesAt starts body None = (frames : List Frame) → IsStackMap body starts frames → ⊥
-
-pub record AreFramesOf (code body : List ℕ) (frames : Option (List Frame)) : Type 0 where
-  pub starts : List ℕ
-  pub instrs : List Instr
-  pub cut : IsCut code starts instrs (length code)
-  pub are : AreFramesAt starts body frames
-
--- by the bodies of the stack maps of code, of which there is one at most
-abbrev pub HasFrames : List ℕ → List (List ℕ) → Option (List Frame) → Type 0
-HasFrames code [] frames = frames ≡ Some []
-HasFrames code (body ∷ bodies) frames = AreFramesOf code body frames
 
 pub record IsMethodCode (pool : List Constant) (m : MemberInfo) (parts : CodeParts) : Type 0 where
   pub info : CodeInfo

@@ -2,9 +2,7 @@
 #![tactic(auto)]
 
 mod code;
-mod error;
 mod laws;
 
 pub use code::{MethodCode, method_code};
-pub use error::ProgramError;
 pub use laws::{bare_is_declared, one_program};

@@ -4,15 +4,13 @@ use Rattle.std.proofs.lemmas.Bool.Decides.{nat_tests}
 use Rattle.std.specs.Option.{option_and_then}
 use Rattle.dj_names.specs.declared.descriptor.Kind.{Kind}
 use Rattle.dj_ops.specs.declared.frames.Form.{Form}
-use Rattle.dj_ops.specs.declared.frames.Form.TheVariants as forms
 use Rattle.dj_ops.specs.declared.frames.Frame.{Frame}
 use Rattle.dj_model.specs.Linking.{or_else}
 use Rattle.dj_model.specs.Program.{Code}
 use Rattle.dj_model.specs.Initialisation.{padded}
-use Rattle.dj_model.specs.Kinds.{Kinds, Entries, depth, entry_slots, entries_of, stack_of, form_entries, with_stack, fitting, with_fitting, with_frame, frames_after, Placed, Map, Read, Faulty, and_then, placed_at}
-use Rattle.dj_shape.specs.declared.frames.Told.{Told}
-use Rattle.dj_shape.specs.Told.{ToldFrames, told_at, told_kinds, IsToldAs, AreTold}
-use Rattle.dj_shape.specs.Reading.{ChangesTo, keeps_locals, fits_of, TellsSome, IsKept, with_all}
+use Rattle.dj_model.specs.Kinds.{Kinds, Entries, depth, entry_slots, stack_of, form_entries, fitting, with_fitting, with_frame, frames_after, Placed, Map, Read, Faulty, and_then, placed_at}
+use Rattle.dj_shape.specs.Told.{Told, ToldFrames, told_at, told_kinds, IsToldAs, AreTold, IsKept}
+use Rattle.dj_shape.specs.Reading.{ChangesTo, fits_of, TellsSome, with_all}
 
 -- ---- one frame
 
@@ -53,55 +51,30 @@ drop_at xs i x within at =
     let next : suc i ≡ i + 1 = omega arith in
     drop-cons xs i x within ∙ ap (λ y. y ∷ drop (suc i) xs) (sym at) ∙ ap (λ (n : ℕ). x ∷ drop n xs) next
 
-keeps_so : (code : Code) (old : List (Option Kind)) (form : Form) (x : Entries) → keeps_locals form ≡ true → form_entries code old form ≡ Some x → x.locals ≡ old
-keeps_so code old forms.Same x k e =
-    let s : ◌≡◌ {A = Entries} (record { locals = old; stack = [] }) x = cc in
-    sym (ap (λ (y : Entries). y.locals) s)
-keeps_so code old (forms.Stack1 type) x k e = by (entries_of code (type ∷ [])) e where
-  by : (o : Option (List (Option Kind))) → with_stack old o ≡ Some x → x.locals ≡ old
-  by None f = absurd cc
-  by (Some s) f =
-      let r : ◌≡◌ {A = Entries} (record { locals = old; stack = s }) x = cc in
-      sym (ap (λ (y : Entries). y.locals) r)
-keeps_so code old (forms.Chop n) x k e = absurd cc
-keeps_so code old (forms.Append more) x k e = absurd cc
-keeps_so code old (forms.Full locals stack) x k e = absurd cc
-
-module _ (code : Code) (old : List (Option Kind)) (form : Form) (stack : List Kind) (new : List (Option Kind)) (changes : ChangesTo (Some stack) (form_entries code old form) new) (before locals : List (Option Kind)) (start : before ≡ entry_slots old) (own : locals ≡ (if keeps_locals form then before else entry_slots new)) where
-  pub slots_so : locals ≡ entry_slots new
-  slots_so = by (keeps_locals form) refl own where
-    by : (b : Bool) → keeps_locals form ≡ b → locals ≡ (if b then before else entry_slots new) → locals ≡ entry_slots new
-    by true k e =
-        let same : new ≡ old = sym changes.2 ∙ keeps_so code old form changes.0 k changes.1 in
-        e ∙ start ∙ ap entry_slots (sym same)
-    by false k e = e
-
+module _ (code : Code) (old : List (Option Kind)) (form : Form) (stack : List Kind) (new : List (Option Kind)) (changes : ChangesTo (Some stack) (form_entries code old form) new) where
   told_fit : fits_of code (form_entries code old form) ≡ fitting code new (Some stack)
   told_fit =
       ap (fits_of code) changes.1 ∙ ap (λ (s : Option (List Kind)). fitting code changes.0.locals s) changes.3 ∙ ap (λ (l : List (Option Kind)). fitting code l (Some stack)) changes.2
 
-  pub many_read : code.max_locals < length locals → fits_of code (form_entries code old form) ≡ None
-  many_read many = let n : length locals ≡ length (entry_slots new) = ap length slots_so in told_fit ∙ many_locals code new stack (omega arith)
+  pub many_read : code.max_locals < length (entry_slots new) → fits_of code (form_entries code old form) ≡ None
+  many_read many = told_fit ∙ many_locals code new stack many
 
   pub deep_read : code.max_stack < depth stack → fits_of code (form_entries code old form) ≡ None
   deep_read deep = told_fit ∙ deep_stack code new stack deep
 
-  pub some_read : (told : Told) → told.locals.value.items ≡ locals → told.stack.items ≡ stack → length locals ≤ code.max_locals → depth stack ≤ code.max_stack
+  pub some_read : (told : Told) → told.locals ≡ entry_slots new → told.stack ≡ stack → length (entry_slots new) ≤ code.max_locals → depth stack ≤ code.max_stack
       → TellsSome code (form_entries code old form) told new
-  some_read told l s few low =
-      let n : length locals ≡ length (entry_slots new) = ap length slots_so in
-      let fits : length (entry_slots new) ≤ code.max_locals = omega arith in
-      record {
-        entries = changes.0;
-        are = changes.1;
-        locals = changes.2;
-        fit = ap (λ (x : Option (List Kind)). fitting code changes.0.locals x) changes.3 ∙ ap (λ (x : List (Option Kind)). fitting code x (Some stack)) changes.2 ∙ fit_by code new stack fits low
-            ∙ ap (λ (x : List (Option Kind)). Some (record { locals = padded code.max_locals x; stack = reverse stack })) (sym (l ∙ slots_so))
-            ∙ ap (λ (x : List Kind). Some (record { locals = padded code.max_locals told.locals.value.items; stack = reverse x })) (sym s);
-        slots = l ∙ slots_so;
-        few = subst (λ (x : List (Option Kind)). length x ≤ code.max_locals) (sym l) few;
-        low = subst (λ (x : List Kind). depth x ≤ code.max_stack) (sym s) low;
-      }
+  some_read told l s few low = record {
+    entries = changes.0;
+    are = changes.1;
+    locals = changes.2;
+    fit = ap (λ (x : Option (List Kind)). fitting code changes.0.locals x) changes.3 ∙ ap (λ (x : List (Option Kind)). fitting code x (Some stack)) changes.2 ∙ fit_by code new stack few low
+        ∙ ap (λ (x : List (Option Kind)). Some (record { locals = padded code.max_locals x; stack = reverse stack })) (sym l)
+        ∙ ap (λ (x : List Kind). Some (record { locals = padded code.max_locals told.locals; stack = reverse x })) (sym s);
+    slots = l;
+    few = subst (λ (x : List (Option Kind)). length x ≤ code.max_locals) (sym l) few;
+    low = subst (λ (x : List Kind). depth x ≤ code.max_stack) (sym s) low;
+  }
 
 -- ---- those so far and one more
 
@@ -125,7 +98,7 @@ placed_more (q ∷ placed) p n = by (nat_eq q.at n) (placed_more placed p n) whe
   by true e = refl
   by false e = e
 
-told_more : (ms ml : ℕ) (a b : Option Told) (c : Option Kinds) (test : Bool) (t : Told) → IsToldAs ms ml a c → length t.locals.value.items ≤ ml → depth t.stack.items ≤ ms
+told_more : (ms ml : ℕ) (a b : Option Told) (c : Option Kinds) (test : Bool) (t : Told) → IsToldAs ms ml a c → length t.locals ≤ ml → depth t.stack ≤ ms
     → b ≡ or_else a (if test then Some t else None) → IsToldAs ms ml b (or_else c (if test then Some (told_kinds ml t) else None))
 told_more ms ml (Some own) b c test t is few low e =
     subst (λ (x : Option Told). IsToldAs ms ml x (or_else c (if test then Some (told_kinds ml t) else None))) (sym e)

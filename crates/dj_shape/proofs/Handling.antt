@@ -10,9 +10,8 @@ use Rattle.dj_model.specs.Values.{local_at}
 use Rattle.dj_shape.specs.declared.needs.Need.{Need}
 use Rattle.dj_shape.specs.declared.needs.Changed.{Changed}
 use Rattle.dj_shape.specs.declared.handlers.Handlers.{Handlers}
-use Rattle.dj_shape.specs.declared.frames.Told.{Told}
 use Rattle.dj_shape.specs.Needs.{need_at, raised, MissesOne, AreSame}
-use Rattle.dj_shape.specs.Told.{ToldFrames, told_at}
+use Rattle.dj_shape.specs.Told.{Told, ToldFrames, told_at}
 use Rattle.dj_shape.specs.Handlers.{Tells, Handled, AreRising, Begun, MeetAll, AsksNothing, Asks, Lacks, Begins, IsKnownBut, Enters}
 use Rattle.dj_shape.proofs.Slots.{at_padded}
 
@@ -48,11 +47,11 @@ none_later rows number next all k r most at_k = let within : k < length rows = s
 
 module _ (frames : ToldFrames) (rows : List Protected) (number : ℕ) (locals : List (Option Kind)) where
   told_kind : (row : Protected) (told : Told) (slot : ℕ) (kind : Kind) → told_at frames row.handler ≡ Some told → Tells frames row slot kind
-      → local_at told.locals.value.items slot ≡ Some kind
+      → local_at told.locals slot ≡ Some kind
   told_kind row told slot kind at t =
       let s : Some t.told ≡ Some told = sym t.at ∙ at in
       let same : t.told ≡ told = cc in
-      subst (λ (x : Told). local_at x.locals.value.items slot ≡ Some kind) same t.tells
+      subst (λ (x : Told). local_at x.locals slot ≡ Some kind) same t.tells
 
   -- a local variable lacks what is needed of it: so it lacks what a handler asks
   pub missed : (next : ℕ) (needs : List Need) → Begun frames rows number next needs → MissesOne needs number locals → Handled rows frames number locals → ⊥
@@ -124,7 +123,7 @@ module _ (frames : ToldFrames) (rows : List Protected) (number : ℕ) (locals : 
     -- it asks what the local variables have
     module _ (begun : Begun frames rows number next old) (meet : MeetAll old number locals) (at : slice_get rows next ≡ Some row) (from : row.start ≤ number) (asks : Asks frames row locals old new) where
       abbrev told_in : ℕ → Option Kind
-      told_in slot = local_at asks.told.locals.value.items slot
+      told_in slot = local_at asks.told.locals slot
 
       asked_at : (told : Option Kind) (slot : ℕ) (kind : Kind) (end : ℕ) → told_in slot ≡ told → number < end
           → (end ≤ (need_at old slot).until) × ((need_at old slot).kind ≡ kind)

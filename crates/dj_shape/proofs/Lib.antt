@@ -1,4 +1,5 @@
 pub mod Slots
+pub mod Links
 pub mod Needing
 pub mod Handling
 pub mod States
@@ -14,6 +15,7 @@ pub mod Judging
 pub mod Entries
 pub mod Makes
 pub mod FrameLaws
+pub mod Places
 pub mod Keeping
 pub mod Linked
 pub mod Facts

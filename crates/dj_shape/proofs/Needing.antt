@@ -1,5 +1,5 @@
 -- What is needed of local variables, with a range more.
-use Rattle.std.proofs.Common.{◌≡◌, ℕ, zero, suc, ◌+◌, ◌<◌, ◌≤◌, List, [], ◌∷◌, ◌++◌, length, take, Option, None, refl, sym, ap, subst, ◌∙◌, inl, inr, ◌⊎◌, arith}
+use Rattle.std.proofs.Common.{◌≡◌, ℕ, zero, suc, ◌+◌, ◌<◌, ◌≤◌, List, [], ◌∷◌, ◌++◌, length, Option, refl, sym, ap, subst, ◌∙◌, inl, inr, ◌⊎◌, arith}
 use Rattle.std.proofs.lemmas.Bool.{cases_lt}
 use Rattle.std.proofs.lemmas.List.{get_or_past}
 use Rattle.dj_names.specs.declared.descriptor.Kind.{Kind}
@@ -9,6 +9,7 @@ use Rattle.dj_shape.specs.declared.needs.Changed.{Changed}
 use Rattle.dj_shape.specs.declared.needs.Changed.TheVariants as changes
 use Rattle.dj_shape.specs.Needs.{no_need, need_at, raised, AreRaised, AreSame, IsChanged, Meets}
 use Rattle.dj_shape.specs.Handlers.{MeetAll, MeetOthers}
+use Rattle.dj_shape.proofs.Slots.{at_last, at_past, one_shorter}
 
 pub need_push : (needs : List Need) (slot : ℕ) → need_at (needs ++ no_need ∷ []) slot ≡ need_at needs slot
 need_push [] zero = refl
@@ -23,48 +24,33 @@ pub length_more : (needs : List Need) (x : Need) → length (needs ++ x ∷ []) 
 length_more [] x = refl
 length_more (y ∷ needs) x = let e = length_more needs x in omega arith
 
--- ---- the local variables of a frame, one after the other
-
-take_other : (told : List (Option Kind)) (i slot : ℕ) → (slot ≡ i → ⊥) → local_at (take (suc i) told) slot ≡ local_at (take i told) slot
-take_other [] zero slot other = refl
-take_other [] (suc i) slot other = refl
-take_other (x ∷ told) zero zero other = absurd (other refl)
-take_other (x ∷ told) zero (suc slot) other = refl
-take_other (x ∷ told) (suc i) zero other = refl
-take_other (x ∷ told) (suc i) (suc slot) other = take_other told i slot (λ e. other (ap suc e))
-
-take_here : (told : List (Option Kind)) (i : ℕ) → local_at (take (suc i) told) i ≡ local_at told i
-take_here [] i = refl
-take_here (x ∷ told) zero = refl
-take_here (x ∷ told) (suc i) = take_here told i
-
-take_not : (told : List (Option Kind)) (i : ℕ) → local_at (take i told) i ≡ None
-take_not [] zero = refl
-take_not [] (suc i) = refl
-take_not (x ∷ told) zero = refl
-take_not (x ∷ told) (suc i) = take_not told i
+-- ---- the local variables of a frame, from the last on
 
 -- with one local variable more, whose kind is told or isn't
-pub raised_more : (told : List (Option Kind)) (end i : ℕ) (old needs more : List Need) → AreRaised (take i told) end old needs
-    → need_at more i ≡ raised (local_at told i) end (need_at needs i) → ((slot : ℕ) → (slot ≡ i → ⊥) → need_at more slot ≡ need_at needs slot)
-    → AreRaised (take (i + 1) told) end old more
-raised_more told end i old needs more before here others = subst (λ (n : ℕ). AreRaised (take n told) end old more) next each where
-  next : suc i ≡ i + 1
-  next = omega arith
-
-  at_one : need_at more i ≡ raised (local_at (take (suc i) told) i) end (need_at old i)
-  at_one =
-      let same : need_at needs i ≡ need_at old i = before i ∙ ap (λ (k : Option Kind). raised k end (need_at old i)) (take_not told i) in
-      here ∙ ap (λ (x : Need). raised (local_at told i) end x) same ∙ ap (λ (k : Option Kind). raised k end (need_at old i)) (sym (take_here told i))
-
-  each : AreRaised (take (suc i) told) end old more
-  each slot = elim (cases_lt slot i) [
-    | inl less ↦ let other : slot ≡ i → ⊥ = omega arith in others slot other ∙ before slot ∙ ap (λ (k : Option Kind). raised k end (need_at old slot)) (sym (take_other told i slot other))
-    | inr most ↦ elim (cases_lt i slot) [
-      | inl less ↦ let other : slot ≡ i → ⊥ = omega arith in others slot other ∙ before slot ∙ ap (λ (k : Option Kind). raised k end (need_at old slot)) (sym (take_other told i slot other))
-      | inr least ↦ let same : i ≡ slot = omega arith in subst (λ (n : ℕ). need_at more n ≡ raised (local_at (take (suc i) told) n) end (need_at old n)) same at_one
-    ]
+module _ (told rest new done : List (Option Kind)) (x : Option Kind) (end : ℕ) (old needs more : List Need) (split : told ≡ rest ++ done) (last : rest ≡ new ++ x ∷ []) (here : need_at more (length new) ≡ raised x end (need_at needs (length new))) (others : (slot : ℕ) → (slot ≡ length new → ⊥) → need_at more slot ≡ need_at needs slot) where
+  pub raised_above : ((slot : ℕ) → length rest ≤ slot → need_at needs slot ≡ raised (local_at told slot) end (need_at old slot))
+      → ((slot : ℕ) → slot < length rest → need_at needs slot ≡ need_at old slot)
+      → (slot : ℕ) → length new ≤ slot → need_at more slot ≡ raised (local_at told slot) end (need_at old slot)
+  raised_above above below slot most = elim (cases_lt (length new) slot) [
+    | inl less ↦ let count = one_shorter rest new x last in others slot (omega arith) ∙ above slot (omega arith)
+    | inr least ↦
+        let same : length new ≡ slot = omega arith in
+        let count = one_shorter rest new x last in
+        let own : need_at more (length new) ≡ raised (local_at told (length new)) end (need_at old (length new)) =
+        here ∙ ap (λ (n : Need). raised x end n) (below (length new) (omega arith))
+        ∙ ap (λ (k : Option Kind). raised k end (need_at old (length new))) (sym (at_last told rest new done x split last)) in
+        subst (λ (n : ℕ). need_at more n ≡ raised (local_at told n) end (need_at old n)) same own
   ]
+
+  pub same_below : ((slot : ℕ) → slot < length rest → need_at needs slot ≡ need_at old slot) → (slot : ℕ) → slot < length new → need_at more slot ≡ need_at old slot
+  same_below below slot less = let count = one_shorter rest new x last in others slot (omega arith) ∙ below slot (omega arith)
+
+pub none_above : (told : List (Option Kind)) (end : ℕ) (needs : List Need) (slot : ℕ) → length told ≤ slot → need_at needs slot ≡ raised (local_at told slot) end (need_at needs slot)
+none_above told end needs slot past = ap (λ (k : Option Kind). raised k end (need_at needs slot)) (sym (at_past told slot past))
+
+pub raised_all : (told rest : List (Option Kind)) (end : ℕ) (old needs : List Need) → rest ≡ []
+    → ((slot : ℕ) → length rest ≤ slot → need_at needs slot ≡ raised (local_at told slot) end (need_at old slot)) → AreRaised told end old needs
+raised_all told rest end old needs e above slot = let count = ap length e in above slot (omega arith)
 
 -- ---- what was kept and what changed
 

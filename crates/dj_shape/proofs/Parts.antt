@@ -15,8 +15,7 @@ use Rattle.dj_model.specs.Values.{local_at}
 use Rattle.dj_model.specs.Initialisation.{padded}
 use Rattle.dj_model.specs.Kinds.{Kinds, Placed, placed_at}
 use Rattle.dj_model.specs.Shape.{flows_to, flows_to_frame, locals_flow_to, is_handler_frame, covers}
-use Rattle.dj_shape.specs.declared.frames.Told.{Told}
-use Rattle.dj_shape.specs.Told.{ToldFrames, told_at, told_kinds, IsToldAs, AreTold}
+use Rattle.dj_shape.specs.Told.{Told, ToldFrames, told_at, told_kinds, IsToldAs, AreTold}
 use Rattle.dj_shape.specs.Flows.{FlowsTo, FlowsToFrame}
 use Rattle.dj_shape.specs.Handlers.{Tells, Handled}
 use Rattle.dj_shape.specs.Passing.{HasHandlerFrame, JumpsFlow}
@@ -90,25 +89,25 @@ module _ (max_stack max_locals : ℕ) where
   to_flows_to left None placed is f = subst (λ (p : Option Kinds). IsTrue (flows_to left p)) (sym is) refl
   to_flows_to left (Some told) placed is f =
       subst (λ (p : Option Kinds). IsTrue (flows_to left p)) (sym is.0)
-      (to_flows left (told_kinds max_locals told) (told_padded max_locals left.locals told.locals.value.items f.0) f.1)
+      (to_flows left (told_kinds max_locals told) (told_padded max_locals left.locals told.locals f.0) f.1)
 
   from_flows_to : (left : Kinds) (told : Option Told) (placed : Option Kinds) → IsToldAs max_stack max_locals told placed → IsTrue (flows_to left placed) → FlowsTo left told
   from_flows_to left None placed is t = tt
   from_flows_to left (Some told) placed is t =
       let f = from_flows left (told_kinds max_locals told) (subst (λ (p : Option Kinds). IsTrue (flows_to left p)) is.0 t) in
-      (unpadded_flow max_locals left.locals told.locals.value.items f.0, f.1)
+      (unpadded_flow max_locals left.locals told.locals f.0, f.1)
 
   to_flows_to_frame : (left : Kinds) (told : Option Told) (placed : Option Kinds) → IsToldAs max_stack max_locals told placed → FlowsToFrame left told → IsTrue (flows_to_frame left placed)
   to_flows_to_frame left None placed is f = absurd f
   to_flows_to_frame left (Some told) placed is f =
       subst (λ (p : Option Kinds). IsTrue (flows_to_frame left p)) (sym is.0)
-      (to_flows left (told_kinds max_locals told) (told_padded max_locals left.locals told.locals.value.items f.0) f.1)
+      (to_flows left (told_kinds max_locals told) (told_padded max_locals left.locals told.locals f.0) f.1)
 
   from_flows_to_frame : (left : Kinds) (told : Option Told) (placed : Option Kinds) → IsToldAs max_stack max_locals told placed → IsTrue (flows_to_frame left placed) → FlowsToFrame left told
   from_flows_to_frame left None placed is t = absurd (let no_frame : IsTrue false = subst (λ (p : Option Kinds). IsTrue (flows_to_frame left p)) is t in cc)
   from_flows_to_frame left (Some told) placed is t =
       let f = from_flows left (told_kinds max_locals told) (subst (λ (p : Option Kinds). IsTrue (flows_to_frame left p)) is.0 t) in
-      (unpadded_flow max_locals left.locals told.locals.value.items f.0, f.1)
+      (unpadded_flow max_locals left.locals told.locals f.0, f.1)
 
   -- ---- of all frames
 
@@ -133,18 +132,18 @@ module _ (max_stack max_locals : ℕ) where
     -- ---- handlers
 
     handler_of : (told : Option Told) (tell : Option Kinds) → IsToldAs max_stack max_locals told tell → IsTrue (is_handler_frame tell)
-        → (t : Told) × (told ≡ Some t) × (t.stack.items ≡ kinds.Ref ∷ [])
+        → (t : Told) × (told ≡ Some t) × (t.stack ≡ kinds.Ref ∷ [])
     handler_of None tell is t = absurd (let no_frame : IsTrue false = subst (λ (p : Option Kinds). IsTrue (is_handler_frame p)) is t in cc)
     handler_of (Some told) tell is t =
-        let one : IsTrue (pointwise same_kind (reverse told.stack.items) (kinds.Ref ∷ [])) = subst (λ (p : Option Kinds). IsTrue (is_handler_frame p)) is.0 t in
-        (told, refl, reverse_injects told.stack.items (kinds.Ref ∷ []) (same_stacks (reverse told.stack.items) (kinds.Ref ∷ []) one))
+        let one : IsTrue (pointwise same_kind (reverse told.stack) (kinds.Ref ∷ [])) = subst (λ (p : Option Kinds). IsTrue (is_handler_frame p)) is.0 t in
+        (told, refl, reverse_injects told.stack (kinds.Ref ∷ []) (same_stacks (reverse told.stack) (kinds.Ref ∷ []) one))
 
-    to_handler : (told : Option Told) (tell : Option Kinds) (t : Told) → IsToldAs max_stack max_locals told tell → told ≡ Some t → t.stack.items ≡ kinds.Ref ∷ []
+    to_handler : (told : Option Told) (tell : Option Kinds) (t : Told) → IsToldAs max_stack max_locals told tell → told ≡ Some t → t.stack ≡ kinds.Ref ∷ []
         → IsTrue (is_handler_frame tell)
     to_handler None tell t is e one = absurd cc
     to_handler (Some told) tell t is e one =
         let same : told ≡ t = cc in
-        let stack : reverse told.stack.items ≡ kinds.Ref ∷ [] = ap (λ (x : Told). reverse x.stack.items) same ∙ ap reverse one in
+        let stack : reverse told.stack ≡ kinds.Ref ∷ [] = ap (λ (x : Told). reverse x.stack) same ∙ ap reverse one in
         subst (λ (p : Option Kinds). IsTrue (is_handler_frame p)) (sym is.0)
         (subst (λ (s : List Kind). IsTrue (pointwise same_kind s (kinds.Ref ∷ []))) (sym stack) (stack_itself (kinds.Ref ∷ [])))
 
@@ -180,15 +179,15 @@ module _ (max_stack max_locals : ℕ) where
         to_locals row None kinds is e each = subst (λ (p : Option Kinds). IsTrue (locals_flow_to before p)) (sym is) refl
         to_locals row (Some told) kinds is e each =
             subst (λ (p : Option Kinds). IsTrue (locals_flow_to before p)) (sym is.0)
-            (to_flow before.locals (padded max_locals told.locals.value.items)
-            (told_padded max_locals before.locals told.locals.value.items (λ slot kind at. each slot kind (record { told = told; at = e; tells = at }))))
+            (to_flow before.locals (padded max_locals told.locals)
+            (told_padded max_locals before.locals told.locals (λ slot kind at. each slot kind (record { told = told; at = e; tells = at }))))
 
         from_locals : (row : Protected) (kinds : Option Kinds) (slot : ℕ) (kind : Kind) → IsToldAs max_stack max_locals (told_at frames row.handler) kinds → Tells frames row slot kind
             → IsTrue (locals_flow_to before kinds) → local_at before.locals slot ≡ Some kind
         from_locals row kinds slot kind is tells t =
             let own : IsToldAs max_stack max_locals (Some tells.told) kinds = subst (λ (x : Option Told). IsToldAs max_stack max_locals x kinds) tells.at is in
-            let flow = from_flow before.locals (padded max_locals tells.told.locals.value.items) (subst (λ (p : Option Kinds). IsTrue (locals_flow_to before p)) own.0 t) in
-            unpadded_flow max_locals before.locals tells.told.locals.value.items flow slot kind tells.tells
+            let flow = from_flow before.locals (padded max_locals tells.told.locals) (subst (λ (p : Option Kinds). IsTrue (locals_flow_to before p)) own.0 t) in
+            unpadded_flow max_locals before.locals tells.told.locals flow slot kind tells.tells
 
         within_range : (row : Protected) → IsTrue (covers (range_in pool row) number) → (row.start ≤ number) × (number < row.end)
         within_range row t = both_ways (nat_le row.start number) (nat_lt number row.end) t refl refl where

@@ -1,5 +1,5 @@
 -- Local variables by their slots, and when they flow into others.
-use Rattle.std.proofs.Common.{◌≡◌, ℕ, zero, suc, ◌-◌, ◌<◌, ◌≤◌, Bool, true, false, ◌&&◌, IsTrue, List, [], ◌∷◌, ◌++◌, length, get_or, replicate, inl, inr, ◌+◌, reverse, Option, Some, None, refl, sym, ap, subst, ◌∙◌, arith}
+use Rattle.std.proofs.Common.{◌≡◌, ℕ, zero, suc, ◌-◌, ◌≤◌, Bool, true, false, ◌&&◌, IsTrue, List, [], ◌∷◌, ◌++◌, length, length-append, append_assoc, replicate, inl, inr, ◌+◌, reverse, Option, Some, None, refl, sym, ap, subst, ◌∙◌, arith}
 use Rattle.std.proofs.lemmas.Bool.{cases_lt}
 use Rattle.std.proofs.lemmas.List.{reverse-reverse}
 use Rattle.std.specs.Cmp.Lexicographic.{pointwise}
@@ -27,11 +27,6 @@ at_more (x ∷ xs) n (suc slot) = at_more xs n slot
 -- local variables after the last have no kind
 pub at_padded : {A : Type 0} (n : ℕ) (xs : List (Option A)) (slot : ℕ) → local_at (padded n xs) slot ≡ local_at xs slot
 at_padded n xs slot = at_more xs (n - length xs) slot
-
-pub at_get : {A : Type 0} (xs : List (Option A)) (slot : ℕ) → local_at xs slot ≡ get_or xs slot None
-at_get [] slot = refl
-at_get (x ∷ xs) zero = refl
-at_get (x ∷ xs) (suc slot) = at_get xs slot
 
 pub at_past : {A : Type 0} (xs : List (Option A)) (slot : ℕ) → length xs ≤ slot → local_at xs slot ≡ None
 at_past [] slot past = refl
@@ -100,23 +95,50 @@ to_flow (x ∷ locals) (None ∷ told) f = to_flow locals told (λ slot kind e. 
 to_flow (x ∷ locals) (Some k ∷ told) f =
     both (is_kind k x) (locals_flow locals told) (kind_is k x (f 0 k refl)) (to_flow locals told (λ slot kind e. f (suc slot) kind e))
 
--- what holds of each slot so far, with one more
-pub flow_more : (locals told : List (Option Kind)) (i : ℕ) → ((slot : ℕ) (kind : Kind) → slot < i → local_at told slot ≡ Some kind → local_at locals slot ≡ Some kind)
-    → ((kind : Kind) → local_at told i ≡ Some kind → local_at locals i ≡ Some kind)
-    → (slot : ℕ) (kind : Kind) → slot < i + 1 → local_at told slot ≡ Some kind → local_at locals slot ≡ Some kind
-flow_more locals told i below here slot kind lt e = elim (cases_lt slot i) [
-  | inl less ↦ below slot kind less e
-  | inr most ↦
-      let same : slot ≡ i = omega arith in
-      subst (λ (n : ℕ). local_at locals n ≡ Some kind) (sym same) (here kind (subst (λ (n : ℕ). local_at told n ≡ Some kind) same e))
+-- the last of the first of a list
+pub at_last : {A : Type 0} (told rest new done : List (Option A)) (x : Option A) → told ≡ rest ++ done → rest ≡ new ++ x ∷ [] → local_at told (length new) ≡ x
+at_last {A} told rest new done x e f = ap (λ (l : List (Option A)). local_at l (length new)) (e ∙ ap (λ (l : List (Option A)). l ++ done) f) ∙ at_seam new done where
+  at_seam : (xs ys : List (Option A)) → local_at ((xs ++ x ∷ []) ++ ys) (length xs) ≡ x
+  at_seam [] ys = refl
+  at_seam (y ∷ xs) ys = at_seam xs ys
+
+pub split_less : {A : Type 0} (told rest new done : List (Option A)) (x : Option A) → told ≡ rest ++ done → rest ≡ new ++ x ∷ [] → told ≡ new ++ x ∷ done
+split_less {A} told rest new done x e f = e ∙ ap (λ (l : List (Option A)). l ++ done) f ∙ append_assoc new (x ∷ []) done
+
+pub one_shorter : {A : Type 0} (rest new : List (Option A)) (x : Option A) → rest ≡ new ++ x ∷ [] → length rest ≡ length new + 1
+one_shorter rest new x e = ap length e ∙ length-append new (x ∷ [])
+
+pub split_few : {A : Type 0} (told rest done : List (Option A)) → told ≡ rest ++ done → length rest ≤ length told
+split_few told rest done e = omega (arith, ap length e, length-append rest done)
+
+pub split_none : {A : Type 0} (told rest : List (Option A)) → rest ≡ told → told ≡ rest ++ []
+split_none {A} told rest e = sym (nothing rest ∙ e) where
+  nothing : (l : List (Option A)) → l ++ [] ≡ l
+  nothing [] = refl
+  nothing (x ∷ l) = ap (λ (m : List (Option A)). x ∷ m) (nothing l)
+
+pub flow_none : (locals told rest : List (Option Kind)) → rest ≡ told → (slot : ℕ) (kind : Kind) → length rest ≤ slot → local_at told slot ≡ Some kind → local_at locals slot ≡ Some kind
+flow_none locals told rest e slot kind past at =
+    let count = ap length e in
+    let none : local_at told slot ≡ None = at_past told slot (omega arith) in
+    absurd cc
+
+-- what holds of each slot from one on, with one more before it
+pub flow_down : (locals told rest new done : List (Option Kind)) (x : Option Kind) → told ≡ rest ++ done → rest ≡ new ++ x ∷ []
+    → ((slot : ℕ) (kind : Kind) → length rest ≤ slot → local_at told slot ≡ Some kind → local_at locals slot ≡ Some kind)
+    → ((kind : Kind) → x ≡ Some kind → local_at locals (length new) ≡ Some kind)
+    → (slot : ℕ) (kind : Kind) → length new ≤ slot → local_at told slot ≡ Some kind → local_at locals slot ≡ Some kind
+flow_down locals told rest new done x split last above here slot kind most e = elim (cases_lt (length new) slot) [
+  | inl less ↦ let count = one_shorter rest new x last in above slot kind (omega arith) e
+  | inr least ↦
+      let same : slot ≡ length new = omega arith in
+      subst (λ (n : ℕ). local_at locals n ≡ Some kind) (sym same)
+      (here kind (sym (at_last told rest new done x split last) ∙ subst (λ (n : ℕ). local_at told n ≡ Some kind) same e))
 ]
 
-pub from_below : (locals told : List (Option Kind)) (i : ℕ) → ((slot : ℕ) (kind : Kind) → slot < i → local_at told slot ≡ Some kind → local_at locals slot ≡ Some kind)
-    → length told ≤ i → LocalsFlow locals told
-from_below locals told i below all slot kind e = elim (cases_lt slot i) [
-  | inl less ↦ below slot kind less e
-  | inr most ↦ absurd (let none : local_at told slot ≡ None = at_past told slot (omega arith) in cc)
-]
+pub from_all_above : (locals told rest : List (Option Kind)) → rest ≡ [] → ((slot : ℕ) (kind : Kind) → length rest ≤ slot → local_at told slot ≡ Some kind → local_at locals slot ≡ Some kind)
+    → LocalsFlow locals told
+from_all_above locals told rest e above slot kind at = let count = ap length e in above slot kind (omega arith) at
 
 -- padding of either list changes nothing
 pub padded_flow : (n m : ℕ) (locals told : List (Option Kind)) → LocalsFlow locals told → LocalsFlow (padded n locals) (padded m told)

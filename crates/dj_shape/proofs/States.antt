@@ -1,6 +1,6 @@
 -- Kinds that are stored, in local variables that aren't padded.
 use Rattle.std.proofs.Common.{◌≡◌, ℕ, zero, suc, ◌+◌, ◌-◌, ◌<◌, ◌≤◌, List, [], ◌∷◌, ◌++◌, length, set, reverse, replicate, take, Option, Some, None, nat_eq, slice_get, refl, sym, ap, subst, ◌∙◌, inl, inr, arith}
-use Rattle.std.proofs.lemmas.List.{append_assoc, length-append, length-replicate, length-set, replicate-append-replicate, reverse-append, set-append_left, take-append-le, take_all}
+use Rattle.std.proofs.lemmas.List.{append_assoc, length-append, length-replicate, length-set, replicate-append-replicate, reverse-append, length-reverse, set-append_left, take-append-le, take_all}
 use Rattle.dj_names.specs.declared.descriptor.Kind.{Kind}
 use Rattle.dj_model.specs.Initialisation.{padded}
 use Rattle.dj_model.specs.Kinds.{Kinds, depth}
@@ -104,3 +104,16 @@ stored_kept most slot old kept now kind e within same =
     ap (λ (xs : List (Option Kind)). padded most xs) e
     ∙ sym (stored_padded most slot kept kind within)
     ∙ ap (λ (xs : List (Option Kind)). stored is_wide xs slot kind) same
+
+-- ---- what is filled from the last on
+
+pub filled_more : (all rest new kept more : List (Option Kind)) (x : Option Kind) → all ≡ rest ++ reverse kept → rest ≡ new ++ x ∷ [] → more ≡ kept ++ x ∷ [] → all ≡ new ++ reverse more
+filled_more all rest new kept more x split last pushed =
+    let e : reverse more ≡ x ∷ reverse kept = ap reverse pushed ∙ reverse-append kept (x ∷ []) in
+    split ∙ ap (λ (l : List (Option Kind)). l ++ reverse kept) last ∙ append_assoc new (x ∷ []) (reverse kept) ∙ sym (ap (λ (l : List (Option Kind)). new ++ l) e)
+
+pub filled_few : (all rest kept : List (Option Kind)) → all ≡ rest ++ reverse kept → length kept ≤ length all
+filled_few all rest kept split = omega (arith, ap length split, length-append rest (reverse kept), length-reverse kept)
+
+pub filled_all : (all rest kept now : List (Option Kind)) → all ≡ rest ++ reverse kept → rest ≡ [] → now ≡ reverse kept → now ≡ all
+filled_all all rest kept now split none e = e ∙ sym (split ∙ ap (λ (l : List (Option Kind)). l ++ reverse kept) none)

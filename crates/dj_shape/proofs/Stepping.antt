@@ -11,13 +11,12 @@ use Rattle.dj_model.specs.Values.{local_at}
 use Rattle.dj_model.specs.Program.{Code}
 use Rattle.dj_model.specs.Kinds.{Kinds, Signature, depth, placed_at}
 use Rattle.dj_model.specs.Shape.{after, first_kinds, state_before, Holds}
-use Rattle.dj_shape.specs.declared.frames.Told.{Told}
 use Rattle.dj_shape.specs.declared.needs.Changed.{Changed}
 use Rattle.dj_shape.specs.declared.handlers.Handlers.{Handlers}
 use Rattle.dj_shape.specs.declared.pass.Method.{Method}
 use Rattle.dj_shape.specs.declared.pass.Pass.{Pass}
 use Rattle.dj_shape.specs.Standing.{Standing, HasRoomOf, SameRoom, standing_in}
-use Rattle.dj_shape.specs.Told.{told_at, told_kinds, IsToldAs}
+use Rattle.dj_shape.specs.Told.{Told, told_at, told_kinds, IsToldAs}
 use Rattle.dj_shape.specs.Flows.{Flows, FlowsTo}
 use Rattle.dj_shape.specs.Needs.{need_at, IsChanged}
 use Rattle.dj_shape.specs.Handlers.{Handled, MeetAll, MeetOthers, Enters, IsKnownBut, Stands}
@@ -30,11 +29,11 @@ is_kept true k x e = cc
 is_kept false k x e = absurd cc
 
 -- what a frame tells stands where there is room for it
-told_stands : (s : Standing) (code : Code) (told : Told) → HasRoomOf s code → length told.locals.value.items ≤ code.max_locals → depth told.stack.items ≤ code.max_stack
-    → standing_in s told.locals.value.items told.stack.items ≡ Some (told_kinds code.max_locals told)
+told_stands : (s : Standing) (code : Code) (told : Told) → HasRoomOf s code → length told.locals ≤ code.max_locals → depth told.stack ≤ code.max_stack
+    → standing_in s told.locals told.stack ≡ Some (told_kinds code.max_locals told)
 told_stands s code told room locals stack =
-    let a : nat_le (length told.locals.value.items) s.max_locals ≡ true = (let r = room.1 in grind (arith, nat_tests)) in
-    let b : nat_le (depth told.stack.items) s.max_stack ≡ true = (let r = room.0 in grind (arith, nat_tests)) in
+    let a : nat_le (length told.locals) s.max_locals ≡ true = (let r = room.1 in grind (arith, nat_tests)) in
+    let b : nat_le (depth told.stack) s.max_stack ≡ true = (let r = room.0 in grind (arith, nat_tests)) in
     rw (a, b) (ap (λ (n : ℕ). Some (told_kinds n told)) room.1)
 
 run_so : (signature : Signature) (code : Code) (i : Instruction) (k left : Kinds) → after signature code i k ≡ Some left → IsRun i

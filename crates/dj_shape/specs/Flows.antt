@@ -3,7 +3,7 @@ use Rattle.std.specs.Prelude.{◌≡◌, ℕ, ⊤, List, reverse, Option, Some, 
 use Rattle.dj_names.specs.declared.descriptor.Kind.{Kind}
 use Rattle.dj_model.specs.Values.{local_at}
 use Rattle.dj_model.specs.Kinds.{Kinds}
-use Rattle.dj_shape.specs.declared.frames.Told.{Told}
+use Rattle.dj_shape.specs.Told.{Told}
 
 -- each local variable of which the second list tells a kind has it in the first
 abbrev pub LocalsFlow : List (Option Kind) → List (Option Kind) → Type 0
@@ -11,7 +11,7 @@ LocalsFlow locals told = (slot : ℕ) (kind : Kind) → local_at told slot ≡ S
 
 -- what is left may go on where a frame tells this
 abbrev pub Flows : Kinds → Told → Type 0
-Flows left told = LocalsFlow left.locals told.locals.value.items × (left.stack ≡ reverse told.stack.items)
+Flows left told = LocalsFlow left.locals told.locals × (left.stack ≡ reverse told.stack)
 
 -- the same, where there may be no frame
 abbrev pub FlowsTo : Kinds → Option Told → Type 0

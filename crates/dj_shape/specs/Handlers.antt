@@ -6,16 +6,15 @@ use Rattle.dj_model.specs.Values.{local_at}
 use Rattle.dj_shape.specs.declared.needs.Need.{Need}
 use Rattle.dj_shape.specs.declared.needs.Changed.{Changed}
 use Rattle.dj_shape.specs.declared.handlers.Handlers.{Handlers}
-use Rattle.dj_shape.specs.declared.frames.Told.{Told}
 use Rattle.dj_shape.specs.Flows.{LocalsFlow}
 use Rattle.dj_shape.specs.Needs.{need_at, Meets, IsChanged, AreSame, AreRaised}
-use Rattle.dj_shape.specs.Told.{ToldFrames, told_at}
+use Rattle.dj_shape.specs.Told.{Told, ToldFrames, told_at}
 
 -- the frame of the handler of a range tells this kind of the local variable
 pub record Tells (frames : ToldFrames) (row : Protected) (slot : ℕ) (kind : Kind) : Type 0 where
   pub told : Told
   pub at : told_at frames row.handler ≡ Some told
-  pub tells : local_at told.locals.value.items slot ≡ Some kind
+  pub tells : local_at told.locals slot ≡ Some kind
 
 -- the local variables before an instruction have the kinds that the frames of the handlers tell, of the ranges that it is in
 abbrev pub Handled : List Protected → ToldFrames → ℕ → List (Option Kind) → Type 0
@@ -56,14 +55,14 @@ AsksNothing frames row = (row.end ≤ row.start) ⊎ (told_at frames row.handler
 pub record Asks (frames : ToldFrames) (row : Protected) (locals : List (Option Kind)) (old new : List Need) : Type 0 where
   pub told : Told
   pub at : told_at frames row.handler ≡ Some told
-  pub flow : LocalsFlow locals told.locals.value.items
-  pub raised : AreRaised told.locals.value.items row.end old new
+  pub flow : LocalsFlow locals told.locals
+  pub raised : AreRaised told.locals row.end old new
 
 pub record Lacks (frames : ToldFrames) (row : Protected) (locals : List (Option Kind)) : Type 0 where
   pub some : row.start < row.end
   pub told : Told
   pub at : told_at frames row.handler ≡ Some told
-  pub none : LocalsFlow locals told.locals.value.items → ⊥
+  pub none : LocalsFlow locals told.locals → ⊥
 
 abbrev pub Begins : Bool → ToldFrames → Protected → List (Option Kind) → List Need → List Need → Type 0
 Begins true frames row locals old new = (AsksNothing frames row × AreSame old new) ⊎ Asks frames row locals old new

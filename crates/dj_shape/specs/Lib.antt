@@ -1,7 +1,9 @@
 pub mod Rule
+pub mod Arena
 pub mod Kept
 pub mod Pools
 pub mod Standing
+pub mod Placing
 pub mod Told
 pub mod Flows
 pub mod Needs

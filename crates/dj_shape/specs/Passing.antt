@@ -12,12 +12,11 @@ use Rattle.dj_model.specs.Kinds.{Kinds, Signature, Placed}
 use Rattle.dj_model.specs.Shape.{after, first_kinds, goes_on_with, state_before, Holds, IsFirstFault}
 use Rattle.dj_shape.specs.declared.needs.Changed.{Changed}
 use Rattle.dj_shape.specs.declared.needs.Changed.TheVariants as changes
-use Rattle.dj_shape.specs.declared.frames.Told.{Told}
 use Rattle.dj_shape.specs.declared.pass.Method.{Method}
 use Rattle.dj_shape.specs.declared.pass.Pass.{Pass}
 use Rattle.dj_shape.specs.Pools.{ArePoolKinds}
 use Rattle.dj_shape.specs.Standing.{HasRoomOf, standing_in}
-use Rattle.dj_shape.specs.Told.{ToldFrames, told_at, AreTold}
+use Rattle.dj_shape.specs.Told.{Told, ToldFrames, told_at, AreTold}
 use Rattle.dj_shape.specs.Flows.{Flows, FlowsTo, FlowsToFrame}
 use Rattle.dj_shape.specs.Needs.{IsChanged}
 use Rattle.dj_shape.specs.Handlers.{IsKnownBut}
@@ -43,7 +42,7 @@ JumpsFlow left frames targets = (target : ℕ) → Contains targets target → F
 pub record HasHandlerFrame (frames : ToldFrames) (number : ℕ) : Type 0 where
   pub told : Told
   pub at : told_at frames number ≡ Some told
-  pub one : told.stack.items ≡ kinds.Ref ∷ []
+  pub one : told.stack ≡ kinds.Ref ∷ []
 
 abbrev pub IsUnhandled : ToldFrames → List Protected → ℕ → Type 0
 IsUnhandled frames rows number = (k : ℕ) × (row : Protected) × (slice_get rows k ≡ Some row) × (row.handler ≡ number) × (HasHandlerFrame frames number → ⊥)
@@ -103,10 +102,10 @@ pub record Before (method : Method) (c : Case) (number : ℕ) (pass : Pass) : Ty
 abbrev pub MeetsFrame : Bool → Option Told → ℕ → Pass → Pass → Type 0
 MeetsFrame true None number old new = (old.going ≡ true) × (new.state.kinds ≡ old.state.kinds) × (new.changed ≡ old.changed)
 MeetsFrame true (Some told) number old new =
-    (standing_in old.state told.locals.value.items told.stack.items ≡ Some new.state.kinds) × (new.changed ≡ changes.All) × (number ≡ 0 → Flows old.state.kinds told)
+    (standing_in old.state told.locals told.stack ≡ Some new.state.kinds) × (new.changed ≡ changes.All) × (number ≡ 0 → Flows old.state.kinds told)
 MeetsFrame false None number old new = old.going ≡ false
 MeetsFrame false (Some told) number old new =
-    (standing_in old.state told.locals.value.items told.stack.items ≡ None) ⊎ ((number ≡ 0) × (Flows old.state.kinds told → ⊥))
+    (standing_in old.state told.locals told.stack ≡ None) ⊎ ((number ≡ 0) × (Flows old.state.kinds told → ⊥))
 
 -- what is left flows to where the run goes on
 pub record Flowing (method : Method) (number : ℕ) (left : Kinds) (i : Instruction) : Type 0 where

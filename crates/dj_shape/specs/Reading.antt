@@ -1,18 +1,21 @@
 -- The code's own: the frames of a stack map, read one after the other.
-use Rattle.std.specs.Prelude.{◌≡◌, ℕ, ◌≤◌, Bool, true, false, List, [], ◌∷◌, ◌++◌, map, length, Option, Some, None, Result, Ok, Err, nat_eq, if◌then◌else◌}
+use Rattle.std.specs.Prelude.{◌≡◌, ℕ, suc, ◌≤◌, Bool, true, false, List, [], ◌∷◌, ◌++◌, map, length, take, min, Option, Some, None, Result, Ok, Err, slice_get}
 use Rattle.std.specs.Option.{option_and_then}
 use Rattle.dj_names.specs.declared.descriptor.Kind.{Kind}
 use Rattle.dj_names.specs.declared.descriptor.Kind.TheVariants as kinds
 use Rattle.dj_names.specs.Types.{class_type}
 use Rattle.dj_ops.specs.declared.frames.Form.{Form}
 use Rattle.dj_ops.specs.declared.frames.Form.TheVariants as forms
-use Rattle.dj_model.specs.Linking.{or_else}
 use Rattle.dj_ops.specs.declared.frames.Frame.{Frame}
 use Rattle.dj_model.specs.Instructions.{Instruction, Nop, New}
 use Rattle.dj_model.specs.Program.{Code}
 use Rattle.dj_model.specs.Kinds.{Signature, Entry, Of, NoEntry, Entries, stack_of, fitting, entry_slots, frames_after, Map, Read, Faulty, and_then, Placed, Kinds, depth}
-use Rattle.dj_shape.specs.declared.frames.Told.{Told}
-use Rattle.dj_shape.specs.Told.{ToldFrames, told_at, AreTold, told_kinds}
+use Rattle.dj_shape.specs.declared.arena.Slot.{Slot}
+use Rattle.dj_shape.specs.declared.arena.Place.{Place}
+use Rattle.dj_shape.specs.declared.frames.KeptFrame.{KeptFrame}
+use Rattle.dj_shape.specs.declared.reading.Reader.{Reader}
+use Rattle.dj_shape.specs.Arena.{IsAt, IsIn}
+use Rattle.dj_shape.specs.Told.{Told, ToldFrames, AreTold, told_in, told_kinds}
 
 -- what is read of code where its frames are: whether each instruction makes an object
 abbrev pub made_as : Bool → Instruction
@@ -58,11 +61,19 @@ abbrev pub with_all : List Placed → Map → Map
 with_all [] rest = rest
 with_all (p ∷ placed) rest = and_then p (with_all placed rest)
 
--- a form with the local variables of the frame before
-abbrev pub keeps_locals : Form → Bool
-keeps_locals forms.Same = true
-keeps_locals (forms.Stack1 type) = true
-keeps_locals form = false
+-- so many entries of the frame before are still there, of these many, where there are these many now
+abbrev pub kept_entries : Form → ℕ → ℕ → ℕ
+kept_entries (forms.Full locals stack) before now = 0
+kept_entries form before now = min before now
+
+-- the local variables of each place are those of the entries up to its own
+abbrev pub ArePlaces : List Slot → List Place → List (Option Kind) → Type 0
+ArePlaces slots places entries = (k : ℕ) (place : Place) → slice_get places k ≡ Some place → IsAt slots place (entry_slots (take (suc k) entries))
+
+-- each entry has its place
+pub record IsReading (reader : Reader) : Type 0 where
+  pub count : length reader.places.items ≡ length reader.entries.items
+  pub places : ArePlaces reader.frames.slots.items reader.places.items reader.entries.items
 
 abbrev pub fits_of : Code → Option Entries → Option Kinds
 fits_of code e = option_and_then (λ (x : Entries). fitting code x.locals (stack_of x.stack)) e
@@ -73,14 +84,12 @@ pub record TellsSome (code : Code) (e : Option Entries) (told : Told) (new : Lis
   pub are : e ≡ Some entries
   pub locals : entries.locals ≡ new
   pub fit : fitting code entries.locals (stack_of entries.stack) ≡ Some (told_kinds code.max_locals told)
-  pub slots : told.locals.value.items ≡ entry_slots new
-  pub few : length told.locals.value.items ≤ code.max_locals
-  pub low : depth told.stack.items ≤ code.max_stack
+  pub slots : told.locals ≡ entry_slots new
+  pub few : length told.locals ≤ code.max_locals
+  pub low : depth told.stack ≤ code.max_stack
 
-abbrev pub IsFrameRead : Code → Option Entries → Option Told → List (Option Kind) → Type 0
-IsFrameRead code e None new = fits_of code e ≡ None
-IsFrameRead code e (Some told) new = TellsSome code e told new
-
--- what is told at an instruction is kept, where nothing was before
-abbrev pub IsKept : ToldFrames → ToldFrames → ℕ → Told → Type 0
-IsKept old new at told = (number : ℕ) → told_at new number ≡ or_else (told_at old number) (if nat_eq at number then Some told else None)
+-- what is kept of it, whose local variables stand in the reader's slots
+abbrev pub IsFrameRead : Code → Option Entries → Option KeptFrame → Reader → Type 0
+IsFrameRead code e None reader = fits_of code e ≡ None
+IsFrameRead code e (Some kept) reader =
+    TellsSome code e (told_in reader.frames.slots.items kept) reader.entries.items × IsIn reader.frames.slots.items kept.place × IsReading reader

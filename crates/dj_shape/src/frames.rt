@@ -1,11 +1,102 @@
-use dj_names::Kind;
-use std::rc::Rc;
+ghost use Rattle.std.specs.Prelude.{IfErr, IfOk};
+ghost use Rattle.dj_shape.specs.Arena.{AreLinked};
+ghost use Rattle.dj_shape.specs.Placing.{ArePlaced, HasOneMore, HasSame};
 
-/// What a frame of a stack map tells. Frames with the same local variables share them.
+use crate::arena::{Locals, Place, Slot, add_slot};
+use crate::error::ShapeError;
+use dj_names::Kind;
+use std::alloc::Global;
+use std::collections::BTreeMap;
+
+/// What a frame of a stack map tells, as it is kept.
 #[derive(Drop)]
-pub struct Told {
-    /// The kinds of the local variables in their slots; those after the last have none.
-    pub locals: Rc<Vec<Option<Kind>>>,
+pub struct KeptFrame {
+    pub place: Place,
     /// The kinds of the operands, the top last.
     pub stack: Vec<Kind>,
+}
+
+/// What a frame of a stack map tells.
+#[derive(Drop)]
+pub struct Telling<'a> {
+    /// The kinds of the local variables in their slots; those after the last have none.
+    pub locals: Locals<'a>,
+    /// The kinds of the operands, the top last.
+    pub stack: &'a [Kind],
+}
+
+/// What the frames of a stack map tell, by the numbers of their instructions. Their local variables stand in slots, of which a frame shares
+/// those that it has from the frame before it: so all frames together take no more memory than their stack map.
+#[derive(Drop)]
+pub struct Frames {
+    slots: Vec<Slot>,
+    told: BTreeMap<u64, KeptFrame>,
+    pub ghost linked: { AreLinked slots.items },
+    pub ghost placed: { ArePlaced slots.items told },
+}
+
+// A frame is kept, if none is at the instruction yet.
+fn keep(told: &mut BTreeMap<u64, KeptFrame>, at: u64, kept: KeptFrame) -> Result<(), ShapeError>
+    ensures more { IfOk result (λ x. HasOneMore told.old told.new at kept) }
+    ensures same { IfErr result (λ e. HasSame told.old told.new) }
+{
+    if !told.contains_key(&at) {
+        told.insert(at, kept)?;
+    }
+    Ok(())
+}
+
+impl Frames {
+    ghost use Rattle.std.specs.Prelude.{◌≡◌, ℕ, ◌∷◌, ◌++◌, [], None, Some, IfOk, MatchOption};
+    ghost use Rattle.dj_shape.specs.Arena.{IsAt, IsIn, slots_at};
+    ghost use Rattle.dj_shape.specs.Told.{Grows, IsKept, told_at, told_by, told_in};
+
+    /// No frames.
+    pub fn new(alloc: Global) -> Frames
+        ensures { (number : ℕ) → told_at result number ≡ None }
+    {
+        Frames {
+            slots: Vec::new(alloc),
+            told: BTreeMap::new(alloc),
+        }
+    }
+
+    /// What the frame at the instruction of this number tells, if there is one.
+    pub fn at(&self, number: u64) -> Option<Telling<'_>>
+        ensures { MatchOption result (told_at self.now number ≡ None) (λ telling. told_at self.now number ≡ Some (told_by telling)) }
+    {
+        match self.told.get(&number) {
+            None => None,
+            Some(kept) => Some(Telling {
+                locals: self.locals(kept.place),
+                stack: kept.stack.as_slice(),
+            }),
+        }
+    }
+
+    /// The local variables of a place.
+    pub fn locals(&self, place: Place) -> Locals<'_>
+        requires { IsIn self.now.slots.items place }
+        ensures { result ≡ slots_at self.now.slots.items place.end }
+    {
+        Locals::new(&self.slots, place)
+    }
+
+    /// Appends a local variable to those of a place.
+    pub fn add(&mut self, place: Place, kind: Option<Kind>) -> Result<Place, ShapeError>
+        requires { IsIn self.old.slots.items place }
+        ensures grows { Grows self.old self.new }
+        ensures added { IfOk result (λ more. IsAt self.new.slots.items more (slots_at self.old.slots.items place.end ++ kind ∷ [])) }
+    {
+        add_slot(&mut self.slots, place, kind)
+    }
+
+    /// A frame is kept, if none is at the instruction yet.
+    pub fn keep(&mut self, at: u64, kept: KeptFrame) -> Result<(), ShapeError>
+        requires { IsIn self.old.slots.items kept.place }
+        ensures same { self.new.slots.items ≡ self.old.slots.items }
+        ensures kept { IfOk result (λ x. IsKept self.old self.new at (told_in self.old.slots.items kept)) }
+    {
+        keep(&mut self.told, at, kept)
+    }
 }

@@ -6,12 +6,11 @@ ghost use Rattle.dj_shape.specs.Handlers.{AreRising, Begins, Enters, IsKnown, Is
 
 use crate::error::ShapeError;
 use crate::flows::locals_flow;
-use crate::frames::Told;
+use crate::frames::Frames;
 use crate::needs::{Changed, Need, meets, raise};
 use dj_labels::Protected;
 use dj_names::Kind;
 use std::alloc::Global;
-use std::collections::BTreeMap;
 
 /// The ranges of an exception table, of which the first have begun.
 #[derive(Drop)]
@@ -38,7 +37,7 @@ fn in_order(alloc: Global, rows: &[Protected]) -> Result<Vec<Protected>, ShapeEr
 // The range begins. Whether the local variables have the kinds that its handler's frame tells, if it has any instruction.
 fn begin(
     needs: &mut Vec<Need>,
-    frames: &BTreeMap<u64, Told>,
+    frames: &Frames,
     row: Protected,
     locals: &[Option<Kind>],
 ) -> Result<bool, ShapeError>
@@ -48,13 +47,13 @@ fn begin(
         return Ok(true);
     }
     let handler = u64::from(row.handler);
-    let Some(told) = frames.get(&handler) else {
+    let Some(told) = frames.at(handler) else {
         return Ok(true);
     };
-    if !locals_flow(locals, told.locals.as_slice()) {
+    if !locals_flow(locals, &told.locals) {
         return Ok(false);
     }
-    raise(needs, told.locals.as_slice(), row.end)?;
+    raise(needs, &told.locals, row.end)?;
     Ok(true)
 }
 
@@ -76,7 +75,7 @@ impl Handlers {
     // The ranges begin that start at the instruction. Whether the local variables have the kinds that their handlers' frames tell.
     fn begin_all(
         &mut self,
-        frames: &BTreeMap<u64, Told>,
+        frames: &Frames,
         number: u32,
         locals: &[Option<Kind>],
     ) -> Result<bool, ShapeError>
@@ -99,7 +98,7 @@ impl Handlers {
     /// frames of the handlers tell, of all ranges that the instruction is in.
     pub fn enter(
         &mut self,
-        frames: &BTreeMap<u64, Told>,
+        frames: &Frames,
         number: u32,
         locals: &[Option<Kind>],
         changed: Changed,

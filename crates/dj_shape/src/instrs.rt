@@ -12,12 +12,11 @@ ghost use Rattle.dj_shape.specs.Works.{work_of, work_view};
 
 use crate::effect::{Effect, local_effect, simple_effect};
 use crate::flows::flows_to_frame;
-use crate::frames::Told;
+use crate::frames::Frames;
 use crate::needs::Changed;
 use crate::pool::{ConstantKind, PoolKinds};
 use crate::state::KindState;
 use dj_ops::Instr;
-use std::collections::BTreeMap;
 
 // ---- whether the run never goes on at the next instruction
 
@@ -113,13 +112,13 @@ pub fn changed_by(instr: &Instr) -> Changed
 
 // ---- where it jumps to
 
-fn flows_at(state: &KindState, frames: &BTreeMap<u64, Told>, target: i64) -> bool
+fn flows_at(state: &KindState, frames: &Frames, target: i64) -> bool
     ensures { Decides result (FlowsAt state.now.kinds frames.now target) }
 {
     flows_to_frame(state, frames, target.unsigned_abs())
 }
 
-fn all_flow(state: &KindState, frames: &BTreeMap<u64, Told>, targets: &[i64]) -> bool
+fn all_flow(state: &KindState, frames: &Frames, targets: &[i64]) -> bool
     ensures { Decides result (All (FlowsAt state.now.kinds frames.now) targets.now) }
 {
     for target in targets {
@@ -130,7 +129,7 @@ fn all_flow(state: &KindState, frames: &BTreeMap<u64, Told>, targets: &[i64]) ->
     true
 }
 
-fn pairs_flow(state: &KindState, frames: &BTreeMap<u64, Told>, pairs: &[(i32, i64)]) -> bool
+fn pairs_flow(state: &KindState, frames: &Frames, pairs: &[(i32, i64)]) -> bool
     ensures { Decides result (All (λ pair. FlowsAt state.now.kinds frames.now pair.1) pairs.now) }
 {
     for pair in pairs {
@@ -141,7 +140,7 @@ fn pairs_flow(state: &KindState, frames: &BTreeMap<u64, Told>, pairs: &[(i32, i6
     true
 }
 
-fn form_flows(state: &KindState, frames: &BTreeMap<u64, Told>, instr: &Instr) -> bool
+fn form_flows(state: &KindState, frames: &Frames, instr: &Instr) -> bool
     ensures { Decides result (FormFlows state.now.kinds frames.now instr.now) }
 {
     match instr {
@@ -159,7 +158,7 @@ fn form_flows(state: &KindState, frames: &BTreeMap<u64, Told>, instr: &Instr) ->
 }
 
 /// Whether each target of the instruction has a frame, into which these kinds flow, if it is one that is run.
-pub fn jumps_flow(state: &KindState, frames: &BTreeMap<u64, Told>, instr: &Instr) -> bool
+pub fn jumps_flow(state: &KindState, frames: &Frames, instr: &Instr) -> bool
     ensures { (pool : List Constant) → IsRun (instruction_in pool instr.now) → Decides result (JumpsFlow state.now.kinds frames.now (targets (instruction_in pool instr.now))) }
 {
     form_flows(state, frames, instr)

@@ -12,16 +12,15 @@ ghost use Rattle.dj_shape.specs.Reading.{entries_with, signature_with};
 ghost use Rattle.dj_shape.specs.Rule.{signature_at, IsShapeAnswer};
 
 use crate::error::ShapeError;
-use crate::frames::Told;
+use crate::frames::Frames as ToldFrames;
 use crate::pass::{Method, Pass, first_unhandled};
 use crate::pool::{CallKinds, PoolKinds};
-use crate::reading::{objects_made, read_frames, slots_of};
+use crate::reading::{Reader, objects_made, read_frames};
 use crate::state::KindState;
 use dj_names::Kind;
 use dj_ops::Frames;
 use dj_program::MethodCode;
 use std::alloc::Global;
-use std::collections::BTreeMap;
 
 /// Code without shape.
 #[derive(Clone, Copy, Debug, PartialEq, Eq)]
@@ -62,7 +61,7 @@ fn judge(
     kinds: &PoolKinds,
     returned: Option<Kind>,
     code: &MethodCode,
-    frames: BTreeMap<u64, Told>,
+    frames: ToldFrames,
     state: KindState,
 ) -> Result<Option<u32>, ShapeError>
     requires { length code.now.code.code < 2 ^ 32 }
@@ -96,9 +95,9 @@ fn fault_with_frames(
         → IsFaultOf (signature_with is_static call.now) (code_in pool (parts_of code.now)) fault) }
 {
     let entries = parameter_entries(alloc, is_static, call)?;
-    let locals = slots_of(alloc, &entries)?;
+    let reader = Reader::new(alloc, entries)?;
     let mut state = KindState::new(alloc, code.max_stack, code.max_locals);
-    if !state.set(&locals, &[])? {
+    if !state.set(&reader.locals(), &[])? {
         return Ok(Some(0));
     }
     let made = objects_made(alloc, kinds, code.code.code.as_slice())?;
@@ -106,8 +105,7 @@ fn fault_with_frames(
         alloc,
         (code.max_stack, code.max_locals),
         &made,
-        entries,
-        locals,
+        reader,
         frames.as_slice(),
     )? {
         Err(at) => Ok(Some(at)),

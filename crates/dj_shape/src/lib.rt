@@ -2,6 +2,7 @@
 #![tactic(auto)]
 
 mod apply;
+mod arena;
 mod effect;
 mod error;
 mod flows;

@@ -2,6 +2,7 @@ ghost use Rattle.std.specs.Prelude.{◌≡◌, ℕ, ◌<◌, ◌≤◌, length, 
 ghost use Rattle.dj_model.specs.Values.{local_at};
 ghost use Rattle.dj_shape.specs.Needs.{AreRaised, AreSame, IsChanged, Meets, MissesOne, need_at, raised};
 
+use crate::arena::Locals;
 use crate::error::ShapeError;
 use crate::flows::has_kind;
 use dj_names::Kind;
@@ -75,17 +76,18 @@ fn note(needs: &mut [Need], slot: usize, told: Option<Kind>, end: u32)
 }
 
 // Each of the local variables of which a kind is told is needed up to the end.
-fn note_all(needs: &mut [Need], told: &[Option<Kind>], end: u32)
+fn note_all(needs: &mut [Need], told: &Locals<'_>, end: u32)
     requires { length told.now ≤ length needs.old }
     ensures { AreRaised told.now end needs.old needs.new }
 {
-    for (slot, kind) in told.iter().enumerate() {
-        note(needs, slot, *kind, end);
+    let mut rest = told.again();
+    while let Some((slot, kind)) = rest.pop() {
+        note(needs, slot, kind, end);
     }
 }
 
 /// Each local variable of which the frame of a handler tells a kind is needed up to the end of its range.
-pub fn raise(needs: &mut Vec<Need>, told: &[Option<Kind>], end: u32) -> Result<(), ShapeError>
+pub fn raise(needs: &mut Vec<Need>, told: &Locals<'_>, end: u32) -> Result<(), ShapeError>
     ensures { IfOk result (λ x. AreRaised told.now end needs.old.items needs.new.items) }
 {
     grow(needs, told.len())?;

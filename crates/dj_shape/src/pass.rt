@@ -12,7 +12,7 @@ ghost use Rattle.dj_shape.specs.Told.{told_at};
 use crate::apply::apply;
 use crate::error::ShapeError;
 use crate::flows::{flows, flows_to, same_stacks};
-use crate::frames::Told;
+use crate::frames::Frames;
 use crate::handlers::Handlers;
 use crate::instrs::{changed_by, ends, jumps_flow};
 use crate::needs::Changed;
@@ -22,7 +22,6 @@ use dj_labels::Protected;
 use dj_names::Kind;
 use dj_ops::Instr;
 use std::alloc::Global;
-use std::collections::BTreeMap;
 
 /// The code of a method, and what is known of it before the pass over its instructions.
 #[derive(Drop)]
@@ -31,7 +30,7 @@ pub struct Method<'a> {
     pub code: &'a [Instr],
     pub rows: &'a [Protected],
     /// What frames tell, by the numbers of their instructions.
-    pub frames: BTreeMap<u64, Told>,
+    pub frames: Frames,
     /// The kind of what it gives.
     pub returned: Option<Kind>,
     /// The least first instruction of a handler that has no handler's frame.
@@ -64,15 +63,14 @@ impl Pass {
         ensures same { self.new.handlers ≡ self.old.handlers }
         ensures met { IfOk result (λ stands. MeetsFrame stands (told_at method.now.frames number) number self.old self.new) }
     {
-        let Some(told) = method.frames.get(&u64::from(number)) else {
+        let Some(told) = method.frames.at(u64::from(number)) else {
             return Ok(self.going);
         };
-        if number == 0 && !flows(&self.state, told) {
+        if number == 0 && !flows(&self.state, &told) {
             return Ok(false);
         }
         self.changed = Changed::All;
-        self.state
-            .set(told.locals.as_slice(), told.stack.as_slice())
+        self.state.set(&told.locals, told.stack)
     }
 
     // Whether the run goes on at an instruction, and with kinds that flow into its frame, if it has one.
@@ -158,12 +156,12 @@ impl Pass {
 }
 
 // Whether the frame at the instruction tells one operand, a reference.
-fn has_handler_frame(frames: &BTreeMap<u64, Told>, number: u32) -> bool
+fn has_handler_frame(frames: &Frames, number: u32) -> bool
     ensures { Decides result (HasHandlerFrame frames.now number) }
 {
-    match frames.get(&u64::from(number)) {
+    match frames.at(u64::from(number)) {
         None => false,
-        Some(told) => same_stacks(told.stack.as_slice(), &[Kind::Ref]),
+        Some(told) => same_stacks(told.stack, &[Kind::Ref]),
     }
 }
 
@@ -177,7 +175,7 @@ fn least_of(least: Option<u32>, number: u32) -> u32
 }
 
 // The least of those so far and of one more.
-fn with_row(frames: &BTreeMap<u64, Told>, least: Option<u32>, row: Protected) -> Option<u32>
+fn with_row(frames: &Frames, least: Option<u32>, row: Protected) -> Option<u32>
     ensures { (rows : List Protected) → IsFirstUnhandled frames.now rows least → IsFirstUnhandled frames.now (rows ++ row ∷ []) result }
 {
     if has_handler_frame(frames, row.handler) {
@@ -188,7 +186,7 @@ fn with_row(frames: &BTreeMap<u64, Told>, least: Option<u32>, row: Protected) ->
 }
 
 /// The least first instruction of a handler that has no handler's frame.
-pub fn first_unhandled(frames: &BTreeMap<u64, Told>, rows: &[Protected]) -> Option<u32>
+pub fn first_unhandled(frames: &Frames, rows: &[Protected]) -> Option<u32>
     ensures { IsFirstUnhandled frames.now rows.now result }
 {
     let mut least: Option<u32> = None;

@@ -1,23 +1,26 @@
-ghost use Rattle.std.specs.Prelude.{◌≡◌, ℕ, ◌++◌, ◌∷◌, [], List, false, slice_get, get_or, if◌then◌else◌, length, map, option_map, option_and_then, IfOk, Some};
+ghost use Rattle.std.specs.Prelude.{◌≡◌, ℕ, ◌≤◌, ◌++◌, ◌∷◌, [], List, Option, false, slice_get, get_or, length, map, take, option_map, option_and_then, IfOk, IfSome, None};
+ghost use Rattle.dj_names.specs.declared.descriptor.Kind.{Kind};
 ghost use Rattle.dj_pool.specs.Pool.{Constant};
 ghost use Rattle.dj_program.specs.Naming.{instruction_in};
 ghost use Rattle.dj_ops.specs.declared.frames.Form.TheVariants as forms;
 ghost use Rattle.dj_model.specs.Program.{Code};
 ghost use Rattle.dj_model.specs.Instructions.{makes_uninitialised};
 ghost use Rattle.dj_model.specs.Kinds.{entries_of, entry_of, entry_slots, form_entries, made_by, stack_of};
+ghost use Rattle.dj_shape.specs.declared.arena.Slot.{Slot};
+ghost use Rattle.dj_shape.specs.Arena.{IsAt, IsIn, slots_at};
 ghost use Rattle.dj_shape.specs.Pools.{ArePoolKinds};
-ghost use Rattle.dj_shape.specs.Reading.{AreRead, ChangesTo, Gains, IsFrameRead, IsKept, entry_view, frame_code, keeps_locals, made_as};
+ghost use Rattle.dj_shape.specs.Reading.{ArePlaces, AreRead, ChangesTo, Gains, IsFrameRead, IsReading, entry_view, frame_code, kept_entries, made_as};
+ghost use Rattle.dj_shape.specs.Told.{Grows, told_at};
 
+use crate::arena::{Locals, Place};
 use crate::error::ShapeError;
-use crate::frames::Told;
+use crate::frames::{Frames, KeptFrame};
 use crate::instrs::makes_object;
 use crate::kinds::depth_within;
 use crate::pool::PoolKinds;
 use dj_names::Kind;
 use dj_ops::{Form, Frame, Instr, VType};
 use std::alloc::Global;
-use std::collections::BTreeMap;
-use std::rc::Rc;
 
 /// Of each instruction, whether it makes an object of a class.
 pub fn objects_made(
@@ -32,28 +35,6 @@ pub fn objects_made(
         made.push(makes_object(kinds, instr))?;
     }
     Ok(made)
-}
-
-// Appends an entry in its slot, or in its two.
-fn add_slots(slots: &mut Vec<Option<Kind>>, entry: Option<Kind>) -> Result<(), ShapeError>
-    ensures { IfOk result (λ x. slots.new.items ≡ slots.old.items ++ entry_slots (entry ∷ [])) }
-{
-    slots.push(entry)?;
-    if entry == Some(Kind::Long) {
-        slots.push(None)?;
-    }
-    Ok(())
-}
-
-/// Entries in their slots: a long takes two.
-pub fn slots_of(alloc: Global, entries: &[Option<Kind>]) -> Result<Vec<Option<Kind>>, ShapeError>
-    ensures { IfOk result (λ slots. slots.items ≡ entry_slots entries.now) }
-{
-    let mut slots = Vec::new(alloc);
-    for entry in entries {
-        add_slots(&mut slots, *entry)?;
-    }
-    Ok(slots)
 }
 
 // Whether the instruction of the number makes an object.
@@ -173,84 +154,165 @@ fn change(
     }
 }
 
-// Whether the local variables are those of the frame before.
-fn keeps_locals(form: &Form) -> bool
-    ensures { result ≡ keeps_locals form.now }
+// So many entries of the frame before are still there, of these many.
+fn kept_entries(form: &Form, before: usize, now: usize) -> usize
+    ensures { result ≡ kept_entries form.now before now }
 {
-    matches!(form, Form::Same | Form::Stack1(_))
+    match form {
+        Form::Full(_, _) => 0,
+        Form::Same | Form::Stack1(_) | Form::Chop(_) | Form::Append(_) => before.min(now),
+    }
 }
 
-// The local variables of a frame in their slots: those of the frame before, where it has these.
-fn locals_after(
-    alloc: Global,
-    entries: &[Option<Kind>],
-    before: Rc<Vec<Option<Kind>>>,
-    form: &Form,
-) -> Result<Rc<Vec<Option<Kind>>>, ShapeError>
-    ensures { IfOk result (λ locals. locals.value.items ≡ (if keeps_locals form.now then before.value.items else entry_slots entries.now)) }
+// ---- the local variables in slots
+
+// The place of the entries that have one.
+fn last_place(places: &[Place]) -> Place
+    ensures { (slots : List Slot) (entries : List (Option Kind)) → ArePlaces slots places.now entries → IsAt slots result (entry_slots (take (length places.now) entries)) }
 {
-    if keeps_locals(form) {
-        return Ok(before);
+    match places.last() {
+        None => Place { end: 0, count: 0 },
+        Some(place) => *place,
     }
-    Ok(Rc::new(alloc, slots_of(alloc, entries)?)?)
 }
 
-// What a frame tells after the one before it, where it tells kinds that fit.
-fn read_frame(
-    alloc: Global,
-    room: (u16, u16),
-    made: &[bool],
-    entries: &mut Vec<Option<Kind>>,
-    before: Rc<Vec<Option<Kind>>>,
-    form: &Form,
-) -> Result<Option<Told>, ShapeError>
-    requires { before.value.items ≡ entry_slots entries.old.items }
-    ensures { IfOk result (λ told. IsFrameRead (frame_code room.0 room.1 made.now) (form_entries (frame_code room.0 room.1 made.now) entries.old.items form.now) told entries.new.items) }
+// Appends an entry in its slot, or in its two, to the local variables of a place.
+fn add_entry(frames: &mut Frames, place: Place, entry: Option<Kind>) -> Result<Place, ShapeError>
+    requires { IsIn frames.old.slots.items place }
+    ensures grows { Grows frames.old frames.new }
+    ensures added { IfOk result (λ more. IsAt frames.new.slots.items more (slots_at frames.old.slots.items place.end ++ entry_slots (entry ∷ []))) }
 {
-    let Some(stack) = change(alloc, entries, made, form)? else {
-        return Ok(None);
-    };
-    let locals = locals_after(alloc, entries, before, form)?;
-    if usize::from(room.1) < locals.len() {
-        return Ok(None);
+    let first = frames.add(place, entry)?;
+    if entry == Some(Kind::Long) {
+        return frames.add(first, None);
     }
-    if depth_within(&stack, u32::from(room.0)).is_none() {
-        return Ok(None);
-    }
-    Ok(Some(Told { locals, stack }))
+    Ok(first)
 }
 
-// What is told is kept, if nothing is told of the instruction yet.
-fn keep(frames: &mut BTreeMap<u64, Told>, at: u64, told: Told) -> Result<(), ShapeError>
-    ensures { IfOk result (λ x. IsKept frames.old frames.new at told) }
-{
-    if !frames.contains_key(&at) {
-        frames.insert(at, told)?;
-    }
-    Ok(())
+/// The frames of a stack map that were read, and what the next one may keep of the last.
+#[derive(Drop)]
+pub struct Reader {
+    // The last one's local variables, one after the other.
+    entries: Vec<Option<Kind>>,
+    // Of each of them, where it and those before it stand.
+    places: Vec<Place>,
+    frames: Frames,
 }
 
-/// What the frames of a stack map tell, of which the first comes after these local variables, or the number of the first that tells nothing
-/// that fits. Frames with the local variables of the frame before share them.
+impl Reader {
+    // The entries that have no place yet get one.
+    fn place_all(&mut self) -> Result<(), ShapeError>
+        requires few { length self.old.places.items ≤ length self.old.entries.items }
+        requires places { ArePlaces self.old.frames.slots.items self.old.places.items self.old.entries.items }
+        ensures entries { self.new.entries.items ≡ self.old.entries.items }
+        ensures grows { Grows self.old.frames self.new.frames }
+        ensures reading { IfOk result (λ x. IsReading self.new) }
+    {
+        while self.places.len() < self.entries.len() {
+            let entry = self.entries[self.places.len()];
+            let place = add_entry(&mut self.frames, last_place(&self.places), entry)?;
+            self.places.push(place)?;
+        }
+        Ok(())
+    }
+
+    /// No frames, before which these local variables stand.
+    pub fn new(alloc: Global, entries: Vec<Option<Kind>>) -> Result<Reader, ShapeError>
+        ensures reading { IfOk result (λ reader. IsReading reader) }
+        ensures entries { IfOk result (λ reader. reader.entries.items ≡ entries.items) }
+        ensures none { IfOk result (λ reader. (number : ℕ) → told_at reader.frames number ≡ None) }
+    {
+        let mut reader = Reader {
+            entries,
+            places: Vec::new(alloc),
+            frames: Frames::new(alloc),
+        };
+        reader.place_all()?;
+        Ok(reader)
+    }
+
+    // The place of the local variables.
+    fn place(&self) -> Place
+        requires { IsReading self.now }
+        ensures { IsAt self.now.frames.slots.items result (entry_slots self.now.entries.items) }
+    {
+        last_place(&self.places)
+    }
+
+    /// The local variables in their slots.
+    pub fn locals(&self) -> Locals<'_>
+        requires { IsReading self.now }
+        ensures { result ≡ entry_slots self.now.entries.items }
+    {
+        self.frames.locals(self.place())
+    }
+
+    // Changes the local variables as the form of a frame tells, and gives its operands, where each of its types tells what it has to.
+    fn change(
+        &mut self,
+        alloc: Global,
+        made: &[bool],
+        form: &Form,
+    ) -> Result<Option<Vec<Kind>>, ShapeError>
+        requires { IsReading self.old }
+        ensures grows { Grows self.old.frames self.new.frames }
+        ensures changes { IfOk result (λ stack. (max_stack max_locals : ℕ) → ChangesTo (option_map (λ v. v.items) stack) (form_entries (frame_code max_stack max_locals made.now) self.old.entries.items form.now) self.new.entries.items) }
+        ensures reading { IfOk result (λ stack. IfSome stack (λ x. IsReading self.new)) }
+    {
+        let before = self.entries.len();
+        let Some(stack) = change(alloc, &mut self.entries, made, form)? else {
+            return Ok(None);
+        };
+        self.places
+            .truncate(kept_entries(form, before, self.entries.len()));
+        self.place_all()?;
+        Ok(Some(stack))
+    }
+
+    // What a frame tells after the one before it, where it tells kinds that fit.
+    fn read(
+        &mut self,
+        alloc: Global,
+        room: (u16, u16),
+        made: &[bool],
+        form: &Form,
+    ) -> Result<Option<KeptFrame>, ShapeError>
+        requires { IsReading self.old }
+        ensures grows { Grows self.old.frames self.new.frames }
+        ensures read { IfOk result (λ kept. IsFrameRead (frame_code room.0 room.1 made.now) (form_entries (frame_code room.0 room.1 made.now) self.old.entries.items form.now) kept self.new) }
+    {
+        let Some(stack) = self.change(alloc, made, form)? else {
+            return Ok(None);
+        };
+        let place = self.place();
+        if u32::from(room.1) < place.count {
+            return Ok(None);
+        }
+        if depth_within(&stack, u32::from(room.0)).is_none() {
+            return Ok(None);
+        }
+        Ok(Some(KeptFrame { place, stack }))
+    }
+}
+
+/// What the frames of a stack map tell, or the number of the first that tells nothing that fits.
 pub fn read_frames(
     alloc: Global,
     room: (u16, u16),
     made: &[bool],
-    mut entries: Vec<Option<Kind>>,
-    slots: Vec<Option<Kind>>,
+    mut reader: Reader,
     frames: &[Frame],
-) -> Result<Result<BTreeMap<u64, Told>, u32>, ShapeError>
-    requires { slots.items ≡ entry_slots entries.items }
-    ensures { IfOk result (λ read. AreRead (frame_code room.0 room.1 made.now) entries.items frames.now read) }
+) -> Result<Result<Frames, u32>, ShapeError>
+    requires reading { IsReading reader }
+    requires none { (number : ℕ) → told_at reader.frames number ≡ None }
+    ensures { IfOk result (λ read. AreRead (frame_code room.0 room.1 made.now) reader.entries.items frames.now read) }
 {
-    let mut told = BTreeMap::new(alloc);
-    let mut locals = Rc::new(alloc, slots)?;
     for frame in frames {
-        let Some(tell) = read_frame(alloc, room, made, &mut entries, locals, &frame.form)? else {
+        let Some(kept) = reader.read(alloc, room, made, &frame.form)? else {
             return Ok(Err(frame.at));
         };
-        locals = tell.locals.clone()?;
-        keep(&mut told, u64::from(frame.at), tell)?;
+        reader.frames.keep(u64::from(frame.at), kept)?;
     }
+    let Reader { frames: told, .. } = reader;
     Ok(Ok(told))
 }

@@ -7,6 +7,7 @@ ghost use Rattle.dj_model.specs.Shape.{gives, leaving, store_kind, taken, with_r
 ghost use Rattle.dj_model.specs.Values.{local_at, one_slot, two_slots};
 ghost use Rattle.dj_shape.specs.Standing.{SameRoom, SameLocals, Takes, Leaves, IsCut, no_kinds, piece_kinds, room, standing_in};
 
+use crate::arena::Locals;
 use crate::error::ShapeError;
 use crate::kinds::{depth_within, is_wide, kind_slots, local_at, same_kind, store_in};
 use dj_names::Kind;
@@ -49,6 +50,21 @@ impl Model for KindState {
     ghost invariant = { λ s. IsDepth s.depth (reverse s.stack.items) × (s.depth ≤ s.max_stack) × (vec_len s.locals ≤ s.max_locals) };
 }
 
+// These local variables alone are kept.
+#[tactic(auto, using(crate::proofs::States::filled_few, crate::proofs::States::filled_all))]
+fn fill(kept: &mut Vec<Option<Kind>>, locals: &Locals<'_>) -> Result<(), ShapeError>
+    ensures few { length kept.new.items ≤ length locals.now }
+    ensures filled { IfOk result (λ x. kept.new.items ≡ locals.now) }
+{
+    kept.clear();
+    let mut rest = locals.again();
+    while let Some((_, kind)) = rest.pop() {
+        kept.push(kind)?;
+    }
+    kept.reverse();
+    Ok(())
+}
+
 impl KindState {
     /// No kinds yet.
     pub fn new(alloc: Global, max_stack: u16, max_locals: u16) -> KindState
@@ -65,14 +81,14 @@ impl KindState {
     }
 
     /// Whether there is room for these local variables in their slots, and for these operands, the top last. Then these stand, and else it doesn't matter which.
-    pub fn set(&mut self, locals: &[Option<Kind>], stack: &[Kind]) -> Result<bool, ShapeError>
+    pub fn set(&mut self, locals: &Locals<'_>, stack: &[Kind]) -> Result<bool, ShapeError>
         ensures room { SameRoom self.old self.new }
         ensures set { IfOk result (λ fits. Leaves fits (standing_in self.old locals.now stack.now) self.new.kinds) }
     {
         Ok(self.set_locals(locals)? && self.set_stack(stack)?)
     }
 
-    fn set_locals(&mut self, locals: &[Option<Kind>]) -> Result<bool, ShapeError>
+    fn set_locals(&mut self, locals: &Locals<'_>) -> Result<bool, ShapeError>
         ensures room { SameRoom self.old self.new }
         ensures set { IfOk result (λ fits. Leaves fits
             (if nat_le (length locals.now) self.old.max_locals then Some (padded self.old.max_locals locals.now) else None) self.new.kinds.locals) }
@@ -80,8 +96,7 @@ impl KindState {
         if usize::from(self.max_locals) < locals.len() {
             return Ok(false);
         }
-        self.locals.clear();
-        self.locals.extend_from_slice(locals)?;
+        fill(&mut self.locals, locals)?;
         Ok(true)
     }
 

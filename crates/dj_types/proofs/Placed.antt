@@ -10,8 +10,8 @@ use Rattle.dj_model.specs.Linking.{FoundMethod, FoundField}
 use Rattle.dj_classes.specs.Tables.{methods_of, methods_at, fields_at, method_of_class, field_of_class, method_there, field_there}
 use Rattle.dj_classes.specs.declared.place.Place.{Place}
 use Rattle.dj_types.specs.Members.{all_methods, all_fields, methods_in, fields_in, methods_before, fields_before}
-use Rattle.dj_types.specs.Numbered.{counts_of, AreStarts, IsBegun, IsStartOf}
-use Rattle.dj_types.proofs.Starts.{some_there, begun, placed, IsPlaced, all_count, before_count, member_of_number, number_within, count_at, counts_length}
+use Rattle.dj_types.specs.Numbered.{counts_of, AreStarts, IsStartOf}
+use Rattle.dj_types.proofs.Starts.{some_there, placed, IsPlaced, all_count, before_count, member_of_number, number_within, count_at, counts_length}
 
 -- what is told of a place and of the number there
 pub record IsNumbered {F : Type 0} (all : List F) (before start member : ℕ) (found : Option F) : Type 0 where
@@ -37,9 +37,6 @@ module _ {F : Type 0} (items : Class → List F) (program : Program) (starts : L
         is = member_of_number items program k member (get_or starts k 0 + member) c at within (ap (λ (n : ℕ). n + member) (sym start));
         number = omega (arith, start, before);
       }
-
-  pub number_begun : (number : ℕ) → number < length (flat_map items program) → IsBegun starts number
-  number_begun number lt = begun (counts_of items program) starts number are (let e = all_count items program in omega (arith, e, lt))
 
   pub place_of_number : (number : ℕ) (place : Place) → number < length (flat_map items program) → IsStartOf starts number place
       → (c : Class) × (slice_get program place.class ≡ Some c) × (place.member < length (items c)) × (slice_get (items c) place.member ≡ slice_get (flat_map items program) number)
@@ -74,14 +71,15 @@ numbered_method program starts place are few lt within =
 pub method_starts_within : (program : Program) (starts : List ℕ) (k : ℕ) → AreStarts (counts_of methods_in program) starts → k < length program → k < length starts
 method_starts_within program starts k are lt = starts_within methods_in program starts are k lt
 
-pub method_begun : (program : Program) (starts : List ℕ) (number : ℕ) → AreStarts (counts_of methods_in program) starts → number < length (all_methods program) → IsBegun starts number
+pub methods_counted : (program : Program) → length (all_methods program) ≡ sum (counts_of methods_in program)
 unfolding all_methods
-method_begun program starts number are lt = number_begun methods_in program starts are number lt
+methods_counted program = all_count methods_in program
 
 pub record IsPlaceOfMethod (program : Program) (number : ℕ) (place : Place) : Type 0 where
   pub there : place.class < length program
   pub within : place.member < length (methods_at program place.class)
   pub is : method_there program place ≡ slice_get (all_methods program) number
+  pub counted : number ≡ methods_before program place.class + place.member
 
 pub place_of_method : (program : Program) (starts : List ℕ) (number : ℕ) (place : Place) → AreStarts (counts_of methods_in program) starts → number < length (all_methods program) → IsStartOf starts number place
     → IsPlaceOfMethod program number place
@@ -90,10 +88,16 @@ place_of_method program starts number place are lt at =
     let placed = place_of_number methods_in program starts are number place lt at in
     let count = method_count program place.class placed.0 placed.1 in
     let within = placed.2 in
+    let there = slice_get_within program place.class placed.0 placed.1 in
+    let long = counts_length methods_in program in
+    let start = are.each place.class (omega (arith, long, there)) in
+    let before = before_count methods_in program place.class in
+    let reached = at.reached in
     record {
-      there = slice_get_within program place.class placed.0 placed.1;
+      there = there;
       within = omega (arith, count, within);
       is = sym (method_in_class program place placed.0 placed.1) ∙ placed.3;
+      counted = omega (arith, start, before, reached);
     }
 
 -- ---- fields
@@ -116,14 +120,15 @@ numbered_field program starts place are few lt within =
 pub field_starts_within : (program : Program) (starts : List ℕ) (k : ℕ) → AreStarts (counts_of fields_in program) starts → k < length program → k < length starts
 field_starts_within program starts k are lt = starts_within fields_in program starts are k lt
 
-pub field_begun : (program : Program) (starts : List ℕ) (number : ℕ) → AreStarts (counts_of fields_in program) starts → number < length (all_fields program) → IsBegun starts number
+pub fields_counted : (program : Program) → length (all_fields program) ≡ sum (counts_of fields_in program)
 unfolding all_fields
-field_begun program starts number are lt = number_begun fields_in program starts are number lt
+fields_counted program = all_count fields_in program
 
 pub record IsPlaceOfField (program : Program) (number : ℕ) (place : Place) : Type 0 where
   pub there : place.class < length program
   pub within : place.member < length (fields_at program place.class)
   pub is : field_there program place ≡ slice_get (all_fields program) number
+  pub counted : number ≡ fields_before program place.class + place.member
 
 pub place_of_field : (program : Program) (starts : List ℕ) (number : ℕ) (place : Place) → AreStarts (counts_of fields_in program) starts → number < length (all_fields program) → IsStartOf starts number place
     → IsPlaceOfField program number place
@@ -132,10 +137,16 @@ place_of_field program starts number place are lt at =
     let placed = place_of_number fields_in program starts are number place lt at in
     let count = field_count program place.class placed.0 placed.1 in
     let within = placed.2 in
+    let there = slice_get_within program place.class placed.0 placed.1 in
+    let long = counts_length fields_in program in
+    let start = are.each place.class (omega (arith, long, there)) in
+    let before = before_count fields_in program place.class in
+    let reached = at.reached in
     record {
-      there = slice_get_within program place.class placed.0 placed.1;
+      there = there;
       within = omega (arith, count, within);
       is = sym (field_in_class program place placed.0 placed.1) ∙ placed.3;
+      counted = omega (arith, start, before, reached);
     }
 
 -- what is told where the start was read

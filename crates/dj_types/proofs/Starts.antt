@@ -1,5 +1,5 @@
 -- Numbers of members: so many stand before each class.
-use Rattle.std.proofs.Common.{◌≡◌, ℕ, zero, suc, ◌+◌, ◌<◌, ◌≤◌, List, [], ◌∷◌, ◌++◌, length, take, sum, get_or, Some, refl, sym, ap, ◌∙◌, subst, arith, inl, inr}
+use Rattle.std.proofs.Common.{◌≡◌, ℕ, zero, suc, ◌+◌, ◌-◌, ◌<◌, ◌≤◌, List, [], ◌∷◌, ◌++◌, length, take, sum, get_or, Some, refl, sym, ap, ◌∙◌, subst, arith, inl, inr}
 use Rattle.std.specs.Prelude.{slice_get}
 use Rattle.std.specs.List.{flat_map}
 use Rattle.std.proofs.lemmas.Bool.{cases_lt}
@@ -8,7 +8,8 @@ use Rattle.std.proofs.lemmas.List.Sums.{sum_by-cons, sum_by_more}
 use Rattle.std.proofs.lemmas.Option.{none-some, same_Some}
 use Rattle.dj_model.specs.Program.{Program, Class}
 use Rattle.dj_classes.specs.declared.place.Place.{Place}
-use Rattle.dj_types.specs.Numbered.{counts_of, AreStarts, IsBegun, IsStartOf}
+use Rattle.dj_types.specs.declared.members.Starts.{Starts}
+use Rattle.dj_types.specs.Numbered.{counts_of, AreStarts, AreCounted, AreMemberClasses, IsBegun, IsStartOf}
 
 -- ---- sums
 
@@ -53,20 +54,29 @@ summed_more counts k starts more start next lt summed is counted = record {
   ];
 }
 
-pub summed_all : (counts : List ℕ) (k : ℕ) (starts : List ℕ) (start : ℕ) → k ≡ length counts → IsSummed counts k starts start → AreStarts counts starts
-summed_all counts k starts start end summed = record {
-  long = summed.long ∙ end;
-  each = λ j lt. summed.each j (omega (arith, lt, end));
+pub summed_all : (counts : List ℕ) (k : ℕ) (starts : Starts) → k ≡ length counts → IsSummed counts k starts.each.items starts.total → AreCounted counts starts
+summed_all counts k starts end summed = record {
+  are = record {
+    long = summed.long ∙ end;
+    each = λ j lt. summed.each j (omega (arith, lt, end));
+  };
+  total = summed.total ∙ ap sum (take_all k counts (omega (arith, end)));
 }
 
 -- ---- the place of a number
 
-pub begun : (counts starts : List ℕ) (number : ℕ) → AreStarts counts starts → number < sum counts → IsBegun starts number
+begun : (counts starts : List ℕ) (number : ℕ) → AreStarts counts starts → number < sum counts → IsBegun starts number
 begun [] starts number are lt = absurd (omega (arith, lt))
 begun (x ∷ counts) starts number are lt =
     let long = are.long in
     let first : get_or starts 0 0 ≡ 0 = are.each 0 (omega arith) in
     record { some = omega (arith, long); first = omega (arith, first) }
+
+pub counted_begun : (counts : List ℕ) (starts : Starts) → AreCounted counts starts → 0 < starts.total → IsBegun starts.each.items 0
+counted_begun counts starts counted lt = let total = counted.total in begun counts starts.each.items 0 counted.are (omega (arith, total, lt))
+
+pub begun_later : (starts : List ℕ) (number : ℕ) → IsBegun starts 0 → IsBegun starts number
+begun_later starts number begun = let first = begun.first in record { some = begun.some; first = omega (arith, first) }
 
 -- between these the number is counted
 pub record IsBetween (starts : List ℕ) (number low high : ℕ) : Type 0 where
@@ -102,6 +112,30 @@ placed counts starts number place are lt at =
       ];
       reached = omega (arith, start, reached);
     }
+
+-- ---- the classes of members
+
+abbrev starts_in : List ℕ → ℕ → ℕ → Type 0
+starts_in starts number class = IsStartOf starts number (record { class = class; member = number - get_or starts class 0 })
+
+start_in : (starts : List ℕ) (number : ℕ) (place : Place) → IsStartOf starts number place → starts_in starts number place.class
+start_in starts number place at =
+    let reached = at.reached in
+    record { there = at.there; reached = omega (arith, reached); before = at.before }
+
+pub homes_more : (starts classes more : List ℕ) (number : ℕ) (place : Place) → length classes ≡ number → AreMemberClasses starts classes → IsStartOf starts number place → more ≡ classes ++ place.class ∷ []
+    → AreMemberClasses starts more
+homes_more starts classes more number place long homes at is = record {
+  each = λ j lt. elim (cases_lt j number) [
+    | inl before ↦
+        subst (starts_in starts j) (sym (ap (λ (xs : List ℕ). get_or xs j 0) is ∙ get_push classes place.class j (omega (arith, before, long)))) (homes.each j (omega (arith, before, long)))
+    | inr after ↦
+        (let count = ap length is ∙ length_push classes place.class in
+        let same : number ≡ j = omega (arith, after, lt, count, long) in
+        subst (starts_in starts j) (sym (ap (λ (xs : List ℕ). get_or xs j 0) is ∙ get_end classes place.class j (long ∙ same)))
+        (subst (λ (n : ℕ). starts_in starts n place.class) same (start_in starts number place at)))
+  ];
+}
 
 -- ---- lists that are put together
 

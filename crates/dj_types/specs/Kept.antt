@@ -10,7 +10,7 @@ use Rattle.dj_model.specs.Program.{Program}
 use Rattle.dj_classes.specs.Tables.{name_of}
 use Rattle.dj_types.specs.declared.arrays.Arrays.{Arrays}
 use Rattle.dj_types.specs.declared.members.Members.{Members}
-use Rattle.dj_types.specs.Typed.{AreArrays, has_references, place_of_text, text_of_type}
+use Rattle.dj_types.specs.Typed.{ArePlain, AreArrays, has_references, place_of_text, text_of_type}
 use Rattle.dj_types.specs.Shapes.{shape_in}
 use Rattle.dj_types.specs.Numbered.{AreMembers}
 
@@ -43,5 +43,6 @@ pub record AreKept (program : Program) (types : List Ty) (arrays : Arrays) : Typ
 
 -- what is kept beside the classes and the types of the arrays
 pub record IsTyped (program : Program) (types : List Ty) (arrays : Arrays) (members : Members) : Type 0 where
+  pub plain : ArePlain program
   pub arrays_are : AreKept program types arrays
   pub members_are : AreMembers program members

@@ -1,14 +1,17 @@
 -- Fields and methods by numbers: their places in the order of classes and of the members that each declares.
-use Rattle.std.specs.Prelude.{◌≡◌, ℕ, suc, ◌+◌, ◌&&◌, List, [], ◌∷◌, map, take, length, Option, Some, None, nat_lt, if◌then◌else◌, slice_get, option_and_then}
+use Rattle.std.specs.Prelude.{◌≡◌, ℕ, suc, ◌+◌, ◌<◌, ◌&&◌, List, [], ◌∷◌, map, take, length, Option, Some, None, nat_lt, if◌then◌else◌, slice_get, option_and_then}
 use Rattle.std.specs.Option.{option_map}
 use Rattle.std.specs.List.{flat_map}
 use Rattle.dj_names.specs.Types.{Name, same_name}
+use Rattle.dj_names.specs.declared.native.NativeId.{NativeId}
 use Rattle.dj_names.specs.Descriptors.{Describes}
 use Rattle.dj_model.specs.Types.{Member}
 use Rattle.dj_model.specs.Program.{Program, Class, is_named}
 use Rattle.dj_model.specs.Linking.{FoundMethod, FoundField, resolve_method, resolve_field, select, field_count}
 use Rattle.dj_declared.specs.Files.{desc_in}
+use Rattle.dj_declared.specs.Members.{method_native}
 use Rattle.dj_classes.specs.Tables.{methods_at, fields_at, name_at}
+use Rattle.dj_classes.specs.declared.place.Place.{Place}
 use Rattle.dj_types.specs.declared.types.MethodId.{MethodId}
 use Rattle.dj_types.specs.declared.types.FieldId.{FieldId}
 use Rattle.dj_types.specs.declared.types.MemberOf.{MemberOf}
@@ -108,3 +111,23 @@ pub record IsFieldThere (typed : Typed) (number : ℕ) (told : MemberOf) : Type 
   pub flags : told.flags ≡ found.field.flags
   pub name : told.name.now ≡ found.field.name
   pub desc : Describes told.desc.now found.field.desc
+
+-- ---- places
+
+-- the method of a number stands at a place: so many methods stand in the classes before it
+pub record IsMethodPlace (typed : Typed) (number : ℕ) (place : Place) : Type 0 where
+  pub within : place.member < length (methods_at typed.program place.class)
+  pub is : number ≡ methods_before typed.program place.class + place.member
+
+pub record IsFieldPlace (typed : Typed) (number : ℕ) (place : Place) : Type 0 where
+  pub within : place.member < length (fields_at typed.program place.class)
+  pub is : number ≡ fields_before typed.program place.class + place.member
+
+-- ---- methods of the library
+
+abbrev pub native_of : FoundMethod → Option NativeId
+native_of found = method_native found.method
+
+-- what a native method of the library is; none of a method that has code, or neither
+abbrev pub native_at : Program → ℕ → Option NativeId
+native_at program number = option_and_then native_of (slice_get (all_methods program) number)

@@ -1,10 +1,11 @@
--- What is kept of fields and methods: how many stand in the classes before each class, and how many instance fields each class has.
-use Rattle.std.specs.Prelude.{◌≡◌, ℕ, ◌+◌, ◌^◌, ◌<◌, ◌≤◌, List, [], ◌∷◌, map, take, length, sum, get_or, Option, Some, None, slice_get}
+-- What is kept of fields and methods: how many stand in the classes before each class, the class of each, and how many instance fields each class has.
+use Rattle.std.specs.Prelude.{◌≡◌, ℕ, ◌+◌, ◌-◌, ◌^◌, ◌<◌, ◌≤◌, List, [], ◌∷◌, map, take, length, sum, get_or, Option, Some, None, slice_get}
 use Rattle.dj_model.specs.Program.{Program, Class}
 use Rattle.dj_model.specs.Linking.{most_classes, own_field_count}
 use Rattle.dj_classes.specs.declared.place.Place.{Place}
 use Rattle.dj_linking.specs.Numbers.{numbers_up}
 use Rattle.dj_types.specs.declared.members.Members.{Members}
+use Rattle.dj_types.specs.declared.members.Starts.{Starts}
 use Rattle.dj_types.specs.declared.heights.Height.{Height}
 use Rattle.dj_types.specs.Members.{all_methods, all_fields, methods_in, fields_in}
 
@@ -19,6 +20,11 @@ pub record AreStarts (counts starts : List ℕ) : Type 0 where
   pub long : length starts ≡ length counts
   pub each : (k : ℕ) → k < length counts → get_or starts k 0 ≡ sum (take k counts)
 
+-- and how many there are in all
+pub record AreCounted (counts : List ℕ) (starts : Starts) : Type 0 where
+  pub are : AreStarts counts starts.each.items
+  pub total : starts.total ≡ sum counts
+
 -- none stands before the first
 pub record IsBegun (starts : List ℕ) (number : ℕ) : Type 0 where
   pub some : 0 < length starts
@@ -29,6 +35,11 @@ pub record IsStartOf (starts : List ℕ) (number : ℕ) (place : Place) : Type 0
   pub there : place.class < length starts
   pub reached : get_or starts place.class 0 + place.member ≡ number
   pub before : place.class + 1 < length starts → number < get_or starts (place.class + 1) 0
+
+-- the classes of members by their numbers
+pub record AreMemberClasses (starts classes : List ℕ) : Type 0 where
+  pub each : (number : ℕ) → number < length classes
+      → IsStartOf starts number (record { class = get_or classes number 0; member = number - get_or starts (get_or classes number 0) 0 })
 
 -- ---- instance fields
 
@@ -71,6 +82,10 @@ pub record AreHeights (program : Program) (heights : List (Option Height)) : Typ
 pub record AreMembers (program : Program) (members : Members) : Type 0 where
   pub methods : AreStarts (counts_of methods_in program) members.method_starts.items
   pub fields : AreStarts (counts_of fields_in program) members.field_starts.items
+  pub all_methods_there : length members.method_classes.items ≡ length (all_methods program)
+  pub all_fields_there : length members.field_classes.items ≡ length (all_fields program)
+  pub method_classes : AreMemberClasses members.method_starts.items members.method_classes.items
+  pub field_classes : AreMemberClasses members.field_starts.items members.field_classes.items
   pub sums : AreSums program members.field_sums.items
   pub few_methods : length (all_methods program) < 2 ^ 32
   pub few_fields : length (all_fields program) < 2 ^ 32

@@ -1,5 +1,5 @@
 -- Classes and arrays by numbers: first the classes of a program, in order, and then arrays.
-use Rattle.std.specs.Prelude.{ℕ, suc, Bool, true, false, ◌&&◌, List, [], ◌∷◌, ◌++◌, map, Option, Some, None, nat_eq, nat_le, if◌then◌else◌, slice_get, option_and_then, unwrap_or, IsTrue}
+use Rattle.std.specs.Prelude.{◌≡◌, ℕ, suc, Bool, true, false, ◌&&◌, List, [], ◌∷◌, ◌++◌, map, Option, Some, None, nat_eq, nat_le, if◌then◌else◌, slice_get, option_and_then, unwrap_or, IsTrue}
 use Rattle.std.specs.Option.{option_map}
 use Rattle.std.specs.List.{list_all}
 use Rattle.dj_names.specs.declared.descriptor.Base.TheVariants as bases
@@ -13,7 +13,7 @@ use Rattle.dj_model.specs.Types.{Prefix, string_name}
 use Rattle.dj_model.specs.Program.{Program, flags_of, interfaces_of, superclass_of}
 use Rattle.dj_model.specs.Linking.{is_subtype}
 use Rattle.dj_model.specs.Libraries.{is_name_before}
-use Rattle.dj_classes.specs.Tables.{name_of, class_number, class_numbers}
+use Rattle.dj_classes.specs.Tables.{name_of, name_at, class_number, class_numbers}
 
 pub record Typed : Type 0 where
   pub program : Program
@@ -93,6 +93,17 @@ stop_under (c ∷ prefix) program = class_number program stop_class
 -- the class of the object that stops a run; only programs of rewritten classes have it
 abbrev pub stop_at : Typed → Option ℕ
 stop_at typed = stop_under typed.prefix typed.program
+
+-- ---- names of classes and descriptors of arrays
+
+-- the text begins with a bracket, as the descriptor of an array does
+abbrev pub begins_array : Name → Bool
+begins_array [] = false
+begins_array (b ∷ more) = nat_eq b 91
+
+-- the name of no class does
+abbrev pub ArePlain : Program → Type 0
+ArePlain program = (k : ℕ) (name : Name) → name_at program k ≡ Some name → begins_array name ≡ false
 
 -- ---- arrays that have numbers
 

@@ -1,10 +1,11 @@
-ghost use Rattle.std.specs.Prelude.{◌≡◌, ◌+◌, ◌^◌, ◌<◌, ◌≤◌, length, map, IfOk};
+ghost use Rattle.std.specs.Prelude.{◌≡◌, ◌+◌, ◌^◌, ◌<◌, ◌≤◌, length, map, IfOk, OnOk};
 ghost use Rattle.std.specs.Option.{option_map};
 ghost use Rattle.dj_names.specs.Descriptors.{type_text};
-ghost use Rattle.dj_types.specs.Typed.{AreArrays, place_of_text};
+ghost use Rattle.dj_types.specs.Typed.{begins_array, ArePlain, AreArrays, place_of_text};
 ghost use Rattle.dj_types.specs.Shapes.{shape_in};
 ghost use Rattle.dj_types.specs.Kept.{AreKept, DoTextsRise, component_in, component_text, number_among};
 
+use crate::error::TypesError;
 use crate::shapes::{Shape, shape_of};
 use dj_classes::ClassTable;
 use dj_declared::spell_type;
@@ -19,6 +20,25 @@ pub struct Arrays {
     pub shapes: Vec<Shape>,
     /// The numbers of what their elements are.
     pub components: Vec<Option<u32>>,
+}
+
+// Whether a text begins as the descriptor of an array does.
+fn begins_array(text: &[u8]) -> bool
+    ensures { result ≡ begins_array text.now }
+{
+    matches!(text, [b'[', ..])
+}
+
+/// There is no memory for a class whose name begins as the descriptor of an array does.
+pub fn check_names(table: &ClassTable) -> Result<(), TypesError>
+    ensures { OnOk result (ArePlain table.now) }
+{
+    for class in 0..table.class_count() {
+        if begins_array(table.name_of(class)) {
+            return Err(TypesError::Memory);
+        }
+    }
+    Ok(())
 }
 
 // The place of a text, by halving.

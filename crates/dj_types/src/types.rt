@@ -5,18 +5,17 @@ ghost use Rattle.dj_model.specs.Types.{string_name};
 ghost use Rattle.dj_declared.specs.Members.{IsDescriptor};
 ghost use Rattle.dj_classes.specs.Tables.{class_number, methods_at, fields_at, method_there, field_there};
 ghost use Rattle.dj_linking.specs.Linked.{prefix_of};
-ghost use Rattle.dj_types.specs.Typed.{texts_of, types_of, type_at, text_number, flags_at, super_at, interfaces_at, component_at, is_subtype_at, string_at, chars_at, stop_at, AreArrays};
+ghost use Rattle.dj_types.specs.Typed.{texts_of, types_of, type_at, text_number, flags_at, super_at, interfaces_at, component_at, is_subtype_at, string_at, chars_at, stop_at, ArePlain, AreArrays};
 ghost use Rattle.dj_types.specs.Shapes.{IsElement, shape_type};
-ghost use Rattle.dj_types.specs.Members.{all_methods, all_fields, resolved_method, resolved_field, selected, found_method_number, found_field_number, IsMethodThere, IsFieldThere, IsNthMethod, IsNthField, IsFieldCount, number_of_method, number_of_field, methods_before, fields_before};
+ghost use Rattle.dj_types.specs.Members.{all_methods, all_fields, resolved_method, resolved_field, selected, found_method_number, found_field_number, IsMethodThere, IsFieldThere, IsNthMethod, IsNthField, IsFieldCount, IsMethodPlace, IsFieldPlace, native_at, number_of_method, number_of_field, methods_before, fields_before};
 
-use crate::arrays::{Arrays, number_in};
+use crate::arrays::{Arrays, check_names, number_in};
 use crate::error::TypesError;
-use crate::heights::field_sums;
-use crate::members::{Members, field_starts, is_descriptor, method_starts, place_in};
+use crate::members::{Members, is_descriptor, place_at};
 use crate::shapes::{Element, Shape, is_subtype};
 use dj_classes::Place;
 use dj_linking::{BaseNames, Linker};
-use dj_names::Ty;
+use dj_names::{NativeId, Ty};
 use std::alloc::Global;
 use std::marker::Model;
 
@@ -84,18 +83,36 @@ impl Types {
         requires few_fields { length (all_fields linker.program) < 2 ^ 32 }
         ensures { IfOk result (λ types. types ≡ record { program = linker.program; prefix = linker.prefix; arrays = arrays.items }) }
     {
+        check_names(linker.classes())?;
         let kept = Arrays::of(alloc, linker.classes(), &arrays)?;
-        let members = Members {
-            method_starts: method_starts(alloc, linker.classes())?,
-            field_starts: field_starts(alloc, linker.classes())?,
-            field_sums: field_sums(alloc, linker.classes())?,
-        };
+        let members = Members::of(alloc, linker.classes())?;
         Ok(Types {
             linker,
             arrays,
             kept,
             members,
         })
+    }
+
+    /// The classes with their look-ups.
+    pub fn linker(&self) -> &Linker
+        ensures { result.now ≡ record { program = self.now.program; prefix = self.now.prefix } }
+    {
+        &self.linker
+    }
+
+    /// A law: the arrays are of base types and of classes that are there, in the order of the bytes of their descriptors.
+    pub fn are_arrays(&self)
+        ensures { AreArrays self.now.program self.now.arrays }
+    {
+        let _ = &self.arrays;
+    }
+
+    /// A law: no class has a name that begins as the descriptor of an array does.
+    pub fn are_plain(&self)
+        ensures { ArePlain self.now.program }
+    {
+        let _ = &self.arrays;
     }
 
     /// The number of classes and arrays.
@@ -242,8 +259,14 @@ impl Types {
         ensures there { result.class < length self.now.program }
         ensures within { result.member < length (methods_at self.now.program result.class) }
         ensures is { method_there self.now.program result ≡ slice_get (all_methods self.now.program) method.number }
+        ensures number { method.number ≡ methods_before self.now.program result.class + result.member }
     {
-        place_in(&self.members.method_starts, method.number)
+        let members = &self.members;
+        place_at(
+            &members.method_starts,
+            &members.method_classes,
+            method.number,
+        )
     }
 
     // The number of the method at a place.
@@ -284,8 +307,10 @@ impl Types {
         ensures there { result.class < length self.now.program }
         ensures within { result.member < length (fields_at self.now.program result.class) }
         ensures is { field_there self.now.program result ≡ slice_get (all_fields self.now.program) field.number }
+        ensures number { field.number ≡ fields_before self.now.program result.class + result.member }
     {
-        place_in(&self.members.field_starts, field.number)
+        let members = &self.members;
+        place_at(&members.field_starts, &members.field_classes, field.number)
     }
 
     // The number of the field at a place.
@@ -383,6 +408,31 @@ impl Types {
         }
     }
 
+    /// Where the method of a number stands: the number of its class, and its place among the methods of that class.
+    pub fn place_of_method(&self, method: MethodId) -> Place
+        requires { method.number < length (all_methods self.now.program) }
+        ensures { IsMethodPlace self.now method.number result }
+    {
+        self.method_place(method)
+    }
+
+    /// Where the field of a number stands: the number of its class, and its place among the fields of that class.
+    pub fn place_of_field(&self, field: FieldId) -> Place
+        requires { field.number < length (all_fields self.now.program) }
+        ensures { IsFieldPlace self.now field.number result }
+    {
+        self.field_place(field)
+    }
+
+    /// Which native method of the library the method of a number is; none of one with code, and of one with neither.
+    pub fn native_of(&self, method: MethodId) -> Option<NativeId>
+        requires { method.number < length (all_methods self.now.program) }
+        ensures { result ≡ native_at self.now.program method.number }
+    {
+        let Place { class, member } = self.method_place(method);
+        self.linker.classes().method_native(class, member)
+    }
+
     /// The place of an instance field among those of an object.
     pub fn place(&self, field: FieldId) -> u32
         requires { field.number < length (all_fields self.now.program) }
@@ -404,6 +454,15 @@ impl Types {
         if !is_descriptor(desc) {
             return None;
         }
+        self.resolve_described_method(class, name, desc)
+    }
+
+    /// The same, of a descriptor.
+    pub fn resolve_described_method(&self, class: u32, name: &[u8], desc: &[u8]) -> Option<MethodId>
+        requires there { class < length (types_of self.now) }
+        requires described { IsDescriptor desc.now }
+        ensures { option_map number_of_method result ≡ found_method_number self.now.program (resolved_method self.now class name.now desc.now) }
+    {
         let class = self.member_class(class)?;
         let place = self.linker.resolve_method(class, name, desc)?;
         Some(self.first_method(place))
@@ -418,6 +477,15 @@ impl Types {
         if !is_descriptor(desc) {
             return None;
         }
+        self.resolve_described_field(class, name, desc)
+    }
+
+    /// The same, of a descriptor.
+    pub fn resolve_described_field(&self, class: u32, name: &[u8], desc: &[u8]) -> Option<FieldId>
+        requires there { class < length (types_of self.now) }
+        requires described { IsDescriptor desc.now }
+        ensures { option_map number_of_field result ≡ found_field_number self.now.program (resolved_field self.now class name.now desc.now) }
+    {
         let class = self.member_class(class)?;
         let place = self.linker.resolve_field(class, name, desc)?;
         Some(self.first_field(place))

@@ -20,6 +20,6 @@ returns c =
     let d = c.add_code_marks.new.marks.items in
     on_ok c.add_code_marks.result
     (λ added. subst (λ (names : ℕ × ℕ). Gains (MarksOf names (MethodViolates class method)) a d) c.names_of-names.ensures
-    (method_marks class method c.names_of-names.result c.args.code.now c.in_ok-float.float c.is_interface_method-interface_code.result a b d c.requires.code
-    c.in_ok-float.ensures c.is_interface_method-interface_code.ensures c.in_ok-add_whole_marks.ensures added))
+    (method_marks class method c.names_of-names.result c.args.code.now c.is_float_method-float.result c.is_interface_method-interface_code.result a b d c.requires.code
+    c.is_float_method-float.ensures c.is_interface_method-interface_code.ensures c.in_ok-add_whole_marks.ensures added))
     c.add_code_marks.ensures

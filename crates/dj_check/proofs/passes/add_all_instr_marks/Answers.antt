@@ -7,8 +7,8 @@ use Rattle.dj_check.proofs.passes.add_all_instr_marks.Goals as goal
 
 pub loop-at-preserved : goal.loop-at-preserved
 loop-at-preserved c =
-    more_below c.args.names c.args.pool.now c.args.code.now c.loop-at.at c.index-code-at.result c.args.marks.now.items c.loop-at.marks.items c.add_instr_marks.new.marks.items
-    (slice_get_read c.args.code.now (length c.args.code.now) c.loop-at.at c.index-code-at.result refl c.loop-at-test.true c.index-code-at.is) c.loop-at.invariant c.in_ok-add_instr_marks.ensures
+    more_below c.args.names c.args.pool.now c.args.code.now c.loop-at.at c.index-code-at.result c.args.marks.now.items c.loop-at.marks.items c.add_marks_at.new.marks.items
+    (slice_get_read c.args.code.now (length c.args.code.now) c.loop-at.at c.index-code-at.result refl c.loop-at-test.true c.index-code-at.is) c.loop-at.invariant c.in_ok-add_marks_at.ensures
 
 pub returns : goal.returns
 returns c =

@@ -1,8 +1,11 @@
 use Rattle.std.proofs.Common.{◌≡◌, map, take}
 use Rattle.dj_class.specs.Members.{member_of}
-use Rattle.dj_declared.specs.Rows.{method_row_of}
+use Rattle.dj_declared.specs.Rows.{method_row_of, AreNamed}
 use Rattle.dj_declared.proofs.file.method_rows.Given as goal
 
 -- the rows so far
 abbrev pub invariant-loop-method : goal.invariant-loop-method
-invariant-loop-method l = l.rows.items ≡ map (method_row_of l.places) (map member_of (take l.method-index l.methods))
+invariant-loop-method l = record {
+  rows : l.rows.items ≡ map (method_row_of l.places) (map member_of (take l.method-index l.methods));
+  named : AreNamed l.places (map member_of (take l.method-index l.methods));
+}

@@ -8,11 +8,11 @@ use Rattle.dj_declared.specs.Rows.{IsRowOf}
 use Rattle.dj_declared.proofs.LibraryLaws.{row_of_method}
 use Rattle.dj_declared.proofs.library.method_row.Goals as goal
 
-pub returns-clause-is : goal.returns-clause-is
-returns-clause-is c =
+pub returns : goal.returns
+returns c =
     let m = c.args.method.now in
-    let new = c.intern-2.new.self in
-    let name : number_in new.numbers m.name ≡ Some c.in_ok-name.name = c.in_ok-desc.ensures.keeps m.name c.in_ok-name.name (ap (number_in c.intern.new.self.numbers) (sym c.as_slice.ensures) ∙ c.in_ok-name.ensures.told) in
+    let texts = c.args.texts.now in
+    let name : number_in texts m.name ≡ Some c.in_ok-name.name = ap (number_in texts) (sym c.as_slice.ensures) ∙ c.in_ok-name.ensures in
     let spelled : c.as_slice-2.result.now ≡ desc_text m.desc = c.as_slice-2.ensures ∙ c.in_ok-text.ensures in
-    let is = row_of_method new.numbers new.back m c.as_slice-2.result.now c.in_ok-name.name c.in_ok-desc.desc c.requires spelled name c.in_ok-desc.ensures.told in
-    subst (λ (body : MemberBody). IsRowOf c.intern-2.new.self.numbers (record { flags = c.args.method.now.flags; name = c.in_ok-name.name; desc = c.in_ok-desc.desc; body = body }) (library_method (library_method_view c.args.method.now))) (sym c.body_of.ensures) is
+    let is = row_of_method texts m c.as_slice-2.result.now c.in_ok-name.name c.in_ok-desc.desc c.requires spelled name c.in_ok-desc.ensures in
+    subst (λ (body : MemberBody). IsRowOf texts (record { flags = m.flags; name = c.in_ok-name.name; desc = c.in_ok-desc.desc; body = body }) (library_method (library_method_view m))) (sym c.body_of.ensures) is

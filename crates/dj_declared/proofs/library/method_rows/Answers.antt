@@ -3,6 +3,5 @@ use Rattle.dj_declared.proofs.library.method_rows.Goals as goal
 
 pub loop-method-preserved : goal.loop-method-preserved
 loop-method-preserved c =
-    let item = c.method-item.is in
-    rows_of_more c.loop-method.texts.numbers c.method_row.new.texts.numbers c.in_ok-row.ensures.keeps c.method_row.new.texts.back c.args.methods.now c.loop-method.method-index c.method-item.result
-    c.loop-method.rows.items c.push.new.self.items c.in_ok-row.row c.loop-method-test.true c.method-item.is c.loop-method.invariant c.in_ok-row.ensures.is c.in_ok-push.ensures.items
+    rows_of_more c.args.texts.now c.args.methods.now c.loop-method.method-index c.method-item.result
+    c.loop-method.rows.items c.push.new.self.items c.in_ok-row.row c.loop-method-test.true c.method-item.is c.loop-method.invariant c.in_ok-row.ensures c.in_ok-push.ensures.items

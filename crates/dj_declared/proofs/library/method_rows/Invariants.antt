@@ -6,4 +6,4 @@ use Rattle.dj_declared.proofs.library.method_rows.Given as goal
 
 -- the rows so far
 abbrev pub invariant-loop-method : goal.invariant-loop-method
-invariant-loop-method l = AreRowsOf l.texts.numbers l.rows.items (map library_method (map library_method_view (take l.method-index l.methods)))
+invariant-loop-method l = AreRowsOf l.texts l.rows.items (map library_method (map library_method_view (take l.method-index l.methods)))

@@ -1,4 +1,4 @@
-use Rattle.std.proofs.Common.{◌≡◌, take}
+use Rattle.std.proofs.Common.{take}
 use Rattle.std.specs.List.{flat_map}
 use Rattle.dj_pool.specs.Pool.{class_name_at}
 use Rattle.dj_check.specs.Heads.{names_in}

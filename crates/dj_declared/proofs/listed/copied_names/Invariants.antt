@@ -1,4 +1,4 @@
-use Rattle.std.proofs.Common.{◌≡◌, take}
+use Rattle.std.proofs.Common.{take}
 use Rattle.dj_declared.specs.Lists.{AreListed}
 use Rattle.dj_declared.proofs.listed.copied_names.Given as goal
 

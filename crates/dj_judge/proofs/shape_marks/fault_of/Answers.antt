@@ -11,6 +11,6 @@ returns-in-Ok c =
     let pool = c.args.pool.now in
     let method = member_of c.args.method.now in
     let signature = signed pool method c.requires.method c.requires.plain in
-    fault_is pool method c.args.code (parts_of c.in_ok-read.read) c.requires.code c.in_ok-read.ensures.code signature.0 signature.1 c.in-Ok.fault
+    fault_is pool method c.args.code (parts_of c.code_of-read.result) c.requires.code c.code_of-read.ensures.code signature.0 signature.1 c.in-Ok.fault
     (c.in-Ok.ensures pool signature.0 c.requires.kinds (described pool method c.requires.method)
     (subst (λ (static : Bool). signature_at pool static method.desc ≡ Some signature.0) (sym c.is_static.ensures) signature.1))

@@ -10,7 +10,7 @@ item : (xs : List ℕ) (i x len : ℕ) → x ≡ get_or xs i x → i < len → l
 item xs i x len at lt many = get_or_default xs i 0 x (omega (arith, lt, many)) ∙ sym at
 
 pub loop-i-init : goal.loop-i-init
-loop-i-init c = subst (DoneUpTo c.args.code.now c.args.table.now.starts.items 0) (sym c.new-instrs.ensures) (done_none c.args.code.now c.args.table.now.starts.items c.requires.starts)
+loop-i-init c = subst (DoneUpTo c.args.code.now c.args.table.now.starts.items 0) (sym c.in_ok-instrs.ensures) (done_none c.args.code.now c.args.table.now.starts.items c.requires.starts)
 
 pub label_instr-requires-clause-within : goal.label_instr-requires-clause-within
 label_instr-requires-clause-within c =
@@ -30,7 +30,7 @@ label_instr-requires-clause-stands c =
 
 pub returns-in_err-instr-clause-refused : goal.returns-in_err-instr-clause-refused
 returns-in_err-instr-clause-refused c =
-    let p = err_from_is_err_and c.from_residual.result c.from_residual.ensures.1 in
+    let p = err_from_is_err_and c.from_residual-in_err-instr.result c.from_residual-in_err-instr.ensures.1 in
     let starts = c.args.table.now.starts.items in
     let many : c.len-i-end.result ≡ length starts = omega (arith, c.len-i-end.ensures, c.args.table.now.starts.ok) in
     let within : c.loop-i.i < length starts = omega (arith, c.loop-i-test.true, many) in

@@ -4,7 +4,7 @@ use Rattle.dj_labels.proofs.Steps.{ReadUpTo, read_none, read_more, read_all, rea
 use Rattle.dj_labels.proofs.starts.read_starts.Goals as goal
 
 pub loop-at-init : goal.loop-at-init
-loop-at-init c = subst (λ (starts : List ℕ). ReadUpTo c.args.code.now starts 0) (sym c.new-starts.ensures.items) (read_none c.args.code.now)
+loop-at-init c = subst (λ (starts : List ℕ). ReadUpTo c.args.code.now starts 0) (sym c.in_ok-starts.ensures.items) (read_none c.args.code.now)
 
 pub returns-in_err-at-clause-refused : goal.returns-in_err-at-clause-refused
 returns-in_err-at-clause-refused c =

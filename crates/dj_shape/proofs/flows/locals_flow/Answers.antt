@@ -1,22 +1,30 @@
-use Rattle.std.proofs.Common.{◌≡◌, ◌∙◌, refl, Some, sym}
-use Rattle.dj_shape.proofs.Slots.{at_get, flow_more, from_below}
+use Rattle.std.proofs.Common.{◌≡◌, ◌∙◌, ◌∷◌, [], ℕ, Some, refl, ap, subst}
+use Rattle.dj_model.specs.Values.{local_at}
+use Rattle.dj_shape.proofs.Slots.{at_last, split_less, split_none, flow_none, flow_down, from_all_above}
 use Rattle.dj_shape.proofs.flows.locals_flow.Goals as goal
-use Rattle.dj_shape.proofs.flows.locals_flow.Goals.{in-Some+else-not-has_kind, in_default}
 
-pub returns-then-not-has_kind : goal.returns-then-not-has_kind
-returns-then-not-has_kind c = (
+pub loop-slot-init : goal.loop-slot-init
+loop-slot-init c = record {
+  split = ([], split_none c.args.told.now c.again-rest.result c.again-rest.ensures);
+  flow = flow_none c.args.locals.now c.args.told.now c.again-rest.result c.again-rest.ensures;
+}
+
+pub returns-then-not-has_told : goal.returns-then-not-has_told
+returns-then-not-has_told c = (
   λ e. absurd cc,
-  λ flow. absurd (let yes = c.has_kind.ensures.1 (flow c.loop-slot.slot c.in-Some.kind (at_get c.args.told.now c.loop-slot.slot ∙ c.in-Some.is)) in cc),
+  λ flow. absurd (let yes = c.has_told.ensures.1 (λ kind e. flow c.in-Some.slot kind
+      (ap (local_at c.args.told.now) c.in-Some.ensures.1
+      ∙ at_last c.args.told.now c.loop-slot.rest c.pop.new.self c.loop-slot.invariant.split.0 c.in-Some.kind c.loop-slot.invariant.split.1 c.in-Some.ensures.0 ∙ e)) in cc),
 )
 
 pub loop-slot-preserved : goal.loop-slot-preserved
-loop-slot-preserved c = flow_more c.args.locals.now c.args.told.now c.loop-slot.slot c.loop-slot.invariant (elim c.match-kind.branch [
-  | in-Some+else-not-has_kind w ↦ λ kind e.
-      let told = sym (at_get c.args.told.now c.loop-slot.slot) ∙ e in
-      let same : Some w.in-Some.kind ≡ Some kind = sym w.in-Some.is ∙ told in
-      w.has_kind.ensures.0 w.if-not-has_kind.false ∙ same
-  | in_default w ↦ λ kind e. absurd (w.in_default.not-Some kind (sym (at_get c.args.told.now c.loop-slot.slot) ∙ e))
-])
+loop-slot-preserved c =
+    let split = c.loop-slot.invariant.split in
+    record {
+      split = (c.in-Some.kind ∷ split.0, split_less c.args.told.now c.loop-slot.rest c.pop.new.self split.0 c.in-Some.kind split.1 c.in-Some.ensures.0);
+      flow = flow_down c.args.locals.now c.args.told.now c.loop-slot.rest c.pop.new.self split.0 c.in-Some.kind split.1 c.in-Some.ensures.0 c.loop-slot.invariant.flow
+          (λ kind e. subst (λ (n : ℕ). local_at c.args.locals.now n ≡ Some kind) c.in-Some.ensures.1 (c.has_told.ensures.0 c.if-not-has_told.false kind e));
+    }
 
 pub returns : goal.returns
-returns c = (λ e. from_below c.args.locals.now c.args.told.now c.loop-slot.slot c.loop-slot.invariant c.loop-slot-test.false, λ flow. refl)
+returns c = (λ e. from_all_above c.args.locals.now c.args.told.now c.loop-slot.rest c.in_default.ensures c.loop-slot.invariant.flow, λ flow. refl)

@@ -17,10 +17,10 @@ returns-then-not-branch c = λ pool are has.
     let code = code_in pool (parts_of c.args.code.now) in
     let parts = in_code pool c.args.code.now in
     let state = c.new-state.result in
-    let slots = c.deref-2.ensures.value ∙ c.in_ok-locals.ensures ∙ ap entry_slots (c.deref.ensures.value ∙ c.in_ok-entries.ensures) ∙ slots_same signature.parameters in
+    let slots = c.locals.ensures ∙ ap entry_slots (c.in_ok-reader.ensures.entries ∙ c.in_ok-entries.ensures) ∙ slots_same signature.parameters in
     let none = rw c.if-not-branch.true at c.in_ok-set.ensures.set in
     unfit_fault signature code c.args.frames.now (parts.4 ∙ has)
-    (unfit signature code state (c.new-state.ensures.room.0 ∙ sym parts.0, c.new-state.ensures.room.1 ∙ sym parts.1) c.deref-2.result.now slots none)
+    (unfit signature code state (c.new-state.ensures.room.0 ∙ sym parts.0, c.new-state.ensures.room.1 ∙ sym parts.1) c.locals.result slots none)
 
 pub returns-in-Err : goal.returns-in-Err
 returns-in-Err c = λ pool are has.
@@ -28,12 +28,12 @@ returns-in-Err c = λ pool are has.
     let code = code_in pool (parts_of c.args.code.now) in
     let parts = in_code pool c.args.code.now in
     let state = c.new-state.result in
-    let slots = c.deref-2.ensures.value ∙ c.in_ok-locals.ensures ∙ ap entry_slots (c.deref.ensures.value ∙ c.in_ok-entries.ensures) ∙ slots_same signature.parameters in
+    let slots = c.locals.ensures ∙ ap entry_slots (c.in_ok-reader.ensures.entries ∙ c.in_ok-entries.ensures) ∙ slots_same signature.parameters in
     let some = rw c.if-not-branch.false at c.in_ok-set.ensures.set in
-    let fit = fit_and_first signature code state (c.new-state.ensures.room.0 ∙ sym parts.0, c.new-state.ensures.room.1 ∙ sym parts.1) c.deref-2.result.now slots c.set.new.self.kinds some in
-    let made = c.deref-3.ensures.value ∙ c.in_ok-made.ensures pool are ∙ ap (λ (l : List Instr). map (λ i. makes_uninitialised (instruction_in pool i)) l) c.as_slice.ensures in
+    let fit = fit_and_first signature code state (c.new-state.ensures.room.0 ∙ sym parts.0, c.new-state.ensures.room.1 ∙ sym parts.1) c.locals.result slots c.set.new.self.kinds some in
+    let made = c.deref.ensures.value ∙ c.in_ok-made.ensures pool are ∙ ap (λ (l : List Instr). map (λ i. makes_uninitialised (instruction_in pool i)) l) c.as_slice.ensures in
     let list = has ∙ ap (λ (l : List Frame). Some l) (sym c.as_slice-2.ensures) in
-    err_fault pool c.args.code.now signature c.deref-3.result.now c.in_ok-entries.entries.items c.as_slice-2.result.now list made c.in_ok-entries.ensures fit.0 c.in-Err.at
+    err_fault pool c.args.code.now signature c.deref.result.now c.in_ok-reader.reader.entries.items c.as_slice-2.result.now list made (c.in_ok-reader.ensures.entries ∙ c.in_ok-entries.ensures) fit.0 c.in-Err.at
     (rw c.in-Err.is at c.in_ok-at.ensures)
 
 pub returns-in-Ok : goal.returns-in-Ok
@@ -42,12 +42,12 @@ returns-in-Ok c = ok_more c.judge.result _ _ (λ fault judged pool are has.
     let code = code_in pool (parts_of c.args.code.now) in
     let parts = in_code pool c.args.code.now in
     let state = c.new-state.result in
-    let slots = c.deref-2.ensures.value ∙ c.in_ok-locals.ensures ∙ ap entry_slots (c.deref.ensures.value ∙ c.in_ok-entries.ensures) ∙ slots_same signature.parameters in
+    let slots = c.locals.ensures ∙ ap entry_slots (c.in_ok-reader.ensures.entries ∙ c.in_ok-entries.ensures) ∙ slots_same signature.parameters in
     let some = rw c.if-not-branch.false at c.in_ok-set.ensures.set in
-    let fit = fit_and_first signature code state (c.new-state.ensures.room.0 ∙ sym parts.0, c.new-state.ensures.room.1 ∙ sym parts.1) c.deref-2.result.now slots c.set.new.self.kinds some in
-    let made = c.deref-3.ensures.value ∙ c.in_ok-made.ensures pool are ∙ ap (λ (l : List Instr). map (λ i. makes_uninitialised (instruction_in pool i)) l) c.as_slice.ensures in
+    let fit = fit_and_first signature code state (c.new-state.ensures.room.0 ∙ sym parts.0, c.new-state.ensures.room.1 ∙ sym parts.1) c.locals.result slots c.set.new.self.kinds some in
+    let made = c.deref.ensures.value ∙ c.in_ok-made.ensures pool are ∙ ap (λ (l : List Instr). map (λ i. makes_uninitialised (instruction_in pool i)) l) c.as_slice.ensures in
     let list = has ∙ ap (λ (l : List Frame). Some l) (sym c.as_slice-2.ensures) in
-    ok_fault pool c.args.code.now signature c.deref-3.result.now c.in_ok-entries.entries.items c.as_slice-2.result.now list made c.in_ok-entries.ensures fit.0
+    ok_fault pool c.args.code.now signature c.deref.result.now c.in_ok-reader.reader.entries.items c.as_slice-2.result.now list made (c.in_ok-reader.ensures.entries ∙ c.in_ok-entries.ensures) fit.0
     c.args.kinds.now c.result.result c.in-Ok.told c.set.new.self fault are c.result.ensures
     (c.set.ensures.room.0 ∙ c.new-state.ensures.room.0 ∙ sym parts.0, c.set.ensures.room.1 ∙ c.new-state.ensures.room.1 ∙ sym parts.1) fit.1 (rw c.in-Ok.is at c.in_ok-at.ensures) judged)
     c.judge.ensures

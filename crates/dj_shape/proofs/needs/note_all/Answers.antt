@@ -1,19 +1,46 @@
-use Rattle.std.proofs.Common.{◌∙◌, ap, sym, arith, subst, List, Option}
-use Rattle.std.proofs.lemmas.List.{take_all}
-use Rattle.dj_names.specs.declared.descriptor.Kind.{Kind}
-use Rattle.dj_shape.specs.Needs.{AreRaised, need_at, raised}
-use Rattle.dj_shape.proofs.Slots.{at_get}
-use Rattle.dj_shape.proofs.Needing.{raised_more}
+use Rattle.std.proofs.Common.{◌≡◌, ◌∙◌, ◌∷◌, [], ℕ, refl, ap, subst, arith, length}
+use Rattle.dj_shape.specs.Needs.{need_at, raised}
+use Rattle.dj_shape.proofs.Slots.{split_less, split_none, split_few, one_shorter}
+use Rattle.dj_shape.proofs.Needing.{raised_above, same_below, none_above, raised_all}
 use Rattle.dj_shape.proofs.needs.note_all.Goals as goal
 
+pub loop-slot-init : goal.loop-slot-init
+loop-slot-init c =
+    let same = c.again-rest.ensures in
+    let count = ap length same in
+    record {
+      many = c.requires;
+      split = ([], split_none c.args.told.now c.again-rest.result same);
+      above = λ slot past. none_above c.args.told.now c.args.end c.args.needs.now slot (omega arith);
+      below = λ slot less. refl;
+    }
+
+pub note-requires : goal.note-requires
+note-requires c =
+    let split = c.loop-slot.invariant.split in
+    let few = split_few c.args.told.now c.loop-slot.rest split.0 split.1 in
+    let count = one_shorter c.loop-slot.rest c.pop.new.self c.in-Some.kind c.in-Some.ensures.0 in
+    omega (arith, c.in-Some.ensures.1, c.loop-slot.invariant.many)
+
 pub loop-slot-preserved : goal.loop-slot-preserved
-loop-slot-preserved c = record {
-  many = omega (arith, c.note.ensures.count);
-  raised = raised_more c.args.told.now c.args.end c.loop-slot.slot c.args.needs.now c.loop-slot.needs c.note.new.needs c.loop-slot.invariant.raised
-      (c.note.ensures.here ∙ ap (λ (k : Option Kind). raised k c.args.end (need_at c.loop-slot.needs c.loop-slot.slot)) (sym (at_get c.args.told.now c.loop-slot.slot)))
-      c.note.ensures.others;
-}
+loop-slot-preserved c =
+    let told = c.args.told.now in
+    let rest = c.loop-slot.rest in
+    let new = c.pop.new.self in
+    let kind = c.in-Some.kind in
+    let last = c.in-Some.ensures.0 in
+    let split = c.loop-slot.invariant.split in
+    let old = c.args.needs.now in
+    let needs = c.loop-slot.needs in
+    let more = c.note.new.needs in
+    let here = subst (λ (n : ℕ). need_at more n ≡ raised kind c.args.end (need_at needs n)) c.in-Some.ensures.1 c.note.ensures.here in
+    let others = λ (slot : ℕ) (other : slot ≡ length new → ⊥). c.note.ensures.others slot (λ e. other (e ∙ c.in-Some.ensures.1)) in
+    record {
+      many = omega (arith, c.note.ensures.count, c.loop-slot.invariant.many);
+      split = (kind ∷ split.0, split_less told rest new split.0 kind split.1 last);
+      above = raised_above told rest new split.0 kind c.args.end old needs more split.1 last here others c.loop-slot.invariant.above c.loop-slot.invariant.below;
+      below = same_below told rest new split.0 kind c.args.end old needs more split.1 last here others c.loop-slot.invariant.below;
+    }
 
 pub returns : goal.returns
-returns c =
-    subst (λ (l : List (Option Kind)). AreRaised l c.args.end c.args.needs.now c.loop-slot.needs) (take_all c.loop-slot.slot c.args.told.now c.loop-slot-test.false) c.loop-slot.invariant.raised
+returns c = raised_all c.args.told.now c.loop-slot.rest c.args.end c.args.needs.now c.loop-slot.needs c.in_default.ensures c.loop-slot.invariant.above

@@ -5,4 +5,4 @@ use Rattle.dj_types.proofs.members.method_starts.Given as goal
 
 -- the classes so far
 abbrev pub invariant-loop-class : goal.invariant-loop-class
-invariant-loop-class l = IsSummed (counts_of methods_in l.table) l.class l.starts.items l.start
+invariant-loop-class l = IsSummed (counts_of methods_in l.table) l.class l.each.items l.total

@@ -1,6 +1,7 @@
 use Rattle.std.proofs.Common.{◌≡◌, map, arith, sym, ◌∙◌, subst}
 use Rattle.dj_names.specs.Types.{Name}
 use Rattle.dj_model.specs.Program.{Program}
+use Rattle.dj_declared.specs.Files.{bare_class}
 use Rattle.dj_classes.specs.Tables.{IsLeastShared}
 use Rattle.dj_classes.specs.Rows.{RiseStrictly, super_in, interfaces_in}
 use Rattle.dj_classes.proofs.Rising.{rows_are_joined, differ_from_none_shared}
@@ -18,6 +19,7 @@ pub invariant_of-result : goal.invariant_of-result
 invariant_of-result c = record {
   rise = subst RiseStrictly c.deref.ensures.value c.in_default.ensures;
   few = omega arith;
+  bare = subst (λ (p : Program). map bare_class p ≡ p) c.deref-4.ensures.value c.are_bare.ensures;
   supers_are = subst (λ (p : Program). c.in_ok-supers.supers.items ≡ map (super_in p) p) c.deref-2.ensures.value c.in_ok-supers.ensures;
   interfaces_are = subst (λ (p : Program). c.in_ok-interfaces.interfaces.items ≡ map (interfaces_in p) p) c.deref-3.ensures.value c.in_ok-interfaces.ensures;
 }

@@ -6,10 +6,10 @@ use Rattle.dj_declared.proofs.tables.ClassMembers.field_desc.Goals as goal
 pub text-requires : goal.text-requires
 text-requires c =
     let members = c.args.self.now in
-    (sound_at members.texts.numbers members.fields.rows.items c.args.place c.row.result members.sound.fields_are c.row.ensures).desc
+    (sound_at members.texts members.fields.rows.items c.args.place c.row.result members.sound.fields_are c.row.ensures).desc
 
 pub returns : goal.returns
 returns c =
     let members = c.args.self.now in
-    holds_at (row_field members.texts.numbers) (λ m. Describes c.text.result.now m.desc) members.fields.rows.items c.args.place c.row.result c.row.ensures
-    (described members.texts.numbers c.row.result c.text.result.now (sound_at members.texts.numbers members.fields.rows.items c.args.place c.row.result members.sound.fields_are c.row.ensures) c.text.ensures)
+    holds_at (row_field members.texts) (λ m. Describes c.text.result.now m.desc) members.fields.rows.items c.args.place c.row.result c.row.ensures
+    (described members.texts c.row.result c.text.result.now (sound_at members.texts members.fields.rows.items c.args.place c.row.result members.sound.fields_are c.row.ensures) c.text.ensures)

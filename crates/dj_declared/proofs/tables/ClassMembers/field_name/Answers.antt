@@ -6,9 +6,9 @@ use Rattle.dj_declared.proofs.tables.ClassMembers.field_name.Goals as goal
 pub text-requires : goal.text-requires
 text-requires c =
     let members = c.args.self.now in
-    (sound_at members.texts.numbers members.fields.rows.items c.args.place c.row.result members.sound.fields_are c.row.ensures).name
+    (sound_at members.texts members.fields.rows.items c.args.place c.row.result members.sound.fields_are c.row.ensures).name
 
 pub returns : goal.returns
 returns c =
     let members = c.args.self.now in
-    told_at (row_field members.texts.numbers) field_name members.fields.rows.items c.args.place c.row.result c.text.result.now c.row.ensures c.text.ensures
+    told_at (row_field members.texts) field_name members.fields.rows.items c.args.place c.row.result c.text.result.now c.row.ensures c.text.ensures

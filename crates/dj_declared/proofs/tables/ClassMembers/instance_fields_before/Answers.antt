@@ -2,9 +2,9 @@ use Rattle.std.proofs.Common.{◌≡◌, ℕ, ◌<◌, false, length, get_or, So
 use Rattle.std.specs.Prelude.{slice_get}
 use Rattle.std.proofs.lemmas.List.{get_or_read}
 use Rattle.dj_model.specs.Linking.{fields_before}
-use Rattle.dj_declared.specs.Rows.{row_field}
 use Rattle.dj_declared.specs.Tables.{fields_of}
 use Rattle.dj_declared.proofs.CountLaws.{first_within, first_there, fields_before_first}
+use Rattle.dj_declared.proofs.TextLaws.{leads_back}
 use Rattle.dj_declared.proofs.tables.ClassMembers.instance_fields_before.Goals as goal
 
 pub index-requires : goal.index-requires
@@ -26,4 +26,4 @@ returns c =
     let read : c.index.result.now ≡ get_or members.counts.items c.in-Some.first 0 = get_or_read members.counts.items c.in-Some.first c.index.result.now (omega (arith, lt, long)) c.index.ensures 0 in
     subst
     (λ (n : ℕ). IfSome (slice_get (fields_of members) c.args.place) (λ f. n ≡ fields_before false f.name f.desc (fields_of members)))
-    (sym read) (fields_before_first members.texts.numbers members.texts.back members.fields.rows.items members.counts.items c.args.place c.in-Some.first c.row-row.result members.sound.fields_are members.counted c.row-row.ensures (sym is))
+    (sym read) (fields_before_first members.texts (leads_back members.texts) members.fields.rows.items members.counts.items c.args.place c.in-Some.first c.row-row.result members.sound.fields_are members.counted c.row-row.ensures (sym is))

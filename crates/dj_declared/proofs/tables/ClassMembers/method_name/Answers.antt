@@ -6,9 +6,9 @@ use Rattle.dj_declared.proofs.tables.ClassMembers.method_name.Goals as goal
 pub text-requires : goal.text-requires
 text-requires c =
     let members = c.args.self.now in
-    (sound_at members.texts.numbers members.methods.rows.items c.args.place c.row.result members.sound.methods_are c.row.ensures).name
+    (sound_at members.texts members.methods.rows.items c.args.place c.row.result members.sound.methods_are c.row.ensures).name
 
 pub returns : goal.returns
 returns c =
     let members = c.args.self.now in
-    told_at (row_method members.texts.numbers) method_name members.methods.rows.items c.args.place c.row.result c.text.result.now c.row.ensures c.text.ensures
+    told_at (row_method members.texts) method_name members.methods.rows.items c.args.place c.row.result c.text.result.now c.row.ensures c.text.ensures

@@ -1,14 +1,12 @@
-use Rattle.std.proofs.Common.{◌≡◌, ◌∙◌}
-use Rattle.dj_declared.specs.Texts.{text_in}
-use Rattle.dj_declared.proofs.TextLaws.{text_within, text_read}
+use Rattle.std.proofs.Common.{◌<◌, List, ℕ, length, sym, ap, subst, arith}
+use Rattle.dj_declared.specs.Texts.{text_in, texts_from}
+use Rattle.dj_declared.proofs.TextLaws.{number_within, texts_long}
 use Rattle.dj_declared.proofs.texts.TextTable.text.Goals as goal
 
-pub bounds-as_slice-number : goal.bounds-as_slice-number
-bounds-as_slice-number c =
-    let table = c.args.self.now in
-    text_within table.numbers table.texts c.as_slice.result.now c.args.number (text_in table.numbers c.args.number) table.kept c.requires c.as_slice.ensures
-
-pub returns : goal.returns
-returns c =
-    let table = c.args.self.now in
-    c.as_slice-2.ensures ∙ text_read table.numbers table.texts c.as_slice.result.now c.args.number (text_in table.numbers c.args.number) c.index-as_slice-number.result table.kept c.requires c.as_slice.ensures c.index-as_slice-number.is
+pub text_at-requires-clause-within : goal.text_at-requires-clause-within
+text_at-requires-clause-within c =
+    let texts = c.args.self.now in
+    let ends = c.self.inside.ends.items in
+    let bytes = c.self.inside.bytes.items in
+    let lt : c.args.number < length (texts_from 0 ends bytes) = subst (λ (ts : List (List ℕ)). c.args.number < length ts) (sym c.self.view_is) (number_within texts (text_in texts c.args.number) c.args.number c.requires) in
+    omega (arith, lt, texts_long 0 ends bytes, ap length c.deref-2.ensures.value)

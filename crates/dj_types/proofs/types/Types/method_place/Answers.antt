@@ -1,29 +1,37 @@
-use Rattle.std.proofs.Common.{ℕ, List, sym, subst}
+use Rattle.std.proofs.Common.{ℕ, List, length, sym, ap, subst, arith}
 use Rattle.dj_types.specs.Typed.{Typed}
-use Rattle.dj_types.specs.Numbered.{AreMembers, IsBegun, IsStartOf}
-use Rattle.dj_types.proofs.Placed.{method_begun, place_of_method}
+use Rattle.dj_types.specs.Numbered.{AreMembers, AreMemberClasses, IsStartOf}
+use Rattle.dj_types.proofs.Placed.{IsPlaceOfMethod, place_of_method}
 use Rattle.dj_types.proofs.types.Types.method_place.Goals as goal
 
-pub place_in-requires-clause-begun : goal.place_in-requires-clause-begun
-place_in-requires-clause-begun c =
+pub place_at-requires-clause-there : goal.place_at-requires-clause-there
+place_at-requires-clause-there c =
     let members = subst (λ (typed : Typed). AreMembers typed.program c.self.inside.members) c.self.view_is c.self.invariant.members_are in
-    subst (λ (starts : List ℕ). IsBegun starts c.args.method.number) (sym c.deref.ensures.value)
-    (method_begun c.args.self.now.program c.self.inside.members.method_starts.items c.args.method.number members.methods c.requires)
+    let classes = ap length c.deref-2.ensures.value in
+    let all = members.all_methods_there in
+    let there = c.requires in
+    omega (arith, classes, all, there)
+
+pub place_at-requires-clause-homes : goal.place_at-requires-clause-homes
+place_at-requires-clause-homes c =
+    let members = c.self.inside.members in
+    subst (λ (starts : List ℕ). AreMemberClasses starts c.deref-2.result.now) (sym c.deref.ensures.value)
+    (subst (λ (classes : List ℕ). AreMemberClasses members.method_starts.items classes) (sym c.deref-2.ensures.value) c.self.invariant.members_are.method_classes)
+
+told : (c : goal.After-place_at) → IsPlaceOfMethod c.args.self.now.program c.args.method.number c.place_at.result
+told c =
+    let members = subst (λ (typed : Typed). AreMembers typed.program c.self.inside.members) c.self.view_is c.self.invariant.members_are in
+    place_of_method c.args.self.now.program c.self.inside.members.method_starts.items c.args.method.number c.place_at.result members.methods c.requires
+    (subst (λ (starts : List ℕ). IsStartOf starts c.args.method.number c.place_at.result) c.deref.ensures.value c.place_at.ensures)
 
 pub returns-clause-there : goal.returns-clause-there
-returns-clause-there c =
-    let members = subst (λ (typed : Typed). AreMembers typed.program c.self.inside.members) c.self.view_is c.self.invariant.members_are in
-    (place_of_method c.args.self.now.program c.self.inside.members.method_starts.items c.args.method.number c.place_in.result members.methods c.requires
-    (subst (λ (starts : List ℕ). IsStartOf starts c.args.method.number c.place_in.result) c.deref.ensures.value c.place_in.ensures)).there
+returns-clause-there c = (told c).there
 
 pub returns-clause-within : goal.returns-clause-within
-returns-clause-within c =
-    let members = subst (λ (typed : Typed). AreMembers typed.program c.self.inside.members) c.self.view_is c.self.invariant.members_are in
-    (place_of_method c.args.self.now.program c.self.inside.members.method_starts.items c.args.method.number c.place_in.result members.methods c.requires
-    (subst (λ (starts : List ℕ). IsStartOf starts c.args.method.number c.place_in.result) c.deref.ensures.value c.place_in.ensures)).within
+returns-clause-within c = (told c).within
 
 pub returns-clause-is : goal.returns-clause-is
-returns-clause-is c =
-    let members = subst (λ (typed : Typed). AreMembers typed.program c.self.inside.members) c.self.view_is c.self.invariant.members_are in
-    (place_of_method c.args.self.now.program c.self.inside.members.method_starts.items c.args.method.number c.place_in.result members.methods c.requires
-    (subst (λ (starts : List ℕ). IsStartOf starts c.args.method.number c.place_in.result) c.deref.ensures.value c.place_in.ensures)).is
+returns-clause-is c = (told c).is
+
+pub returns-clause-number : goal.returns-clause-number
+returns-clause-number c = (told c).counted

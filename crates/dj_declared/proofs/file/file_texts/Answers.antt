@@ -1,0 +1,6 @@
+use Rattle.std.proofs.Common.{List, ℕ, sym, subst}
+use Rattle.dj_declared.specs.Rows.{AreNumbered}
+use Rattle.dj_declared.proofs.file.file_texts.Goals as goal
+
+pub returns : goal.returns
+returns c = subst (λ (texts : List (List ℕ)). AreNumbered c.args.pool.now c.in_ok-places.places.items texts) (sym c.shrink.ensures) c.in_ok-places.ensures

@@ -1,0 +1,6 @@
+use Rattle.dj_declared.specs.Rows.{AreCounted}
+use Rattle.dj_declared.proofs.members.places_below.Given as goal
+
+-- the places so far
+abbrev pub invariant-loop-place : goal.invariant-loop-place
+invariant-loop-place l = AreCounted l.place l.places.items

@@ -1,0 +1,7 @@
+use Rattle.std.proofs.Common.{◌≡◌, ◌+◌, ◌≤◌, drop}
+use Rattle.dj_image.specs.Rows.{brackets}
+use Rattle.dj_image.proofs.lent_type.brackets.Given as goal
+
+-- all so far, and those that follow
+abbrev pub invariant-loop-byte : goal.invariant-loop-byte
+invariant-loop-byte l = (l.dims + brackets (drop l.byte-index l.text) ≡ brackets l.text) × (l.dims ≤ l.byte-index)

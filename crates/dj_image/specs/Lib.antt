@@ -1,0 +1,16 @@
+pub mod Sources
+pub mod Imaged
+pub mod Operands
+pub mod Owned
+pub mod Parts
+pub mod Codes
+pub mod Tables
+pub mod Taken
+pub mod Uses
+pub mod Rows
+pub mod Texts
+pub mod Indexed
+pub mod Homes
+pub mod Gathered
+pub mod Shaped
+pub mod Numbering

@@ -1,0 +1,43 @@
+-- The code's own: texts that have numbers, in the order of their units.
+use Rattle.std.specs.Prelude.{ℕ, List, ◌++◌, map, Option, Some, None}
+use Rattle.std.specs.Global.{Vec}
+use Rattle.std.specs.Ordering.{nat_cmp}
+use Rattle.std.specs.Cmp.Lexicographic.{slice_cmp}
+use Rattle.std.specs.List.{flat_map, filter_map}
+use Rattle.std.specs.List.Sorted.{IsStrictlySortedBy}
+use Rattle.std.specs.BTreeSet.{BTreeSet}
+use Rattle.dj_pool.specs.Pool.{IsPool}
+use Rattle.dj_image.specs.declared.parts.ClassParts.{ClassParts}
+use Rattle.dj_image.specs.declared.parts.FieldValue.{FieldValue}
+use Rattle.dj_image.specs.declared.parts.FieldValue.TheVariants as values
+use Rattle.dj_image.specs.Uses.{class_uses, pushed_text, SameMembers}
+
+-- what the instructions of a class push
+abbrev pub class_texts : ClassParts → List (List ℕ)
+class_texts parts = filter_map (pushed_text parts.pool) (class_uses parts)
+
+abbrev pub value_text : Option FieldValue → Option (List ℕ)
+value_text (Some (values.Text units)) = Some units
+value_text value = None
+
+abbrev pub value_texts : List (Option FieldValue) → List (List ℕ)
+value_texts values = filter_map value_text values
+
+abbrev pub key_items : Vec ℕ → List ℕ
+key_items key = key.items
+
+-- the set has exactly these texts
+abbrev pub AreTexts : List (List ℕ) → BTreeSet (Vec ℕ) → Type 0
+AreTexts all texts = SameMembers (map key_items texts.keys) all
+
+abbrev pub texts_in : ClassParts → List (List ℕ)
+texts_in p = class_texts p ++ value_texts p.values.items
+
+abbrev pub texts_of : List ClassParts → List (List ℕ)
+texts_of parts = flat_map texts_in parts
+
+abbrev pub RiseStrictly : List (List ℕ) → Type 0
+RiseStrictly texts = IsStrictlySortedBy (slice_cmp nat_cmp) texts
+
+abbrev pub HasPool : ClassParts → Type 0
+HasPool parts = IsPool parts.pool

@@ -1,0 +1,61 @@
+ghost use Rattle.dj_image.specs.Imaged.{typed_of};
+ghost use Rattle.dj_image.specs.Numbering.{AreSettled};
+
+use crate::image::Image;
+use dj_natives::Classes;
+
+impl Image {
+    // A law of the classes and the arrays that have numbers.
+    fn are_settled(&self)
+        ensures { AreSettled (typed_of self.now) }
+    {
+        self.types.are_arrays();
+        self.types.are_plain();
+        self.types.linker().classes().names_differ();
+    }
+}
+
+impl Classes for Image {
+    ghost use Rattle.dj_types.specs.Typed.{types_of};
+    ghost use Rattle.dj_image.specs.Imaged.{program_of, typed_of};
+
+    ghost types = { λ image. types_of (typed_of image) };
+
+    ghost program = { λ image. program_of image };
+
+    ghost prefix = { λ image. image.prefix };
+
+    fn name_of(&self, class: u32) -> &[u8] {
+        self.are_settled();
+        Image::name_of(self, class)
+    }
+
+    fn super_of(&self, class: u32) -> Option<u32> {
+        self.are_settled();
+        Image::super_of(self, class)
+    }
+
+    fn component(&self, class: u32) -> Option<u32> {
+        self.are_settled();
+        Image::component(self, class)
+    }
+
+    fn sub_type(&self, a: u32, b: u32) -> bool {
+        Image::sub_type(self, a, b)
+    }
+
+    fn string(&self) -> u32 {
+        self.are_settled();
+        Image::string(self)
+    }
+
+    fn chars(&self) -> u32 {
+        self.are_settled();
+        Image::chars(self)
+    }
+
+    fn stop(&self) -> Option<u32> {
+        self.are_settled();
+        Image::stop(self)
+    }
+}

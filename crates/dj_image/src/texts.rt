@@ -1,0 +1,152 @@
+ghost use Rattle.std.specs.Prelude.{◌≡◌, ℕ, ◌∷◌, ◌++◌, [], List, map, IfOk, OnOk};
+ghost use Rattle.std.specs.Option.{option_copied, option_to_list};
+ghost use Rattle.std.specs.List.{AllByRecursion};
+ghost use Rattle.dj_pool.specs.Pool.{IsPool};
+ghost use Rattle.dj_declared.specs.Files.{name_in};
+ghost use Rattle.dj_program.specs.Naming.{units_in};
+ghost use Rattle.dj_image.specs.Texts.{AreTexts, RiseStrictly, HasPool, class_texts, value_text, value_texts, key_items, texts_in, texts_of};
+ghost use Rattle.dj_image.specs.Uses.{SameMembers, pushed_text};
+
+use crate::error::ImageError;
+use crate::owned::OwnedPool;
+use crate::parts::{ClassParts, FieldValue};
+use crate::uses::{Use, class_uses};
+use dj_names::{Units, units_of};
+use std::alloc::Global;
+use std::collections::BTreeSet;
+
+// Adds a text where it isn't there.
+fn add_text(alloc: Global, texts: &mut BTreeSet<Vec<u16>>, units: &[u16]) -> Result<(), ImageError>
+    ensures { (all : List (List ℕ)) → AreTexts all texts.old → OnOk result (AreTexts (all ++ units.now ∷ []) texts.new) }
+{
+    if !texts.contains(units) {
+        texts.insert(Vec::from_slice(alloc, units)?)?;
+    }
+    Ok(())
+}
+
+/// The units that the text at an index spells; there is no memory for those of a text that spells none.
+pub(crate) fn units_at(alloc: Global, pool: &OwnedPool, index: u16) -> Result<Units, ImageError>
+    ensures { IfOk result (λ units. units ≡ units_in (name_in pool.now index)) }
+{
+    let Some(text) = pool.text(index) else {
+        return Err(ImageError::Memory);
+    };
+    let Ok(_) = u32::try_from(text.len()) else {
+        return Err(ImageError::Memory);
+    };
+    match units_of(alloc, text) {
+        Ok(units) => Ok(units),
+        Err(_) => Err(ImageError::Memory),
+    }
+}
+
+// Adds what a use pushes.
+fn add_use(
+    alloc: Global,
+    texts: &mut BTreeSet<Vec<u16>>,
+    pool: &OwnedPool,
+    one: Use,
+) -> Result<(), ImageError>
+    ensures { (all : List (List ℕ)) → AreTexts all texts.old → OnOk result (AreTexts (all ++ option_to_list (pushed_text pool.now one)) texts.new) }
+{
+    match one {
+        Use::Pushed(index) => {
+            let units = units_at(alloc, pool, index)?;
+            add_text(alloc, texts, units.as_slice())
+        }
+        _ => Ok(()),
+    }
+}
+
+// Adds what the instructions of a class push.
+fn add_pushed(
+    alloc: Global,
+    texts: &mut BTreeSet<Vec<u16>>,
+    parts: &ClassParts,
+) -> Result<(), ImageError>
+    requires { IsPool parts.now.pool }
+    ensures { (all : List (List ℕ)) → AreTexts all texts.old → OnOk result (AreTexts (all ++ class_texts parts.now) texts.new) }
+{
+    let uses = class_uses(alloc, parts)?;
+    for one in &uses {
+        add_use(alloc, texts, &parts.pool, *one)?;
+    }
+    Ok(())
+}
+
+// The text with which a field begins, where it begins with one.
+fn value_text(value: &Option<FieldValue>) -> Option<&[u16]>
+    ensures { option_copied result ≡ value_text value.now }
+{
+    match value {
+        Some(FieldValue::Text(units)) => Some(units.as_slice()),
+        _ => None,
+    }
+}
+
+// Adds a text, where there is one.
+fn add_some(
+    alloc: Global,
+    texts: &mut BTreeSet<Vec<u16>>,
+    text: Option<&[u16]>,
+) -> Result<(), ImageError>
+    ensures { (all : List (List ℕ)) → AreTexts all texts.old → OnOk result (AreTexts (all ++ option_to_list (option_copied text.entry)) texts.new) }
+{
+    match text {
+        Some(units) => add_text(alloc, texts, units),
+        None => Ok(()),
+    }
+}
+
+// Adds the texts with which the fields of a class begin.
+fn add_values(
+    alloc: Global,
+    texts: &mut BTreeSet<Vec<u16>>,
+    values: &[Option<FieldValue>],
+) -> Result<(), ImageError>
+    ensures { (all : List (List ℕ)) → AreTexts all texts.old → OnOk result (AreTexts (all ++ value_texts values.now) texts.new) }
+{
+    for value in values {
+        add_some(alloc, texts, value_text(value))?;
+    }
+    Ok(())
+}
+
+// The texts of a set, in the order of their units.
+fn listed(alloc: Global, texts: &BTreeSet<Vec<u16>>) -> Result<Vec<Units>, ImageError>
+    ensures listed { IfOk result (λ listed. listed.items ≡ map key_items texts.now.keys) }
+    ensures rise { IfOk result (λ listed. RiseStrictly listed.items) }
+{
+    let mut listed = Vec::with_capacity(alloc, texts.len())?;
+    for text in texts {
+        listed.push(Units::from_slice(alloc, text)?)?;
+    }
+    Ok(listed)
+}
+
+// Adds the texts that the instructions of a class push and with which its fields begin.
+fn add_class(
+    alloc: Global,
+    texts: &mut BTreeSet<Vec<u16>>,
+    class: &ClassParts,
+) -> Result<(), ImageError>
+    requires { IsPool class.now.pool }
+    ensures { (all : List (List ℕ)) → AreTexts all texts.old → OnOk result (AreTexts (all ++ texts_in class.now) texts.new) }
+{
+    add_pushed(alloc, texts, class)?;
+    add_values(alloc, texts, &class.values)
+}
+
+/// The texts that have numbers, each once, in the order of their units.
+pub(crate) fn texts_of(alloc: Global, parts: &[ClassParts]) -> Result<Vec<Units>, ImageError>
+    requires { AllByRecursion HasPool parts.now }
+    ensures rise { IfOk result (λ texts. RiseStrictly texts.items) }
+    ensures listed { IfOk result (λ texts. SameMembers texts.items (texts_of parts.now)) }
+{
+    let mut texts = BTreeSet::new(alloc);
+    for class in parts {
+        add_class(alloc, &mut texts, class)?;
+    }
+    listed(alloc, &texts)
+}

@@ -1,0 +1,17 @@
+pub mod Lists
+pub mod Sides
+pub mod Named
+pub mod Upward
+pub mod Moved
+pub mod Filled
+pub mod Components
+pub mod Told
+pub mod Sourced
+pub mod FieldValues
+pub mod Coded
+pub mod Files
+pub mod BareFacts
+pub mod Owned
+pub mod Strings
+mod Facts
+pub mod LibraryFacts

@@ -1,0 +1,4 @@
+pub mod Loads
+pub mod Numbered
+pub mod Parting
+pub mod Filed

@@ -1,0 +1,107 @@
+ghost use Rattle.std.specs.Prelude.{◌≡◌};
+
+use dj_declared::DeclareError;
+use dj_graph::GraphError;
+use dj_image::ImageError;
+use dj_names::{Name, NoMemory};
+use dj_rules::RulesError;
+use dj_shape::ShapeError;
+use std::alloc::{AllocError, AllocFailed};
+use thiserror::Error;
+
+/// Why classes were not loaded. A name is the least one of which the cause holds, in the order of bytes.
+#[derive(Debug, Error, Drop)]
+pub enum LoadError {
+    /// Two classes have this name.
+    #[error("two classes have one name")]
+    Duplicate(Name),
+    /// The superclass or an interface of the class of this name isn't there.
+    #[error("a superclass or an interface is not there")]
+    NoSuper(Name),
+    /// The class of this name is its own ancestor.
+    #[error("a class is its own ancestor")]
+    Cycle(Name),
+    /// There was no memory.
+    #[error("there was no memory")]
+    Memory,
+}
+
+impl From<NoMemory> for LoadError {
+    ghost use Rattle.dj_loader.specs.declared.error.LoadError.TheVariants.{Memory};
+
+    ghost from_gives = { λ _ e. e ≡ Memory };
+
+    fn from(_error: NoMemory) -> LoadError {
+        LoadError::Memory
+    }
+}
+
+impl From<AllocError> for LoadError {
+    ghost use Rattle.dj_loader.specs.declared.error.LoadError.TheVariants.{Memory};
+
+    ghost from_gives = { λ _ e. e ≡ Memory };
+
+    fn from(_error: AllocError) -> LoadError {
+        LoadError::Memory
+    }
+}
+
+impl<T: Drop> From<AllocFailed<T>> for LoadError {
+    ghost use Rattle.dj_loader.specs.declared.error.LoadError.TheVariants.{Memory};
+
+    ghost from_gives = { λ _ e. e ≡ Memory };
+
+    fn from(_error: AllocFailed<T>) -> LoadError {
+        LoadError::Memory
+    }
+}
+
+impl From<DeclareError> for LoadError {
+    ghost use Rattle.dj_loader.specs.declared.error.LoadError.TheVariants.{Memory};
+
+    ghost from_gives = { λ _ e. e ≡ Memory };
+
+    fn from(_error: DeclareError) -> LoadError {
+        LoadError::Memory
+    }
+}
+
+impl From<GraphError> for LoadError {
+    ghost use Rattle.dj_loader.specs.declared.error.LoadError.TheVariants.{Memory};
+
+    ghost from_gives = { λ _ e. e ≡ Memory };
+
+    fn from(_error: GraphError) -> LoadError {
+        LoadError::Memory
+    }
+}
+
+impl From<ImageError> for LoadError {
+    ghost use Rattle.dj_loader.specs.declared.error.LoadError.TheVariants.{Memory};
+
+    ghost from_gives = { λ _ e. e ≡ Memory };
+
+    fn from(_error: ImageError) -> LoadError {
+        LoadError::Memory
+    }
+}
+
+impl From<RulesError> for LoadError {
+    ghost use Rattle.dj_loader.specs.declared.error.LoadError.TheVariants.{Memory};
+
+    ghost from_gives = { λ _ e. e ≡ Memory };
+
+    fn from(_error: RulesError) -> LoadError {
+        LoadError::Memory
+    }
+}
+
+impl From<ShapeError> for LoadError {
+    ghost use Rattle.dj_loader.specs.declared.error.LoadError.TheVariants.{Memory};
+
+    ghost from_gives = { λ _ e. e ≡ Memory };
+
+    fn from(_error: ShapeError) -> LoadError {
+        LoadError::Memory
+    }
+}

@@ -1,0 +1,16 @@
+//! Loads class files and a library: the image of their program.
+#![tactic(auto)]
+
+mod cycles;
+mod declaring;
+mod error;
+mod file_parts;
+mod lacking;
+mod loading;
+mod owners;
+mod parts;
+mod values;
+
+pub use dj_image::{BaseNames, Image};
+pub use error::LoadError;
+pub use loading::load;

@@ -1,0 +1,102 @@
+ghost use Rattle.std.specs.Prelude.{◌≡◌, ◌+◌, ◌^◌, ◌<◌, [], length, map, All, IfOk, IfErr};
+ghost use Rattle.dj_names.specs.Descriptors.{IsDesc};
+ghost use Rattle.dj_names.specs.Library.{Library};
+ghost use Rattle.dj_class.specs.ClassFile.{IsValid};
+ghost use Rattle.dj_class.specs.Views.{class_of};
+ghost use Rattle.dj_natives.specs.Views.{library_view};
+ghost use Rattle.dj_model.specs.Libraries.{joined};
+ghost use Rattle.dj_check.specs.Malformed.{HasFaultyMethod};
+ghost use Rattle.dj_linking.specs.Linked.{prefix_of};
+ghost use Rattle.dj_program.specs.Programs.{IsProgramIn};
+ghost use Rattle.dj_image.specs.Imaged.{program_of, IsNumbered};
+ghost use Rattle.dj_image.specs.Parts.{HasString};
+ghost use Rattle.dj_loader.specs.Loads.{all_classes, AreFewMembers, HasStringIn, IsLoadable, RefusesLoad};
+ghost use Rattle.dj_loader.specs.Numbered.{IsMemory};
+ghost use Rattle.dj_loader.specs.Parting.{IsTableOf};
+
+use crate::cycles::refuse_cycles;
+use crate::declaring::{declare_all, table_of};
+use crate::error::LoadError;
+use crate::lacking::refuse_lacking;
+use crate::parts::parts_of;
+use dj_class::ClassView;
+use dj_classes::ClassTable;
+use dj_image::{BaseNames, Image, Linker, image_of};
+use dj_natives::LibClass;
+use std::alloc::Global;
+
+// The classes in the order of their names, where they can be loaded.
+fn whole_table(
+    alloc: Global,
+    views: &[ClassView<'_>],
+    library: &[LibClass],
+) -> Result<ClassTable, LoadError>
+    requires valid { All (λ view. IsValid (class_of view)) views.now }
+    requires described { All (λ row. All (λ m. IsDesc m.desc) row.methods) library.now }
+    requires few { length views.now + length library.now < 2 ^ 31 }
+    ensures table { IfOk result (λ table. table ≡ joined (all_classes (library_view library.now) (map class_of views.now)) []) }
+    ensures loadable { IfOk result (λ _. IsLoadable (all_classes (library_view library.now) (map class_of views.now))) }
+    ensures refused { IfErr result (RefusesLoad (all_classes (library_view library.now) (map class_of views.now))) }
+{
+    let classes = declare_all(alloc, views, library)?;
+    let table = table_of(alloc, classes)?;
+    refuse_lacking(alloc, &table)?;
+    refuse_cycles(alloc, &table)?;
+    Ok(table)
+}
+
+// Links classes that are in order.
+fn link(alloc: Global, table: ClassTable, base: BaseNames) -> Result<Linker, LoadError>
+    ensures linked { IfOk result (λ linker. linker ≡ record { program = table; prefix = prefix_of base }) }
+    ensures memory { IfErr result IsMemory }
+{
+    match Linker::of(alloc, table, base) {
+        Ok(linker) => Ok(linker),
+        Err(_) => Err(LoadError::Memory),
+    }
+}
+
+// The image of the classes of a table, which get their parts.
+fn image_in(
+    alloc: Global,
+    table: ClassTable,
+    views: &[ClassView<'_>],
+    base: BaseNames,
+) -> Result<Image, LoadError>
+    requires valid { All (λ view. IsValid (class_of view)) views.now }
+    requires coded { All (λ view. HasFaultyMethod (class_of view) → ⊥) views.now }
+    requires fits { (library : Library) × IsTableOf library (map class_of views.now) table }
+    requires string { HasString table (prefix_of base) }
+    ensures program { (library : Library) → IsTableOf library (map class_of views.now) table → IfOk result (λ image. IsProgramIn library (map class_of views.now) (program_of image)) }
+    ensures prefix { IfOk result (λ image. image.prefix ≡ prefix_of base) }
+    ensures numbered { IfOk result IsNumbered }
+    ensures memory { IfErr result IsMemory }
+{
+    let parts = parts_of(alloc, &table, views)?;
+    let linker = link(alloc, table, base)?;
+    Ok(image_of(alloc, linker, parts)?)
+}
+
+/// The image of the program of class files and a library, whose names stand under the base and which has the class String. No method's code is
+/// faulty. Names that classes share are told first, then classes under absent ones, then cycles.
+pub fn load(
+    alloc: Global,
+    views: &[ClassView<'_>],
+    library: &[LibClass],
+    base: BaseNames,
+) -> Result<Image, LoadError>
+    requires valid { All (λ view. IsValid (class_of view)) views.now }
+    requires coded { All (λ view. HasFaultyMethod (class_of view) → ⊥) views.now }
+    requires described { All (λ row. All (λ m. IsDesc m.desc) row.methods) library.now }
+    requires few { length views.now + length library.now < 2 ^ 31 }
+    requires few_members { AreFewMembers (all_classes (library_view library.now) (map class_of views.now)) }
+    requires string { HasStringIn (library_view library.now) base }
+    ensures program { IfOk result (λ image. IsProgramIn (library_view library.now) (map class_of views.now) (program_of image)) }
+    ensures prefix { IfOk result (λ image. image.prefix ≡ prefix_of base) }
+    ensures numbered { IfOk result IsNumbered }
+    ensures loadable { IfOk result (λ _. IsLoadable (all_classes (library_view library.now) (map class_of views.now))) }
+    ensures refused { IfErr result (RefusesLoad (all_classes (library_view library.now) (map class_of views.now))) }
+{
+    let table = whole_table(alloc, views, library)?;
+    image_in(alloc, table, views, base)
+}

@@ -1,0 +1,22 @@
+-- The code's own: frames as they are kept, whose local variables stand in slots.
+use Rattle.std.specs.Prelude.{◌≡◌, ℕ, List, Option, Some, None, nat_eq, if◌then◌else◌}
+use Rattle.std.specs.Ordering.{nat_cmp}
+use Rattle.std.specs.BTreeMap.{BTreeMap, get}
+use Rattle.dj_model.specs.Linking.{or_else}
+use Rattle.dj_shape.specs.declared.arena.Slot.{Slot}
+use Rattle.dj_shape.specs.declared.frames.KeptFrame.{KeptFrame}
+use Rattle.dj_shape.specs.Arena.{IsIn}
+
+abbrev pub kept_at : BTreeMap ℕ KeptFrame → ℕ → Option KeptFrame
+kept_at told number = get nat_cmp told number
+
+-- the local variables of each are a place of these slots
+abbrev pub ArePlaced : List Slot → BTreeMap ℕ KeptFrame → Type 0
+ArePlaced slots told = (number : ℕ) (kept : KeptFrame) → kept_at told number ≡ Some kept → IsIn slots kept.place
+
+-- a frame is kept, where none was before
+abbrev pub HasOneMore : BTreeMap ℕ KeptFrame → BTreeMap ℕ KeptFrame → ℕ → KeptFrame → Type 0
+HasOneMore old new at kept = (number : ℕ) → kept_at new number ≡ or_else (kept_at old number) (if nat_eq at number then Some kept else None)
+
+abbrev pub HasSame : BTreeMap ℕ KeptFrame → BTreeMap ℕ KeptFrame → Type 0
+HasSame old new = (number : ℕ) → kept_at new number ≡ kept_at old number

@@ -1,0 +1,10 @@
+use Rattle.std.proofs.Common.{◌≡◌, length}
+use Rattle.dj_types.specs.Numbered.{AreMemberClasses}
+use Rattle.dj_types.proofs.members.member_classes.Given as goal
+
+-- the members so far
+abbrev pub invariant-loop-number : goal.invariant-loop-number
+invariant-loop-number l = record {
+  long : length l.classes.items ≡ l.number;
+  homes : AreMemberClasses l.starts l.classes.items;
+}
