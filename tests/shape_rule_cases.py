@@ -77,6 +77,7 @@ shaped(
     Method("nearLong(IJ)V", "nop, {chop 1} iload_0, pop, return"),
     Method("longIsGone(J)V", "nop, {chop 1} nop, !lload_0, pop2, return"),
     Method("nearLongs(JJ)V", "nop, {chop 1} lload_0, pop2, return"),
+    Method("twoOfLong(IJ)V", "nop, {chop 2} nop, !iload_0, pop, return"),
     Method("again(II)V", "nop, {chop 1} nop, {chop 1} nop, !{chop 1} return"),
     # What the code stores is no entry.
     Method("stored", "iconst_0, istore_0, !{chop 1} return"),

@@ -1,5 +1,5 @@
 -- What is told of texts, and of the values of fields.
-use Rattle.std.proofs.Common.{◌≡◌, ℕ, zero, suc, ◌+◌, ◌<◌, ◌≤◌, ◌⊎◌, ◌↔◌, Bool, true, false, not, List, [], ◌∷◌, ◌++◌, replicate, length, get_or, Option, Some, None, IsSomeAnd, refl, sym, ap, ◌∙◌, subst, inl, inr, arith, Contains, IsTrue}
+use Rattle.std.proofs.Common.{◌≡◌, ℕ, zero, suc, ◌+◌, ◌<◌, ◌≤◌, ◌⊎◌, ◌↔◌, Bool, true, false, not, List, [], ◌∷◌, ◌++◌, replicate, length, get_or, slice_get, unwrap_or, Option, Some, None, IsSomeAnd, refl, sym, ap, ◌∙◌, subst, inl, inr, arith, Contains, IsTrue}
 use Rattle.std.proofs.lemmas.Option.{slice_get_past, slice_get-get_or}
 use Rattle.std.proofs.lemmas.Bool.{cases_lt}
 use Rattle.std.proofs.lemmas.List.{length-append}
@@ -18,7 +18,7 @@ use Rattle.dj_check.specs.declared.judged.JudgedText.{JudgedText}
 use Rattle.dj_check.specs.Floats.{MentionsFloat, HasFloat}
 use Rattle.dj_check.specs.Attributes.{values_of}
 use Rattle.dj_check.specs.Malformed.{IsValueFor, IsFaultyField}
-use Rattle.dj_check.specs.Judged.{BeginsFloat, first_in, first_of, AreTexts, AreNumbered, IsMarked, AreMembersMarked, IsNumberedText, AreFirstTexts}
+use Rattle.dj_check.specs.Judged.{BeginsFloat, IsTextAt, first_in, first_of, AreTexts, AreNumbered, IsMarked, AreMembersMarked, Indexes, noted_at, number_in, IsNumberedBy, IsJudgedText, AreFirstTexts}
 use Rattle.dj_check.proofs.Anys.{slice_get_push}
 
 -- ---- descriptors
@@ -58,23 +58,35 @@ nothing_is found P none is = subst (λ o. IsSomeAnd o P) none is
 pub not_told : {A : Type 0} (found : Option A) (P : A → Type 0) → found ≡ None → IsTrue false ↔ IsSomeAnd found P
 not_told found P none = ((λ t. absurd cc), (λ is. absurd (nothing_is found P none is)))
 
-pub no_texts_yet : (numbers : List ℕ → ℕ) (marks : List Bool) (pool : List Constant) → AreFirstTexts numbers marks 0 pool []
-no_texts_yet numbers marks pool = record { all = refl; each = λ index text e. absurd cc }
+is_kept : (old new : Indexes) (pool : List Constant) (index : ℕ) (marked : Bool) (text : JudgedText) → ((key : List ℕ) (n : ℕ) → noted_at old key ≡ Some n → noted_at new key ≡ Some n) → IsNumberedBy old pool index marked text → IsNumberedBy new pool index marked text
+is_kept old new pool index marked text kept number key own at = kept key text.first (number key own at)
 
-pub one_text_more : (numbers : List ℕ → ℕ) (marks : List Bool) (pool : List Constant) (texts more : List JudgedText) (i : ℕ) (text : JudgedText) → more ≡ texts ++ text ∷ [] → IsNumberedText numbers marks pool i text → AreFirstTexts numbers marks i pool texts
-    → AreFirstTexts numbers marks (i + 1) pool more
-one_text_more numbers marks pool texts more i text are is before = rw are (record {
+same_mark : (marks : List Bool) (i : ℕ) (a b : Bool) → slice_get marks i ≡ Some a → slice_get marks i ≡ Some b → a ≡ b
+same_mark marks i a b here there = let e = sym here ∙ there in cc
+
+pub one_text_more : (old new : Indexes) (marks : List Bool) (pool : List Constant) (texts more : List JudgedText) (i : ℕ) (marked : Bool) (text : JudgedText) → more ≡ texts ++ text ∷ [] → slice_get marks i ≡ Some marked
+    → IsJudgedText pool old new i marked text → AreFirstTexts old marks i pool texts → AreFirstTexts new marks (i + 1) pool more
+one_text_more old new marks pool texts more i marked text are here is before = rw are (record {
   all = omega (arith, length-append texts (text ∷ []), before.all);
-  each = λ index t e. elim (slice_get_push texts text index t e) [
-    | inl old ↦ before.each index t old
-    | inr (here, same) ↦ subst (λ (x : JudgedText). IsNumberedText numbers marks pool index x) same (subst (λ (k : ℕ). IsNumberedText numbers marks pool k text) (sym (here ∙ before.all)) is)
+  means = λ index t e. elim (slice_get_push texts text index t e) [
+    | inl was ↦ before.means index t was
+    | inr (at, same) ↦ subst (λ (x : JudgedText). IsTextAt pool index x) same (subst (λ (k : ℕ). IsTextAt pool k text) (sym (at ∙ before.all)) is.means)
   ];
+  number = λ index t m e found. elim (slice_get_push texts text index t e) [
+    | inl was ↦ is_kept old new pool index m t is.kept (before.number index t m was found)
+    | inr (at, same) ↦
+        let place = at ∙ before.all in
+        let mark = same_mark marks i marked m here (subst (λ (k : ℕ). slice_get marks k ≡ Some m) place found) in
+        subst (λ (x : JudgedText). IsNumberedBy new pool index m x) same
+        (subst (λ (k : ℕ). IsNumberedBy new pool k m text) (sym place) (subst (λ (b : Bool). IsNumberedBy new pool i b text) mark is.number))
+  ];
+  right = is.right;
 })
 
-pub all_texts : (numbers : List ℕ → ℕ) (marks : List Bool) (pool : List Constant) (texts : List JudgedText) (count : ℕ) → length pool + 1 ≤ count → AreFirstTexts numbers marks count pool texts → AreTexts pool texts
-all_texts numbers marks pool texts count le are = record {
+pub all_texts : (indexes : Indexes) (marks : List Bool) (pool : List Constant) (texts : List JudgedText) (count : ℕ) → length pool + 1 ≤ count → AreFirstTexts indexes marks count pool texts → AreTexts pool texts
+all_texts indexes marks pool texts count le are = record {
   all = (let e = are.all in omega arith);
-  each = λ index text e. (are.each index text e).means;
+  each = are.means;
 }
 
 no_text : JudgedText
@@ -86,27 +98,31 @@ within_pool pool index t at = elim (cases_lt (length pool) index) [
   | inr le ↦ le
 ]
 
-numbered_at : (numbers : List ℕ → ℕ) (marks : List Bool) (pool : List Constant) (texts : List JudgedText) (index : ℕ) (t : List ℕ) → AreFirstTexts numbers marks (length marks) pool texts → index < length marks → IsMarked marks index
-    → text_at pool index ≡ Some t → first_in texts index ≡ numbers t
-numbered_at numbers marks pool texts index t are lt marked at =
+number_of : (found : Option ℕ) (n : ℕ) → found ≡ Some n → n ≡ unwrap_or found 0
+number_of found n e = sym (ap (λ (o : Option ℕ). unwrap_or o 0) e)
+
+numbered_at : (indexes : Indexes) (marks : List Bool) (pool : List Constant) (texts : List JudgedText) (index : ℕ) (t : List ℕ) → AreFirstTexts indexes marks (length marks) pool texts → index < length marks → IsMarked marks index
+    → text_at pool index ≡ Some t → first_in texts index ≡ number_in indexes t
+numbered_at indexes marks pool texts index t are lt marked at =
+    let text = get_or texts index no_text in
     let found = slice_get-get_or texts index no_text (let e = are.all in omega (arith, e, lt)) in
-    ap (first_of index) found ∙ (are.each index (get_or texts index no_text) found).number t marked at
+    ap (first_of index) found ∙ number_of (noted_at indexes t) text.first (are.number index text true found marked t refl at)
 
 -- the names of members are numbered
-pub all_numbered : (c : ClassFile) (numbers : List ℕ → ℕ) (marks : List Bool) (texts : List JudgedText) (count : ℕ) → count ≡ length marks → AreMembersMarked c marks → AreFirstTexts numbers marks count c.pool texts → AreNumbered c texts
-all_numbered c numbers marks texts count whole marked are =
-    let all = subst (λ (n : ℕ). AreFirstTexts numbers marks n c.pool texts) whole are in
+pub all_numbered : (c : ClassFile) (indexes : Indexes) (marks : List Bool) (texts : List JudgedText) (count : ℕ) → count ≡ length marks → AreMembersMarked c marks → AreFirstTexts indexes marks count c.pool texts → AreNumbered c texts
+all_numbered c indexes marks texts count whole marked are =
+    let all = subst (λ (n : ℕ). AreFirstTexts indexes marks n c.pool texts) whole are in
     let many = marked.count in
     record {
-      numbers = numbers;
+      numbers = number_in indexes;
       name = λ m t own at.
           let le = within_pool c.pool m.name t at in
           let lt : m.name < length marks = omega (arith, le, many) in
-          numbered_at numbers marks c.pool texts m.name t all lt ((marked.each m own).name lt) at;
+          numbered_at indexes marks c.pool texts m.name t all lt ((marked.each m own).name lt) at;
       desc = λ m t own at.
           let le = within_pool c.pool m.desc t at in
           let lt : m.desc < length marks = omega (arith, le, many) in
-          numbered_at numbers marks c.pool texts m.desc t all lt ((marked.each m own).desc lt) at;
+          numbered_at indexes marks c.pool texts m.desc t all lt ((marked.each m own).desc lt) at;
     }
 
 -- ---- values of fields

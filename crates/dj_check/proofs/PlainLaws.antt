@@ -1,5 +1,5 @@
 -- Plain instructions violate no rule.
-use Rattle.std.proofs.Common.{◌≡◌, ℕ, Bool, true, false, not, ◌&&◌, nat_eq, ℤ, List, refl, inl, inr}
+use Rattle.std.proofs.Common.{◌≡◌, ℕ, Bool, true, false, not, ◌&&◌, nat_eq, ℤ, List, refl, inl, inr, IsTrue, ◌↔◌}
 use Rattle.std.proofs.lemmas.Bool.{eq-eqb}
 use Rattle.dj_ops.specs.declared.instruction.Instr.{Instr}
 use Rattle.dj_ops.specs.declared.instruction.Instr.TheVariants as instrs
@@ -102,3 +102,7 @@ violates_none pool (instrs.Multi index dims) rule plain v = absurd cc
 -- so they have no marks
 pub plain_marks : (place : Place) (pool : List Constant) (instr : Instr) (marks : List Mark) → is_plain instr ≡ true → Gains (MarksAt place (InstrViolates pool instr)) marks marks
 plain_marks place pool instr marks plain = adds_nothing (MarksAt place (InstrViolates pool instr)) marks (λ mark is. violates_none pool instr mark.rule plain is.1)
+
+-- nor has an instruction that violates no rule
+pub untold_marks : (place : Place) (pool : List Constant) (instr : Instr) (marks : List Mark) (told : Bool) → (IsTrue told ↔ ((rule : ℕ) × InstrViolates pool instr rule)) → told ≡ false → Gains (MarksAt place (InstrViolates pool instr)) marks marks
+untold_marks place pool instr marks told says none = adds_nothing (MarksAt place (InstrViolates pool instr)) marks (λ mark is. never told (says.1 (mark.rule, is.1)) none)

@@ -1,5 +1,5 @@
 -- The code's own: what is kept beside the texts of a pool.
-use Rattle.std.specs.Prelude.{◌≡◌, ◌↔◌, ℕ, ◌+◌, ◌<◌, ◌⊎◌, Bool, true, false, List, [], ◌∷◌, length, Contains, Option, Some, None, IsSome, IsTrue, slice_get, unwrap_or}
+use Rattle.std.specs.Prelude.{◌≡◌, ◌↔◌, ℕ, ◌+◌, ◌<◌, ◌⊎◌, Bool, true, false, List, [], ◌∷◌, length, Contains, Option, Some, None, IsTrue, slice_get, unwrap_or}
 use Rattle.std.specs.Borrow.{Bor}
 use Rattle.std.specs.Ordering.{nat_cmp}
 use Rattle.std.specs.Cmp.Lexicographic.{slice_cmp}
@@ -7,8 +7,8 @@ use Rattle.std.specs.BTreeMap.{BTreeMap, get_by}
 use Rattle.dj_pool.specs.Pool.{Constant, text_at}
 use Rattle.dj_class.specs.ClassFile.{MemberInfo, ClassFile}
 use Rattle.dj_check.specs.declared.judged.JudgedText.{JudgedText}
-use Rattle.dj_check.specs.Floats.{NamesFloat}
-use Rattle.dj_check.specs.Classes.{NamesReflectiveText}
+use Rattle.dj_check.specs.Floats.{HasFloat, NamesFloat}
+use Rattle.dj_check.specs.Classes.{IsReflectiveText, NamesReflectiveText}
 
 -- this is told of the text of the index
 pub record IsTextAt (pool : List Constant) (index : ℕ) (text : JudgedText) : Type 0 where
@@ -79,22 +79,37 @@ noted_at indexes text = get_by (λ key. slice_cmp nat_cmp text key.now) indexes
 abbrev pub number_in : Indexes → List ℕ → ℕ
 number_in indexes text = unwrap_or (noted_at indexes text) 0
 
--- the texts of the first indexes, so many, were noted where they are marked, and of each an index of it
-pub record AreNoted (pool : List Constant) (marks : List Bool) (count : ℕ) (indexes : Indexes) : Type 0 where
-  pub right : (text : List ℕ) (index : ℕ) → noted_at indexes text ≡ Some index → text_at pool index ≡ Some text
-  pub all : (index : ℕ) (text : List ℕ) → index < count → IsMarked marks index → text_at pool index ≡ Some text → IsSome (noted_at indexes text)
+-- what is noted of a text is an index of it
+abbrev pub AreRight : List Constant → Indexes → Type 0
+AreRight pool indexes = (text : List ℕ) (index : ℕ) → noted_at indexes text ≡ Some index → text_at pool index ≡ Some text
 
--- the index that stands for a text at an index: of one that is marked that of the text, and else its own
-abbrev pub StandsForIndex : Option ℕ → ℕ → Bool → ℕ → Type 0
-StandsForIndex noted index true first = noted ≡ Some first
-StandsForIndex noted index false first = first ≡ index
+-- an index is noted of a text where it is marked and none was noted yet; the first is the one that is noted then
+pub record Notes (old new : Indexes) (key : List ℕ) (index : ℕ) (marked : Bool) (first : ℕ) : Type 0 where
+  pub own : IsTrue marked → noted_at new key ≡ Some first
+  pub same : (first ≡ index) ⊎ (noted_at old key ≡ Some first)
+  pub kept : (text : List ℕ) (n : ℕ) → noted_at old text ≡ Some n → noted_at new text ≡ Some n
+  pub known : (text : List ℕ) (n : ℕ) → noted_at new text ≡ Some n → (noted_at old text ≡ Some n) ⊎ ((text ≡ key) × (n ≡ index))
 
--- what is told of the text of the index, and that its first index is the text's number where it is marked
-pub record IsNumberedText (numbers : List ℕ → ℕ) (marks : List Bool) (pool : List Constant) (index : ℕ) (text : JudgedText) : Type 0 where
+-- what is told of a text, the one of the index
+pub record IsToldText (old new : Indexes) (key : List ℕ) (index : ℕ) (marked : Bool) (text : JudgedText) : Type 0 where
+  pub float : IsTrue text.float ↔ HasFloat key
+  pub reflective : IsTrue text.reflective ↔ IsReflectiveText key
+  pub notes : Notes old new key index marked text.first
+
+-- the first index of the text of an index is the one that is noted of it, where the index is marked
+abbrev pub IsNumberedBy : Indexes → List Constant → ℕ → Bool → JudgedText → Type 0
+IsNumberedBy indexes pool index marked text = (key : List ℕ) → IsTrue marked → text_at pool index ≡ Some key → noted_at indexes key ≡ Some text.first
+
+-- what is told of the text of the index, with what was noted before and is noted then
+pub record IsJudgedText (pool : List Constant) (old new : Indexes) (index : ℕ) (marked : Bool) (text : JudgedText) : Type 0 where
   pub means : IsTextAt pool index text
-  pub number : (t : List ℕ) → IsMarked marks index → text_at pool index ≡ Some t → text.first ≡ numbers t
+  pub number : IsNumberedBy new pool index marked text
+  pub kept : (key : List ℕ) (n : ℕ) → noted_at old key ≡ Some n → noted_at new key ≡ Some n
+  pub right : AreRight pool new
 
 -- the first indexes are told of, so many
-pub record AreFirstTexts (numbers : List ℕ → ℕ) (marks : List Bool) (count : ℕ) (pool : List Constant) (texts : List JudgedText) : Type 0 where
+pub record AreFirstTexts (indexes : Indexes) (marks : List Bool) (count : ℕ) (pool : List Constant) (texts : List JudgedText) : Type 0 where
   pub all : length texts ≡ count
-  pub each : (index : ℕ) (text : JudgedText) → slice_get texts index ≡ Some text → IsNumberedText numbers marks pool index text
+  pub means : (index : ℕ) (text : JudgedText) → slice_get texts index ≡ Some text → IsTextAt pool index text
+  pub number : (index : ℕ) (text : JudgedText) (marked : Bool) → slice_get texts index ≡ Some text → slice_get marks index ≡ Some marked → IsNumberedBy indexes pool index marked text
+  pub right : AreRight pool indexes

@@ -1,11 +1,11 @@
-ghost use Rattle.std.specs.Prelude.{◌≡◌, ◌↔◌, ◌+◌, ◌<◌, ◌≤◌, ◌^◌, [], ◌∷◌, map, length, slice_get, Contains, Some, IsSome, IsTrue, IfOk, OnOk};
+ghost use Rattle.std.specs.Prelude.{◌≡◌, ◌↔◌, ◌+◌, ◌<◌, ◌≤◌, ◌^◌, [], ◌∷◌, map, length, slice_get, Contains, true, IsTrue, IfOk, OnOk};
 ghost use Rattle.dj_names.specs.Names.{IsClassName};
 ghost use Rattle.dj_class.specs.ClassFile.{MemberInfo};
 ghost use Rattle.dj_class.specs.Members.{member_of};
 ghost use Rattle.dj_class.specs.Views.{class_of};
 ghost use Rattle.dj_check.specs.Floats.{HasFloat, IsFloating, HasFloating, MentionsFloat};
 ghost use Rattle.dj_check.specs.Classes.{IsReflective, IsReflectiveText, element_class};
-ghost use Rattle.dj_check.specs.Judged.{IsTextAt, AreTexts, first_in, BeginsFloat, AreNumbered, IsMarked, StayMarked, AreNamesMarked, AreMembersMarked, noted_at, number_in, AreNoted, StandsForIndex, IsNumberedText};
+ghost use Rattle.dj_check.specs.Judged.{IsTextAt, AreTexts, first_in, BeginsFloat, AreNumbered, IsMarked, StayMarked, AreNamesMarked, AreMembersMarked, AreRight, Notes, IsToldText, IsJudgedText};
 
 use dj_class::{ClassView, MemberView};
 use dj_names::{Base, Desc, DescError, Of, Ty, is_class_name, read_desc};
@@ -179,93 +179,72 @@ fn marked_names(alloc: Global, view: &ClassView<'_>) -> Result<Vec<bool>, RulesE
 
 // ---- texts
 
-// Notes the text of an index that is marked, where there is one and it wasn't noted yet.
+// The index that stands for a text: the one that was noted of it, or else this one, which is noted.
 fn note_text<'p>(
     indexes: &mut BTreeMap<&'p [u8], u16>,
-    pool: &Pool<'p>,
-    marks: &[bool],
+    text: &'p [u8],
     index: u16,
-) -> Result<(), RulesError>
-    requires noted { AreNoted pool.now marks.now index indexes.old }
-    requires within { index < length marks.now }
-    ensures { OnOk result (AreNoted pool.now marks.now (index + 1) indexes.new) }
+) -> Result<u16, RulesError>
+    ensures { IfOk result (Notes indexes.old indexes.new text.now index true) }
 {
-    if !marks[usize::from(index)] {
-        return Ok(());
-    }
-    if let Some(text) = pool.text(index) {
-        if indexes.get(text).is_none() {
-            indexes.insert(text, index)?;
+    match indexes.insert(text, index)? {
+        None => Ok(index),
+        Some(first) => {
+            indexes.insert(text, first)?;
+            Ok(first)
         }
     }
-    Ok(())
 }
 
-// The first index of each text of the pool that is marked.
-fn first_indexes<'p>(
-    alloc: Global,
-    pool: &Pool<'p>,
-    marks: &[bool],
-) -> Result<BTreeMap<&'p [u8], u16>, RulesError>
-    requires few { length marks.now < 2 ^ 16 }
-    ensures { IfOk result (AreNoted pool.now marks.now (length marks.now)) }
-{
-    let mut indexes = BTreeMap::new(alloc);
-    for index in 0..marks.len() {
-        note_text(&mut indexes, pool, marks, index as u16)?;
-    }
-    Ok(indexes)
-}
-
-// The index that was noted of a text.
-fn noted_index(indexes: &BTreeMap<&[u8], u16>, text: &[u8]) -> u16
-    requires { IsSome (noted_at indexes.now text.now) }
-    ensures { noted_at indexes.now text.now ≡ Some result }
-{
-    match indexes.get(text) {
-        Some(index) => *index,
-        None => unreachable!(),
-    }
-}
-
-// The index that stands for a text at an index.
-fn first_index(indexes: &BTreeMap<&[u8], u16>, text: &[u8], index: u16, marked: bool) -> u16
-    requires { IsTrue marked → IsSome (noted_at indexes.now text.now) }
-    ensures { StandsForIndex (noted_at indexes.now text.now) index marked result }
+// The index that stands for the text of an index, which is noted where the index is marked.
+fn first_index<'p>(
+    indexes: &mut BTreeMap<&'p [u8], u16>,
+    text: &'p [u8],
+    index: u16,
+    marked: bool,
+) -> Result<u16, RulesError>
+    ensures { IfOk result (Notes indexes.old indexes.new text.now index marked) }
 {
     if marked {
-        noted_index(indexes, text)
+        note_text(indexes, text, index)
     } else {
-        index
+        Ok(index)
     }
 }
 
-fn is_marked(marks: &[bool], index: u16) -> bool
-    requires { index < length marks.now }
-    ensures { slice_get marks.now index ≡ Some result }
+// What the rules ask of a text, the one of an index.
+fn judge_text<'p>(
+    alloc: Global,
+    indexes: &mut BTreeMap<&'p [u8], u16>,
+    text: &'p [u8],
+    index: u16,
+    marked: bool,
+) -> Result<JudgedText, RulesError>
+    ensures { IfOk result (IsToldText indexes.old indexes.new text.now index marked) }
 {
-    marks[usize::from(index)]
+    let float = has_float(alloc, text)?;
+    let reflective = is_reflective_text(alloc, text)?;
+    let first = first_index(indexes, text, index, marked)?;
+    Ok(JudgedText {
+        float,
+        reflective,
+        first,
+    })
 }
 
-// What the rules ask of the text of an index.
-fn judge_text(
+// What the rules ask of the text of an index, if there is one.
+fn judge_index<'p>(
     alloc: Global,
-    indexes: &BTreeMap<&[u8], u16>,
-    pool: &Pool<'_>,
-    marks: &[bool],
+    indexes: &mut BTreeMap<&'p [u8], u16>,
+    pool: &Pool<'p>,
     index: u16,
+    marked: bool,
 ) -> Result<JudgedText, RulesError>
-    requires noted { AreNoted pool.now marks.now (length marks.now) indexes.now }
-    requires within { index < length marks.now }
-    ensures { IfOk result (IsNumberedText (number_in indexes.now) marks.now pool.now index) }
+    requires { AreRight pool.now indexes.old }
+    ensures { IfOk result (IsJudgedText pool.now indexes.old indexes.new index marked) }
 {
-    let marked = is_marked(marks, index);
     match pool.text(index) {
-        Some(text) => Ok(JudgedText {
-            float: has_float(alloc, text)?,
-            reflective: is_reflective_text(alloc, text)?,
-            first: first_index(indexes, text, index, marked),
-        }),
+        Some(text) => judge_text(alloc, indexes, text, index, marked),
         None => Ok(JudgedText {
             float: false,
             reflective: false,
@@ -281,10 +260,10 @@ pub fn judge_texts(alloc: Global, view: &ClassView<'_>) -> Result<Vec<JudgedText
     ensures numbered { IfOk result (λ texts. AreNumbered (class_of view.now) texts.items) }
 {
     let marks = marked_names(alloc, view)?;
-    let indexes = first_indexes(alloc, &view.pool, &marks)?;
-    let mut texts = Vec::new(alloc);
+    let mut indexes = BTreeMap::new(alloc);
+    let mut texts = Vec::with_capacity(alloc, marks.len())?;
     for index in 0..marks.len() {
-        let text = judge_text(alloc, &indexes, &view.pool, &marks, index as u16)?;
+        let text = judge_index(alloc, &mut indexes, &view.pool, index as u16, marks[index])?;
         texts.push(text)?;
     }
     Ok(texts)

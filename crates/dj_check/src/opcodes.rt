@@ -53,13 +53,12 @@ fn ends_float(op: u8) -> bool
 pub fn is_float_op(op: u8) -> bool
     ensures { result ≡ is_float_op op }
 {
-    pushes_float(op)
-        || loads_float(op)
-        || stores_float(op)
-        || adds_float(op)
-        || divides_float(op)
-        || converts_float(op)
-        || ends_float(op)
+    match op {
+        11..=15 | 23..=24 | 34..=41 | 48..=49 | 56..=57 | 67..=74 | 81..=82 => true,
+        98..=99 | 102..=103 | 106..=107 | 110..=111 | 114..=115 | 118..=119 => true,
+        134..=135 | 137..=144 | 149..=152 | 174..=175 => true,
+        _ => false,
+    }
 }
 
 /// Whether newarray makes an array of floats or doubles.

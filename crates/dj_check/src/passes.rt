@@ -7,6 +7,7 @@ ghost use Rattle.dj_check.specs.Marks.{place_of, MarksAt, MarksOf, ViolatesBelow
 
 use crate::instructions::{
     is_breakpoint, is_dynamic, is_float, is_multi_array, is_plain, is_reflection, is_subroutine,
+    violates_instr,
 };
 use crate::judged::JudgedText;
 use crate::marks::{Mark, Place, add_mark_if};
@@ -49,7 +50,7 @@ fn add_instr_marks(
     add_mark_if(marks, place, MULTI_ARRAY, is_multi_array(pool, instr))
 }
 
-// The same, where most instructions are not looked at by each rule.
+// The same, where an instruction that violates no rule, as most do, costs no mark.
 fn add_marks_at(
     marks: &mut Vec<Mark>,
     place: Place,
@@ -60,7 +61,7 @@ fn add_marks_at(
     requires { AreTexts pool.now texts.now }
     ensures { OnOk result (Gains (MarksAt place (InstrViolates pool.now instr.now)) marks.old.items marks.new.items) }
 {
-    if is_plain(instr) {
+    if is_plain(instr) || !violates_instr(pool, texts, instr) {
         return Ok(());
     }
     add_instr_marks(marks, place, pool, texts, instr)

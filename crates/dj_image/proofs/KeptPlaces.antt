@@ -159,12 +159,12 @@ made_table imaged (q ∷ parts) (table ∷ tables) are zero p own =
 made_table imaged (q ∷ parts) (table ∷ tables) are (suc class) p own = made_table imaged parts tables are.1 class p own
 
 constant_table : (imaged : Imaged) (parts : List ClassParts) (tables : List (Vec Operand)) → AreConstantTables imaged parts tables → (class : ℕ) (p : ClassParts)
-    → slice_get parts class ≡ Some p → (table : Vec Operand) × (slice_get tables class ≡ Some table) × (table.items ≡ map (field_operand_of imaged) p.values.items)
+    → slice_get parts class ≡ Some p → (table : Vec Operand) × (slice_get tables class ≡ Some table) × (table.items ≡ map (field_operand_of imaged p.pool) p.values.items)
 constant_table imaged [] [] are class p own = absurd cc
 constant_table imaged [] (table ∷ tables) are class p own = absurd are
 constant_table imaged (q ∷ parts) [] are class p own = absurd are
 constant_table imaged (q ∷ parts) (table ∷ tables) are zero p own =
-    let e : q ≡ p = cc in (table, refl, subst (λ (x : ClassParts). table.items ≡ map (field_operand_of imaged) x.values.items) e are.0)
+    let e : q ≡ p = cc in (table, refl, subst (λ (x : ClassParts). table.items ≡ map (field_operand_of imaged x.pool) x.values.items) e are.0)
 constant_table imaged (q ∷ parts) (table ∷ tables) are (suc class) p own = constant_table imaged parts tables are.1 class p own
 
 -- ---- what is told by tables
@@ -265,12 +265,12 @@ module _ (types : Typed) (parts : List ClassParts) (texts : List (List ℕ)) (op
       let imaged = imaged_of types parts texts in
       let row = field_at_place types.program parts place.class place.member tables.fit at.within in
       let table = constant_table imaged parts constants tables.constants_are place.class row.part row.own in (
-        field_operand_of imaged row.value,
+        field_operand_of imaged row.part.pool row.value,
         ap (option_and_then (λ (t : Vec Operand). slice_get t.items place.member)) table.1
             ∙ (ap (λ (kept : List Operand). slice_get kept place.member) table.2
-            ∙ (slice_get-map (field_operand_of imaged) row.part.values.items place.member ∙ ap (option_map (field_operand_of imaged)) row.kept)),
+            ∙ (slice_get-map (field_operand_of imaged row.part.pool) row.part.values.items place.member ∙ ap (option_map (field_operand_of imaged row.part.pool)) row.kept)),
         record {
-          found = record { class = row.name; field = record row.field { constant = option_map constant_of_value row.value } };
+          found = record { class = row.name; field = record row.field { constant = option_map (constant_of_value row.part.pool) row.value } };
           there = ap (λ (n : ℕ). slice_get (all_fields (program_of imaged)) n) at.is ∙ row.whole;
           is = refl;
         },

@@ -27,3 +27,13 @@ pub mod MemberOperands
 pub mod Making
 pub mod Settled
 pub mod Numbering
+pub mod NamedOperands
+pub mod TypeFacts
+pub mod NumberFacts
+pub mod ClassFacts
+pub mod UseFacts
+pub mod BodyFacts
+pub mod IndexFacts
+pub mod KeptFacts
+pub mod PartFacts
+pub mod TakenFacts

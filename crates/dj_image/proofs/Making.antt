@@ -1,16 +1,18 @@
 -- The tables of a class, those of more and more classes, and what the image of them numbers.
-use Rattle.std.proofs.Common.{◌≡◌, ◌↔◌, ℕ, suc, ◌+◌, ◌<◌, ◌≤◌, Bool, true, false, List, [], ◌∷◌, ◌++◌, map, take, length, get_or, Option, Some, None, refl, sym, ap, subst, ◌∙◌, inl, inr, arith, Contains, IsTrue}
+use Rattle.std.proofs.Common.{◌≡◌, ◌↔◌, ℕ, suc, ◌+◌, ◌<◌, ◌≤◌, Bool, true, false, List, [], ◌∷◌, ◌++◌, map, take, length, get_or, Option, Some, None, option_and_then, unwrap_or, refl, sym, ap, subst, ◌∙◌, inl, inr, arith, Contains, IsTrue}
 use Rattle.std.specs.Prelude.{Result, Ok, Err, IfOk, is_some, if◌then◌else◌}
 use Rattle.std.specs.Option.{option_map}
 use Rattle.std.specs.Global.{Vec}
 use Rattle.std.specs.List.{AllByRecursion}
-use Rattle.std.proofs.lemmas.List.{take_all, take_more}
+use Rattle.std.proofs.lemmas.List.{take_all, take_more, map-append}
 use Rattle.std.proofs.lemmas.List.Elements.{Contains-append_right}
 use Rattle.dj_names.specs.declared.descriptor.Base.TheVariants as bases
 use Rattle.dj_names.specs.declared.descriptor.Ty.{Ty}
 use Rattle.dj_names.specs.Types.{Name, same_name, base_array}
 use Rattle.dj_names.specs.Descriptors.{type_text}
-use Rattle.dj_pool.specs.Pool.{IsPool}
+use Rattle.dj_pool.specs.Pool.{Constant, IsPool, text_at}
+use Rattle.dj_declared.specs.Files.{name_in}
+use Rattle.dj_program.specs.Naming.{units_in}
 use Rattle.dj_model.specs.Types.{Prefix, object_name}
 use Rattle.dj_model.specs.Program.{Program}
 use Rattle.dj_classes.specs.Tables.{class_number, name_of}
@@ -26,6 +28,7 @@ use Rattle.dj_image.specs.Gathered.{value_told, AreOfClass, AreOfClasses}
 use Rattle.dj_image.specs.Homes.{operand_at}
 use Rattle.dj_image.specs.Imaged.{Imaged, typed_of, IsNumbered}
 use Rattle.dj_image.specs.Indexed.{Holds, text_class, text_array, text_place, kept_class, kept_array}
+use Rattle.dj_image.specs.Operands.{units_number}
 use Rattle.dj_image.specs.Parts.{FitClasses}
 use Rattle.dj_image.specs.Rows.{IsRow, known_types, wholes_of}
 use Rattle.dj_image.specs.Tables.{imaged_of, IsOperandTable, IsNamedTable, IsMadeTable, field_operand_of, AreOperandTables, AreNamedTables, AreMadeTables, AreConstantTables}
@@ -35,7 +38,7 @@ use Rattle.dj_image.specs.Uses.{SameMembers, used_types}
 use Rattle.dj_image.proofs.Counts.{once}
 use Rattle.dj_image.proofs.Members.{member_first, member_later, member_none, member_cases}
 use Rattle.dj_image.proofs.MemberOperands.{operand_kept}
-use Rattle.dj_image.proofs.Named.{named_kept, made_kept}
+use Rattle.dj_image.proofs.Named.{kept_as, named_kept, made_kept}
 use Rattle.dj_image.proofs.Programs.{member_map, rows_are_numbered}
 use Rattle.dj_image.proofs.Standing.{IsLike, like_from_fit}
 use Rattle.dj_image.proofs.Values.{texts_are}
@@ -43,16 +46,37 @@ use Rattle.dj_image.proofs.Wholes.{pools_of}
 
 -- ---- a class
 
-value_is : (imaged : Imaged) (value : Option FieldValue) → value_told imaged.texts value ≡ field_operand_of imaged value
-value_is imaged None = refl
-value_is imaged (Some (values.Int z)) = refl
-value_is imaged (Some (values.Long z)) = refl
-value_is imaged (Some (values.Text units)) = refl
-value_is imaged (Some values.Unfit) = refl
+value_is : (imaged : Imaged) (pool : List Constant) (value : Option FieldValue) → value_told imaged.texts pool value ≡ field_operand_of imaged pool value
+value_is imaged pool None = refl
+value_is imaged pool (Some (values.Int z)) = refl
+value_is imaged pool (Some (values.Long z)) = refl
+value_is imaged pool (Some (values.Text index)) = refl
+value_is imaged pool (Some values.Unfit) = refl
 
-values_are : (imaged : Imaged) (vs : List (Option FieldValue)) → map (value_told imaged.texts) vs ≡ map (field_operand_of imaged) vs
-values_are imaged [] = refl
-values_are imaged (v ∷ vs) = let one = value_is imaged v in let more = values_are imaged vs in λ i. one i ∷ more i
+values_are : (imaged : Imaged) (pool : List Constant) (vs : List (Option FieldValue)) → map (value_told imaged.texts pool) vs ≡ map (field_operand_of imaged pool) vs
+values_are imaged pool [] = refl
+values_are imaged pool (v ∷ vs) = let one = value_is imaged pool v in let more = values_are imaged pool vs in λ i. one i ∷ more i
+
+-- the number of the text at an index is kept there
+pub text_placed : (texts : List (List ℕ)) (pool : List Constant) (places : List (Option ℕ)) (index : ℕ) (text : List ℕ) → Holds (text_place texts pool) (length pool + 1) places → text_at pool index ≡ Some text
+    → get_or places index None ≡ units_number texts (units_in (name_in pool index))
+text_placed texts pool places index text held there = kept_as pool (λ (t : List ℕ). units_number texts (units_in t)) places held index ∙ by (text_at pool index) there where
+  by : (o : Option (List ℕ)) → o ≡ Some text → option_and_then (λ (t : List ℕ). units_number texts (units_in t)) o ≡ units_number texts (units_in (unwrap_or o []))
+  by None e = absurd cc
+  by (Some t) e = refl
+
+-- of more and more fields
+pub told_step : (texts : List (List ℕ)) (pool : List Constant) (vs : List (Option FieldValue)) (i : ℕ) (d : Option FieldValue) (kept more : List Operand) (one : Operand) → i < length vs
+    → kept ≡ map (value_told texts pool) (take i vs) → one ≡ value_told texts pool (get_or vs i d) → more ≡ kept ++ one ∷ [] → more ≡ map (value_told texts pool) (take (i + 1) vs)
+told_step texts pool vs i d kept more one within before is push =
+    push
+    ∙ ap (λ (ks : List Operand). ks ++ one ∷ []) before
+    ∙ ap (λ (k : Operand). map (value_told texts pool) (take i vs) ++ k ∷ []) is
+    ∙ sym (ap (map (value_told texts pool)) (take_more vs i d within) ∙ map-append (value_told texts pool) (take i vs) (get_or vs i d ∷ []))
+
+pub told_all : (texts : List (List ℕ)) (pool : List Constant) (vs : List (Option FieldValue)) (i : ℕ) (kept : List Operand) → length vs ≤ i
+    → kept ≡ map (value_told texts pool) (take i vs) → kept ≡ map (value_told texts pool) vs
+told_all texts pool vs i kept past are = are ∙ ap (map (value_told texts pool)) (take_all i vs past)
 
 pub class_is : (types : Typed) (parts : List ClassParts) (texts : List (List ℕ)) (class : ClassParts) (object : Option ℕ) (classes arrays places : List (Option ℕ)) (tables : ClassTables)
     → FitClasses types.program parts → AreArrays types.program types.arrays → object ≡ class_number types.program (object_name types.prefix) → IsPool class.pool
@@ -60,7 +84,7 @@ pub class_is : (types : Typed) (parts : List ClassParts) (texts : List (List ℕ
     → Holds (operand_at types class.pool places classes object) (length class.pool + 1) tables.operands.items
     → Holds (kept_class class.pool classes) (length class.pool + 1) tables.named.items
     → Holds (kept_array class.pool arrays) (length class.pool + 1) tables.made.items
-    → tables.constants.items ≡ map (value_told texts) class.values.items
+    → tables.constants.items ≡ map (value_told texts class.pool) class.values.items
     → AreOfClass (imaged_of types parts texts) class tables
 class_is types parts texts class object classes arrays places tables fit are told valid by_class by_array by_place o n m c =
     let imaged : Imaged = imaged_of types parts texts in
@@ -69,7 +93,7 @@ class_is types parts texts class object classes arrays places tables fit are tol
       operands_are = record { count = o.all; each = λ i lt. o.each i lt ∙ ap Some (operand_kept imaged types like class.pool valid are object told classes places by_class by_place i) };
       named_are = record { count = n.all; each = λ i lt. n.each i lt ∙ ap Some (named_kept imaged types like class.pool valid classes by_class i) };
       made_are = record { count = m.all; each = λ i lt. m.each i lt ∙ ap Some (made_kept imaged types like class.pool valid arrays by_array i) };
-      constants_are = c ∙ values_are imaged class.values.items;
+      constants_are = c ∙ values_are imaged class.pool class.values.items;
     }
 
 -- ---- more and more classes
@@ -93,7 +117,7 @@ module _ (imaged : Imaged) (p : ClassParts) where
   made_more (q ∷ ps) [] t all one = absurd all
   made_more (q ∷ ps) (u ∷ ts) t all one = (all.0, made_more ps ts t all.1 one)
 
-  constants_more : (ps : List ClassParts) (ts : List (Vec Operand)) (t : Vec Operand) → AreConstantTables imaged ps ts → t.items ≡ map (field_operand_of imaged) p.values.items → AreConstantTables imaged (ps ++ p ∷ []) (ts ++ t ∷ [])
+  constants_more : (ps : List ClassParts) (ts : List (Vec Operand)) (t : Vec Operand) → AreConstantTables imaged ps ts → t.items ≡ map (field_operand_of imaged p.pool) p.values.items → AreConstantTables imaged (ps ++ p ∷ []) (ts ++ t ∷ [])
   constants_more [] [] t all one = (one, tt)
   constants_more [] (u ∷ ts) t all one = absurd all
   constants_more (q ∷ ps) [] t all one = absurd all

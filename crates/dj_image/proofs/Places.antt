@@ -176,20 +176,20 @@ method_at_place (c ∷ classes) (p ∷ parts) (suc class) member fit within =
 
 -- ---- fields of a program
 
-record IsValueRow (fields : List Field) (values : List (Option FieldValue)) (member : ℕ) : Type 0 where
+record IsValueRow (pool : List Constant) (fields : List Field) (values : List (Option FieldValue)) (member : ℕ) : Type 0 where
   field : Field
   value : Option FieldValue
   there : slice_get fields member ≡ Some field
   kept : slice_get values member ≡ Some value
-  whole : slice_get (with_values fields (map (option_map constant_of_value) values)) member ≡ Some (record field { constant = option_map constant_of_value value })
+  whole : slice_get (with_values fields (map (option_map (constant_of_value pool)) values)) member ≡ Some (record field { constant = option_map (constant_of_value pool) value })
 
-value_row_of : (fields : List Field) (values : List (Option FieldValue)) (member : ℕ) → length values ≡ length fields → member < length fields
-    → IsValueRow fields values member
-value_row_of [] values member count within = absurd (omega arith)
-value_row_of (f ∷ fields) [] member count within = absurd (omega arith)
-value_row_of (f ∷ fields) (value ∷ values) zero count within = record { field = f; value = value; there = refl; kept = refl; whole = refl }
-value_row_of (f ∷ fields) (value ∷ values) (suc k) count within =
-    let row = value_row_of fields values k (omega arith) (omega arith) in
+value_row_of : (pool : List Constant) (fields : List Field) (values : List (Option FieldValue)) (member : ℕ) → length values ≡ length fields → member < length fields
+    → IsValueRow pool fields values member
+value_row_of pool [] values member count within = absurd (omega arith)
+value_row_of pool (f ∷ fields) [] member count within = absurd (omega arith)
+value_row_of pool (f ∷ fields) (value ∷ values) zero count within = record { field = f; value = value; there = refl; kept = refl; whole = refl }
+value_row_of pool (f ∷ fields) (value ∷ values) (suc k) count within =
+    let row = value_row_of pool fields values k (omega arith) (omega arith) in
     record { field = row.field; value = row.value; there = row.there; kept = row.kept; whole = row.whole }
 
 with_values_count : (fields : List Field) (values : List (Option programs.Constant)) → length (with_values fields values) ≡ length fields
@@ -206,7 +206,7 @@ pub record IsFieldAt (program : Program) (parts : List ClassParts) (class member
   pub value : Option FieldValue
   pub kept : slice_get part.values.items member ≡ Some value
   pub whole : slice_get (all_fields (program_of_sources (sources_of program parts))) (fields_before program class + member)
-      ≡ Some (record { class = name; field = record field { constant = option_map constant_of_value value } })
+      ≡ Some (record { class = name; field = record field { constant = option_map (constant_of_value part.pool) value } })
 
 abbrev found_field_of : Name → Field → FoundField
 found_field_of name f = record { class = name; field = f }
@@ -215,7 +215,7 @@ first_field_at : (c : Class) (classes : Program) (p : ClassParts) (parts : List 
     → IsFieldAt (c ∷ classes) (p ∷ parts) 0 member
 unfolding all_fields sources_of class_of_source
 first_field_at c classes p parts member fit within =
-    let row = value_row_of c.fields p.values.items member fit.fields within in
+    let row = value_row_of p.pool c.fields p.values.items member fit.fields within in
     let at : fields_before (c ∷ classes) 0 + member ≡ member = omega arith in
     record {
       part = p;
@@ -226,8 +226,8 @@ first_field_at c classes p parts member fit within =
       kept = row.kept;
       whole = ap (λ (k : ℕ). slice_get (all_fields (program_of_sources (sources_of (c ∷ classes) (p ∷ parts)))) k) at
           ∙ front_get (fields_in (class_of_source (source_of c p))) (all_fields (program_of_sources (sources_of classes parts))) member
-          (found_field_of c.name (record row.field { constant = option_map constant_of_value row.value }))
-          (slice_get-map (found_field_of c.name) (with_values c.fields (map (option_map constant_of_value) p.values.items)) member
+          (found_field_of c.name (record row.field { constant = option_map (constant_of_value p.pool) row.value }))
+          (slice_get-map (found_field_of c.name) (with_values c.fields (map (option_map (constant_of_value p.pool)) p.values.items)) member
           ∙ ap (option_map (found_field_of c.name)) row.whole);
     }
 
@@ -240,8 +240,8 @@ next_field_at c classes p parts class member row =
     ∙ ap (λ (n : ℕ). n + fields_before classes class) (length-map c.fields (found_field_of c.name)) in
     let at : fields_before (c ∷ classes) (suc class) + member ≡ length c.fields + (fields_before classes class + member) = omega arith in
     let whole_front : length (fields_in (class_of_source (source_of c p))) ≡ length c.fields =
-    length-map (with_values c.fields (map (option_map constant_of_value) p.values.items)) (found_field_of c.name)
-    ∙ with_values_count c.fields (map (option_map constant_of_value) p.values.items) in
+    length-map (with_values c.fields (map (option_map (constant_of_value p.pool)) p.values.items)) (found_field_of c.name)
+    ∙ with_values_count c.fields (map (option_map (constant_of_value p.pool)) p.values.items) in
     record {
       part = row.part;
       own = row.own;

@@ -1,5 +1,5 @@
 -- Sets of texts that grow.
-use Rattle.std.proofs.Common.{◌≡◌, ◌↔◌, ℕ, ◌+◌, ◌<◌, ◌≤◌, ◌⊎◌, Bool, true, false, List, [], ◌∷◌, ◌++◌, map, take, length, get_or, Option, None, refl, sym, ap, subst, ◌∙◌, inl, inr, Contains, Ordering}
+use Rattle.std.proofs.Common.{◌≡◌, ◌↔◌, ℕ, ◌+◌, ◌<◌, ◌≤◌, ◌⊎◌, Bool, true, false, List, [], ◌∷◌, ◌++◌, map, take, length, get_or, Option, Some, None, refl, sym, ap, subst, ◌∙◌, inl, inr, Contains, Ordering}
 use Rattle.std.specs.declared.cmp.Ordering.TheVariants.{Less, Equal, Greater}
 use Rattle.std.specs.Global.{Vec}
 use Rattle.std.specs.Prelude.{◌||◌, Result, Ok, Err, OnOk}
@@ -13,11 +13,15 @@ use Rattle.std.proofs.lemmas.List.{take_all, append_assoc, append-nil}
 use Rattle.std.proofs.lemmas.List.Elements.{Contains-append_left, Contains-push, Contains-push_cases, All-get_or, All-from_recursion}
 use Rattle.dj_names.specs.Types.{Name}
 use Rattle.dj_pool.specs.Pool.{Constant}
+use Rattle.dj_declared.specs.Files.{name_in}
+use Rattle.dj_program.specs.Naming.{units_in}
 use Rattle.dj_image.specs.declared.parts.ClassParts.{ClassParts}
+use Rattle.dj_image.specs.declared.parts.FieldValue.{FieldValue}
+use Rattle.dj_image.specs.declared.parts.FieldValue.TheVariants as values
 use Rattle.dj_image.specs.declared.uses.Use.{Use}
 use Rattle.dj_image.specs.declared.uses.Use.TheVariants as uses
-use Rattle.dj_image.specs.Uses.{SameMembers, class_uses, pushed_text}
-use Rattle.dj_image.specs.Texts.{key_items, RiseStrictly, HasPool, class_texts, texts_in, texts_of}
+use Rattle.dj_image.specs.Uses.{SameMembers, pushed_text, value_use, value_uses}
+use Rattle.dj_image.specs.Texts.{key_items, RiseStrictly, HasPool, value_texts, texts_in, texts_of}
 use Rattle.dj_image.proofs.RowFacts.{same_items}
 use Rattle.dj_image.proofs.Members.{member_first, member_later, member_cases, same_append, same_filter_map}
 use Rattle.std.specs.Option.{option_to_list}
@@ -87,11 +91,28 @@ text_more old new key units all is key_is same = subst (λ (ks : List (Vec ℕ))
 
 -- ---- of a class, and of all
 
-pub same_texts : (parts : ClassParts) (uses listed : List Use) (all now : List Name) → SameMembers uses (class_uses parts) → listed ≡ uses → SameMembers now (all ++ filter_map (pushed_text parts.pool) listed) → SameMembers now (all ++ class_texts parts)
-same_texts parts uses listed all now kept is same =
-    let members : SameMembers listed (class_uses parts) = subst (λ (us : List Use). SameMembers us (class_uses parts)) (sym is) kept in
-    same_joined now (all ++ filter_map (pushed_text parts.pool) listed) (all ++ class_texts parts) same
-    (same_append all all (filter_map (pushed_text parts.pool) listed) (class_texts parts) (same_itself all) (same_filter_map (pushed_text parts.pool) listed (class_uses parts) members))
+-- what uses push, of which these are listed
+pub same_texts : (pool : List Constant) (own uses listed : List Use) (all now : List Name) → SameMembers uses own → listed ≡ uses → SameMembers now (all ++ filter_map (pushed_text pool) listed)
+    → SameMembers now (all ++ filter_map (pushed_text pool) own)
+same_texts pool own uses listed all now kept is same =
+    let members : SameMembers listed own = subst (λ (us : List Use). SameMembers us own) (sym is) kept in
+    same_joined now (all ++ filter_map (pushed_text pool) listed) (all ++ filter_map (pushed_text pool) own) same
+    (same_append all all (filter_map (pushed_text pool) listed) (filter_map (pushed_text pool) own) (same_itself all) (same_filter_map (pushed_text pool) listed own members))
+
+-- the texts with which fields begin are those of their uses
+texts_by_use : (pool : List Constant) (vs : List (Option FieldValue)) → filter_map (pushed_text pool) (filter_map value_use vs) ≡ value_texts pool vs
+texts_by_use pool [] = refl
+texts_by_use pool (None ∷ vs) = texts_by_use pool vs
+texts_by_use pool (Some (values.Int z) ∷ vs) = texts_by_use pool vs
+texts_by_use pool (Some (values.Long z) ∷ vs) = texts_by_use pool vs
+texts_by_use pool (Some values.Unfit ∷ vs) = texts_by_use pool vs
+texts_by_use pool (Some (values.Text index) ∷ vs) = ap (λ (texts : List Name). units_in (name_in pool index) ∷ texts) (texts_by_use pool vs)
+
+pub same_values : (parts : ClassParts) (uses listed : List Use) (all now : List Name) → SameMembers uses (value_uses parts) → listed ≡ uses → SameMembers now (all ++ filter_map (pushed_text parts.pool) listed)
+    → SameMembers now (all ++ value_texts parts.pool parts.values.items)
+same_values parts uses listed all now kept is same =
+    subst (λ (texts : List Name). SameMembers now (all ++ texts)) (texts_by_use parts.pool parts.values.items)
+    (same_texts parts.pool (value_uses parts) uses listed all now kept is same)
 
 pub class_text_step : (parts : List ClassParts) (i : ℕ) (d one : ClassParts) (now : List Name) → i < length parts → one ≡ get_or parts i d → SameMembers now (texts_of (take i parts) ++ texts_in one) → SameMembers now (texts_of (take (i + 1) parts))
 class_text_step parts i d one now within is same =

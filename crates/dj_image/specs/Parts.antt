@@ -10,6 +10,7 @@ use Rattle.dj_declared.specs.Files.{desc_in, name_in}
 use Rattle.dj_declared.specs.Members.{IsDescriptor}
 use Rattle.dj_classes.specs.Tables.{class_number}
 use Rattle.dj_shape.specs.Pools.{ArePoolKinds}
+use Rattle.dj_program.specs.Naming.{units_in}
 use Rattle.dj_program.specs.Views.{parts_of}
 use Rattle.dj_types.specs.Members.{all_methods, all_fields}
 use Rattle.dj_image.specs.declared.parts.ClassParts.{ClassParts}
@@ -17,18 +18,19 @@ use Rattle.dj_image.specs.declared.parts.FieldValue.{FieldValue}
 use Rattle.dj_image.specs.declared.parts.FieldValue.TheVariants as values
 use Rattle.dj_image.specs.Sources.{Source, program_of_sources}
 
-abbrev pub constant_of_value : FieldValue → programs.Constant
-constant_of_value (values.Int z) = programs.Int z
-constant_of_value (values.Long z) = programs.Long z
-constant_of_value (values.Text units) = programs.Text units
-constant_of_value values.Unfit = programs.Unfit
+-- that of a text is told by its index among the constants of the class
+abbrev pub constant_of_value : List Constant → FieldValue → programs.Constant
+constant_of_value pool (values.Int z) = programs.Int z
+constant_of_value pool (values.Long z) = programs.Long z
+constant_of_value pool (values.Text index) = programs.Text (units_in (name_in pool index))
+constant_of_value pool values.Unfit = programs.Unfit
 
 abbrev pub source_of : Class → ClassParts → Source
 source_of class parts = record {
   class = class;
   pool = parts.pool;
   codes = map (option_map parts_of) parts.codes.items;
-  values = map (option_map constant_of_value) parts.values.items;
+  values = map (option_map (constant_of_value parts.pool)) parts.values.items;
 }
 
 -- classes side by side with their parts

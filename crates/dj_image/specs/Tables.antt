@@ -47,12 +47,12 @@ AreMadeTables imaged (p ∷ parts) (kept ∷ tables) = IsMadeTable imaged p.pool
 AreMadeTables imaged parts tables = ⊥
 
 -- of each field what its constant is as an operand
-abbrev pub field_operand_of : Imaged → Option FieldValue → Operand
-field_operand_of imaged value = value_operand imaged (option_map constant_of_value value)
+abbrev pub field_operand_of : Imaged → List Constant → Option FieldValue → Operand
+field_operand_of imaged pool value = value_operand imaged (option_map (constant_of_value pool) value)
 
 abbrev pub AreConstantTables : Imaged → List ClassParts → List (Vec Operand) → Type 0
 AreConstantTables imaged [] [] = ⊤
-AreConstantTables imaged (p ∷ parts) (kept ∷ tables) = (kept.items ≡ map (field_operand_of imaged) p.values.items) × AreConstantTables imaged parts tables
+AreConstantTables imaged (p ∷ parts) (kept ∷ tables) = (kept.items ≡ map (field_operand_of imaged p.pool) p.values.items) × AreConstantTables imaged parts tables
 AreConstantTables imaged parts tables = ⊥
 
 pub record AreTables (types : Typed) (parts : List ClassParts) (texts : List (List ℕ)) (operands : List (Vec Operand)) (named made : List (Vec (Option ℕ))) (constants : List (Vec Operand)) : Type 0 where

@@ -6,7 +6,9 @@ use Rattle.std.specs.Cmp.Lexicographic.{slice_cmp}
 use Rattle.std.specs.List.{flat_map, filter_map}
 use Rattle.std.specs.List.Sorted.{IsStrictlySortedBy}
 use Rattle.std.specs.BTreeSet.{BTreeSet}
-use Rattle.dj_pool.specs.Pool.{IsPool}
+use Rattle.dj_pool.specs.Pool.{Constant, IsPool}
+use Rattle.dj_declared.specs.Files.{name_in}
+use Rattle.dj_program.specs.Naming.{units_in}
 use Rattle.dj_image.specs.declared.parts.ClassParts.{ClassParts}
 use Rattle.dj_image.specs.declared.parts.FieldValue.{FieldValue}
 use Rattle.dj_image.specs.declared.parts.FieldValue.TheVariants as values
@@ -16,12 +18,13 @@ use Rattle.dj_image.specs.Uses.{class_uses, pushed_text, SameMembers}
 abbrev pub class_texts : ClassParts → List (List ℕ)
 class_texts parts = filter_map (pushed_text parts.pool) (class_uses parts)
 
-abbrev pub value_text : Option FieldValue → Option (List ℕ)
-value_text (Some (values.Text units)) = Some units
-value_text value = None
+-- that with which a field of a class with these constants begins
+abbrev pub value_text : List Constant → Option FieldValue → Option (List ℕ)
+value_text pool (Some (values.Text index)) = Some (units_in (name_in pool index))
+value_text pool value = None
 
-abbrev pub value_texts : List (Option FieldValue) → List (List ℕ)
-value_texts values = filter_map value_text values
+abbrev pub value_texts : List Constant → List (Option FieldValue) → List (List ℕ)
+value_texts pool values = filter_map (value_text pool) values
 
 abbrev pub key_items : Vec ℕ → List ℕ
 key_items key = key.items
@@ -31,7 +34,7 @@ abbrev pub AreTexts : List (List ℕ) → BTreeSet (Vec ℕ) → Type 0
 AreTexts all texts = SameMembers (map key_items texts.keys) all
 
 abbrev pub texts_in : ClassParts → List (List ℕ)
-texts_in p = class_texts p ++ value_texts p.values.items
+texts_in p = class_texts p ++ value_texts p.pool p.values.items
 
 abbrev pub texts_of : List ClassParts → List (List ℕ)
 texts_of parts = flat_map texts_in parts

@@ -1,4 +1,4 @@
--- Which constants instructions use, by the indexes of the texts that these name.
+-- Which constants instructions and fields use, by the indexes of the texts that these name.
 use Rattle.std.specs.Prelude.{◌≡◌, ◌↔◌, ℕ, Bool, true, false, List, [], ◌∷◌, Option, Some, None, Contains, nat_eq, if◌then◌else◌, slice_get, option_and_then, unwrap_or, ◌+◌, ◌*◌}
 use Rattle.std.specs.Option.{option_map}
 use Rattle.std.specs.List.{flat_map, filter_map}
@@ -16,6 +16,8 @@ use Rattle.dj_program.specs.declared.code.MethodCode.{MethodCode}
 use Rattle.dj_image.specs.declared.uses.Use.{Use}
 use Rattle.dj_image.specs.declared.uses.Use.TheVariants as uses
 use Rattle.dj_image.specs.declared.parts.ClassParts.{ClassParts}
+use Rattle.dj_image.specs.declared.parts.FieldValue.{FieldValue}
+use Rattle.dj_image.specs.declared.parts.FieldValue.TheVariants as values
 
 -- ---- of an instruction
 
@@ -74,6 +76,15 @@ class_types p = filter_map (used_type p.pool) (class_uses p)
 -- the types that instructions of the classes use
 abbrev pub used_types : List ClassParts → List Ty
 used_types parts = flat_map class_types parts
+
+-- ---- of all fields
+
+abbrev pub value_use : Option FieldValue → Option Use
+value_use (Some (values.Text text)) = Some (uses.Pushed text)
+value_use value = None
+
+abbrev pub value_uses : ClassParts → List Use
+value_uses parts = filter_map value_use parts.values.items
 
 -- ---- lists of the same
 

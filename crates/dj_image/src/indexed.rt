@@ -112,8 +112,8 @@ pub(crate) fn text_arrays(
     Ok(kept)
 }
 
-/// The number of the text of these units, by halving.
-pub(crate) fn place_of(texts: &[Units], units: &[u16]) -> Option<u32>
+// The number of the text of these units, by halving.
+fn place_of(texts: &[Units], units: &[u16]) -> Option<u32>
     requires rise { RiseStrictly texts.now }
     requires few { length texts.now < 2 ^ 32 }
     ensures { result ≡ units_number texts.now units.now }

@@ -1,5 +1,4 @@
 use crate::owned::OwnedPool;
-use dj_names::Units;
 use dj_program::MethodCode;
 use dj_shape::PoolKinds;
 
@@ -8,7 +7,8 @@ use dj_shape::PoolKinds;
 pub enum FieldValue {
     Int(i32),
     Long(i64),
-    Text(Units),
+    /// A text, by its index among the constants of the class.
+    Text(u16),
     /// A constant of another kind, which sets nothing.
     Unfit,
 }

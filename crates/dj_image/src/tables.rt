@@ -1,18 +1,20 @@
-ghost use Rattle.std.specs.Prelude.{◌≡◌, ◌++◌, ◌∷◌, [], ◌<◌, ◌^◌, List, length, map, IfOk, OnOk};
+ghost use Rattle.std.specs.Prelude.{◌≡◌, ℕ, ◌+◌, ◌++◌, ◌∷◌, [], ◌<◌, ◌^◌, List, length, map, IfOk, OnOk};
 ghost use Rattle.dj_pool.specs.Pool.{IsPool};
 ghost use Rattle.dj_model.specs.Types.{object_name};
 ghost use Rattle.dj_classes.specs.Tables.{class_number};
 ghost use Rattle.dj_types.specs.Typed.{AreArrays};
 ghost use Rattle.dj_image.specs.declared.parts.ClassParts.{ClassParts};
-ghost use Rattle.dj_image.specs.Gathered.{value_told, AreOfClass, AreOfClasses};
+ghost use Rattle.dj_image.specs.Gathered.{text_at_index, value_told, AreOfClass, AreOfClasses};
+ghost use Rattle.dj_image.specs.Indexed.{Holds, text_place};
 ghost use Rattle.dj_image.specs.Parts.{FitClasses};
 ghost use Rattle.dj_image.specs.Tables.{imaged_of};
 ghost use Rattle.dj_image.specs.Texts.{RiseStrictly};
 
 use crate::error::ImageError;
-use crate::indexed::{made_table, named_table, place_of, text_arrays, text_classes, text_places};
+use crate::indexed::{made_table, named_table, number_at, text_arrays, text_classes, text_places};
 use crate::operand::Operand;
 use crate::operands::{operand_table, text_operand};
+use crate::owned::OwnedPool;
 use crate::parts::{ClassParts, FieldValue};
 use dj_names::Units;
 use dj_types::Types;
@@ -36,33 +38,44 @@ pub(crate) struct Tables {
     pub(crate) constants: Vec<Vec<Operand>>,
 }
 
+// The text at an index as an operand, by the numbers of texts; there is no memory for one that isn't there.
+fn text_kept(pool: &OwnedPool, places: &[Option<u32>], index: u16) -> Result<Operand, ImageError>
+    ensures { (texts : List (List ℕ)) → Holds (text_place texts pool.now) (length pool.now + 1) places.now → IfOk result (λ operand. operand ≡ text_at_index texts pool.now index) }
+{
+    match pool.text(index) {
+        Some(_) => Ok(text_operand(number_at(places, index))),
+        None => Err(ImageError::Memory),
+    }
+}
+
 // What the constant with which a field begins is as an operand.
-fn value_operand(texts: &[Units], value: &Option<FieldValue>) -> Operand
-    requires rise { RiseStrictly texts.now }
-    requires few { length texts.now < 2 ^ 32 }
-    ensures { result ≡ value_told texts.now value.now }
+fn value_operand(
+    pool: &OwnedPool,
+    places: &[Option<u32>],
+    value: &Option<FieldValue>,
+) -> Result<Operand, ImageError>
+    ensures { (texts : List (List ℕ)) → Holds (text_place texts pool.now) (length pool.now + 1) places.now → IfOk result (λ operand. operand ≡ value_told texts pool.now value.now) }
 {
     match value {
-        None => Operand::Nothing,
-        Some(FieldValue::Int(n)) => Operand::Int(*n),
-        Some(FieldValue::Long(n)) => Operand::Long(*n),
-        Some(FieldValue::Text(units)) => text_operand(place_of(texts, units.as_slice())),
-        Some(FieldValue::Unfit) => Operand::Unresolved,
+        None => Ok(Operand::Nothing),
+        Some(FieldValue::Int(n)) => Ok(Operand::Int(*n)),
+        Some(FieldValue::Long(n)) => Ok(Operand::Long(*n)),
+        Some(FieldValue::Text(index)) => text_kept(pool, places, *index),
+        Some(FieldValue::Unfit) => Ok(Operand::Unresolved),
     }
 }
 
 fn constant_table(
     alloc: Global,
-    texts: &[Units],
+    pool: &OwnedPool,
+    places: &[Option<u32>],
     values: &[Option<FieldValue>],
 ) -> Result<Vec<Operand>, ImageError>
-    requires rise { RiseStrictly texts.now }
-    requires few { length texts.now < 2 ^ 32 }
-    ensures { IfOk result (λ kept. kept.items ≡ map (value_told texts.now) values.now) }
+    ensures { (texts : List (List ℕ)) → Holds (text_place texts pool.now) (length pool.now + 1) places.now → IfOk result (λ kept. kept.items ≡ map (value_told texts pool.now) values.now) }
 {
     let mut kept = Vec::new(alloc);
     for value in values {
-        kept.push(value_operand(texts, value))?;
+        kept.push(value_operand(pool, places, value)?)?;
     }
     Ok(kept)
 }
@@ -88,7 +101,7 @@ fn class_tables(
     let operands = operand_table(alloc, types, &class.pool, &places, &classes, object)?;
     let named = named_table(alloc, &class.pool, &classes)?;
     let made = made_table(alloc, &class.pool, &arrays)?;
-    let constants = constant_table(alloc, texts, &class.values)?;
+    let constants = constant_table(alloc, &class.pool, &places, &class.values)?;
     Ok(ClassTables {
         operands,
         named,

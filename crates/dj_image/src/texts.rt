@@ -1,16 +1,16 @@
 ghost use Rattle.std.specs.Prelude.{◌≡◌, ℕ, ◌∷◌, ◌++◌, [], List, map, IfOk, OnOk};
-ghost use Rattle.std.specs.Option.{option_copied, option_to_list};
-ghost use Rattle.std.specs.List.{AllByRecursion};
+ghost use Rattle.std.specs.Option.{option_to_list};
+ghost use Rattle.std.specs.List.{AllByRecursion, filter_map};
 ghost use Rattle.dj_pool.specs.Pool.{IsPool};
 ghost use Rattle.dj_declared.specs.Files.{name_in};
 ghost use Rattle.dj_program.specs.Naming.{units_in};
-ghost use Rattle.dj_image.specs.Texts.{AreTexts, RiseStrictly, HasPool, class_texts, value_text, value_texts, key_items, texts_in, texts_of};
+ghost use Rattle.dj_image.specs.Texts.{AreTexts, RiseStrictly, HasPool, class_texts, value_texts, key_items, texts_in, texts_of};
 ghost use Rattle.dj_image.specs.Uses.{SameMembers, pushed_text};
 
 use crate::error::ImageError;
 use crate::owned::OwnedPool;
-use crate::parts::{ClassParts, FieldValue};
-use crate::uses::{Use, class_uses};
+use crate::parts::ClassParts;
+use crate::uses::{Use, class_uses, value_uses};
 use dj_names::{Units, units_of};
 use std::alloc::Global;
 use std::collections::BTreeSet;
@@ -59,6 +59,21 @@ fn add_use(
     }
 }
 
+// Adds what uses push.
+fn add_uses(
+    alloc: Global,
+    texts: &mut BTreeSet<Vec<u16>>,
+    pool: &OwnedPool,
+    uses: &[Use],
+) -> Result<(), ImageError>
+    ensures { (all : List (List ℕ)) → AreTexts all texts.old → OnOk result (AreTexts (all ++ filter_map (pushed_text pool.now) uses.now) texts.new) }
+{
+    for one in uses {
+        add_use(alloc, texts, pool, *one)?;
+    }
+    Ok(())
+}
+
 // Adds what the instructions of a class push.
 fn add_pushed(
     alloc: Global,
@@ -69,48 +84,20 @@ fn add_pushed(
     ensures { (all : List (List ℕ)) → AreTexts all texts.old → OnOk result (AreTexts (all ++ class_texts parts.now) texts.new) }
 {
     let uses = class_uses(alloc, parts)?;
-    for one in &uses {
-        add_use(alloc, texts, &parts.pool, *one)?;
-    }
-    Ok(())
-}
-
-// The text with which a field begins, where it begins with one.
-fn value_text(value: &Option<FieldValue>) -> Option<&[u16]>
-    ensures { option_copied result ≡ value_text value.now }
-{
-    match value {
-        Some(FieldValue::Text(units)) => Some(units.as_slice()),
-        _ => None,
-    }
-}
-
-// Adds a text, where there is one.
-fn add_some(
-    alloc: Global,
-    texts: &mut BTreeSet<Vec<u16>>,
-    text: Option<&[u16]>,
-) -> Result<(), ImageError>
-    ensures { (all : List (List ℕ)) → AreTexts all texts.old → OnOk result (AreTexts (all ++ option_to_list (option_copied text.entry)) texts.new) }
-{
-    match text {
-        Some(units) => add_text(alloc, texts, units),
-        None => Ok(()),
-    }
+    add_uses(alloc, texts, &parts.pool, &uses)
 }
 
 // Adds the texts with which the fields of a class begin.
 fn add_values(
     alloc: Global,
     texts: &mut BTreeSet<Vec<u16>>,
-    values: &[Option<FieldValue>],
+    parts: &ClassParts,
 ) -> Result<(), ImageError>
-    ensures { (all : List (List ℕ)) → AreTexts all texts.old → OnOk result (AreTexts (all ++ value_texts values.now) texts.new) }
+    requires { IsPool parts.now.pool }
+    ensures { (all : List (List ℕ)) → AreTexts all texts.old → OnOk result (AreTexts (all ++ value_texts parts.now.pool parts.now.values.items) texts.new) }
 {
-    for value in values {
-        add_some(alloc, texts, value_text(value))?;
-    }
-    Ok(())
+    let uses = value_uses(alloc, parts)?;
+    add_uses(alloc, texts, &parts.pool, &uses)
 }
 
 // The texts of a set, in the order of their units.
@@ -135,7 +122,7 @@ fn add_class(
     ensures { (all : List (List ℕ)) → AreTexts all texts.old → OnOk result (AreTexts (all ++ texts_in class.now) texts.new) }
 {
     add_pushed(alloc, texts, class)?;
-    add_values(alloc, texts, &class.values)
+    add_values(alloc, texts, class)
 }
 
 /// The texts that have numbers, each once, in the order of their units.

@@ -1,16 +1,17 @@
 ghost use Rattle.std.specs.Prelude.{◌≡◌, ◌<◌, ◌^◌, ◌∷◌, ◌++◌, [], List, length, IfOk, OnOk, Some, true, set};
+ghost use Rattle.std.specs.List.{filter_map};
 ghost use Rattle.dj_image.specs.Owned.{constant_of_owned};
-ghost use Rattle.dj_image.specs.Uses.{class_use, literal_use, use_in, code_uses, class_uses, use_place, was_seen, SameMembers, AreSeen};
+ghost use Rattle.dj_image.specs.Uses.{class_use, literal_use, use_in, code_uses, class_uses, value_use, value_uses, use_place, was_seen, SameMembers, AreSeen};
 ghost use Rattle.dj_image.specs.declared.uses.Use.{Use};
 
 use crate::error::ImageError;
 use crate::owned::{OwnedEntry, OwnedPool};
-use crate::parts::ClassParts;
+use crate::parts::{ClassParts, FieldValue};
 use dj_ops::Instr;
 use dj_program::MethodCode;
 use std::alloc::Global;
 
-/// What an instruction uses of the constants, by the index of a text.
+/// What an instruction or a field uses of the constants, by the index of a text.
 #[derive(Clone, Copy, Debug)]
 pub(crate) enum Use {
     /// The class or the array that the text of a class constant names.
@@ -19,7 +20,7 @@ pub(crate) enum Use {
     Element(u16),
     /// An array of a base type, by its code (JVMS table 6.5.newarray-A).
     Base(u8),
-    /// A text that is pushed.
+    /// A text that is pushed or with which a field begins.
     Pushed(u16),
 }
 
@@ -134,5 +135,44 @@ pub(crate) fn class_uses(alloc: Global, parts: &ClassParts) -> Result<Vec<Use>, 
             note_code(&parts.pool, &mut seen, &mut listed, code)?;
         }
     }
+    Ok(listed)
+}
+
+// ---- of the fields
+
+fn value_use(value: &Option<FieldValue>) -> Option<Use>
+    ensures { result ≡ value_use value.now }
+{
+    match value {
+        Some(FieldValue::Text(index)) => Some(Use::Pushed(*index)),
+        _ => None,
+    }
+}
+
+// Lists the texts with which fields begin.
+fn note_values(
+    seen: &mut [bool],
+    listed: &mut Vec<Use>,
+    values: &[Option<FieldValue>],
+) -> Result<(), ImageError>
+    requires { AreSeen seen.old listed.old.items }
+    ensures { (all : List Use) → SameMembers listed.old.items all → OnOk result (SameMembers listed.new.items (all ++ filter_map value_use values.now)) }
+{
+    for value in values {
+        if let Some(one) = value_use(value) {
+            note(seen, listed, one)?;
+        }
+    }
+    Ok(())
+}
+
+/// The texts with which the fields of a class begin, each index once.
+pub(crate) fn value_uses(alloc: Global, parts: &ClassParts) -> Result<Vec<Use>, ImageError>
+    requires { length parts.now.pool < 2 ^ 16 }
+    ensures { IfOk result (λ listed. SameMembers listed.items (value_uses parts.now)) }
+{
+    let mut seen = vec![in alloc; false; 4 * (parts.pool.len() + 256)]?;
+    let mut listed = Vec::new(alloc);
+    note_values(&mut seen, &mut listed, &parts.values)?;
     Ok(listed)
 }

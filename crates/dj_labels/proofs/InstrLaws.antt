@@ -1,89 +1,96 @@
 -- The pass over the instructions, with the targets so far replaced.
-use Rattle.std.proofs.Common.{◌≡◌, ℕ, ◌+◌, ◌<◌, ◌≤◌, List, [], ◌∷◌, ◌++◌, length, take, get_or, slice_get, Some, refl, sym, ap, subst, ◌∙◌, arith}
+use Rattle.std.proofs.Common.{◌≡◌, ℕ, ◌+◌, ◌<◌, ◌≤◌, List, [], ◌∷◌, ◌++◌, length, take, set, get_or, Some, refl, sym, ap, subst, ◌∙◌, arith}
 use Rattle.std.specs.List.{AllByRecursion}
-use Rattle.std.proofs.lemmas.List.{map_push, take_more, take_all}
-use Rattle.std.proofs.lemmas.Option.{slice_get-get_or, slice_get_within, get_or_from_slice_get}
+use Rattle.std.proofs.lemmas.List.{map_push, take_more, take_more_set, take_all, length-set, get_or-set_other}
+use Rattle.std.proofs.lemmas.Option.{slice_get-get_or}
 use Rattle.dj_ops.specs.declared.instruction.Instr.{Instr}
-use Rattle.dj_ops.specs.Instructions.{Stands}
-use Rattle.dj_ops.proofs.Whole.{one_at}
+use Rattle.dj_ops.specs.declared.instruction.Instr.TheVariants as instrs
 use Rattle.dj_labels.specs.declared.errors.CodeError.{CodeError}
 use Rattle.dj_labels.specs.declared.errors.CodeError.TheVariants as errors
-use Rattle.dj_labels.specs.Targets.{with_targets}
-use Rattle.dj_labels.specs.Labels.{IsCut, HasNumbers, address_of, addressed}
-use Rattle.dj_labels.specs.Faults.{HasStarts, IsTargetFault}
-use Rattle.dj_labels.specs.Passes.{AreStarts, StandsSome, IsInstrAt, IsJumpFault, IsInstrFault, AreInstrs, IsInstrsFault}
+use Rattle.dj_labels.specs.Targets.{targets_of, with_targets}
+use Rattle.dj_labels.specs.Labels.{HasNumbers, address_of, addressed}
+use Rattle.dj_labels.specs.Faults.{HasStarts}
+use Rattle.dj_labels.specs.Passes.{IsInstrOf, LacksStart, AreNumbered, IsNumberingFault}
 use Rattle.dj_labels.proofs.Lists.{each_more}
-use Rattle.dj_labels.proofs.Cuts.{StandsIn, one_stands, as_many}
 use Rattle.dj_labels.proofs.Numbers.{have_starts}
 
--- so many instructions of the code, with numbers for targets
-pub record DoneUpTo (code starts : List ℕ) (count : ℕ) (numbered : List Instr) : Type 0 where
-  pub instrs : List Instr
-  pub cut : IsCut code starts instrs (length code)
+-- so many of the instructions, with numbers for targets
+pub record DoneUpTo (starts : List ℕ) (instrs : List Instr) (count : ℕ) (numbered : List Instr) : Type 0 where
   pub done : addressed starts numbered ≡ take count instrs
   pub each : AllByRecursion (HasNumbers (length starts)) numbered
 
-pub done_none : (code starts : List ℕ) → AreStarts code starts → DoneUpTo code starts 0 []
-done_none code starts are = record { instrs = are.instrs; cut = are.cut; done = refl; each = tt }
+pub done_none : (starts : List ℕ) (instrs : List Instr) → DoneUpTo starts instrs 0 []
+done_none starts instrs = record { done = refl; each = tt }
 
-start_at : (starts : List ℕ) (i : ℕ) → i < length starts → slice_get starts i ≡ Some (get_or starts i 0)
-start_at starts i lt = slice_get-get_or starts i 0 lt
+pub done_more : (starts : List ℕ) (instrs : List Instr) (i : ℕ) (numbered : List Instr) (instr one : Instr) → i < length instrs → instr ≡ get_or instrs i instr → DoneUpTo starts instrs i numbered → IsInstrOf starts instr one → DoneUpTo starts instrs (i + 1) (numbered ++ one ∷ [])
+done_more starts instrs i numbered instr one lt here h is = record {
+  done =
+      map_push (with_targets (address_of starts)) numbered one
+      ∙ ap (λ (l : List Instr). l ++ with_targets (address_of starts) one ∷ []) h.done
+      ∙ ap (λ (x : Instr). take i instrs ++ x ∷ []) (is.start ∙ here)
+      ∙ sym (take_more instrs i instr lt);
+  each = each_more (HasNumbers (length starts)) numbered one h.each is.each;
+}
 
-pub some_stands : (code starts : List ℕ) (i : ℕ) → AreStarts code starts → i < length starts → StandsSome code (get_or starts i 0)
-some_stands code starts i are lt =
-    let one = one_stands code starts are.instrs (length code) i (get_or starts i 0) are.cut (start_at starts i lt) in
-    record { instr = one.instr; next = one.next; stands = one.stands }
+pub done_fault : (starts : List ℕ) (instrs : List Instr) (i at : ℕ) (numbered : List Instr) (instr : Instr) (e : CodeError) → i < length starts → at ≡ get_or starts i at → i < length instrs → instr ≡ get_or instrs i instr → DoneUpTo starts instrs i numbered → LacksStart starts at (targets_of instr) e → IsNumberingFault starts instrs e
+done_fault starts instrs i at numbered instr (errors.Target address) some there lt here h fault = record {
+  number = i;
+  stands_at = slice_get-get_or starts i at some ∙ ap (λ (n : ℕ). Some n) (sym there ∙ sym fault.0);
+  instr = instr;
+  first = record {
+    found = slice_get-get_or instrs i instr lt ∙ ap (λ (x : Instr). Some x) (sym here);
+    lacks = fault.1;
+    before = subst (AllByRecursion (HasStarts starts)) h.done (have_starts starts numbered h.each);
+  };
+}
+done_fault starts instrs i at numbered instr (errors.Op address) some there lt here h fault = fault
+done_fault starts instrs i at numbered instr (errors.Range number) some there lt here h fault = fault
+done_fault starts instrs i at numbered instr errors.Memory some there lt here h fault = tt
 
--- what stands at an address is the instruction of the cut
-same_instr : (code : List ℕ) (instrs : List Instr) (number at next : ℕ) (instr : Instr) (one : StandsIn code instrs number at) → Stands code at instr next → one.instr ≡ instr
-same_instr code instrs number at next instr one s = (one_at code at one.next next one.instr instr one.stands s).0
+pub done_all : (starts : List ℕ) (instrs : List Instr) (i : ℕ) (numbered : List Instr) → length instrs ≤ i → DoneUpTo starts instrs i numbered → AreNumbered starts instrs numbered
+done_all starts instrs i numbered past h = record { each = h.each; start = h.done ∙ take_all i instrs past }
 
-pub done_more : (code starts : List ℕ) (i : ℕ) (numbered : List Instr) (instr : Instr) → i < length starts → DoneUpTo code starts i numbered → IsInstrAt code starts (get_or starts i 0) instr → DoneUpTo code starts (i + 1) (numbered ++ instr ∷ [])
-done_more code starts i numbered instr lt h is =
-    let one = one_stands code starts h.instrs (length code) i (get_or starts i 0) h.cut (start_at starts i lt) in
-    let same : one.instr ≡ is.instr = same_instr code h.instrs i (get_or starts i 0) is.next is.instr one is.stands in
-    let within : i < length h.instrs = slice_get_within h.instrs i one.instr one.found in
-    let here : get_or h.instrs i instr ≡ is.instr = get_or_from_slice_get h.instrs i one.instr instr one.found ∙ same in
-    record {
-      instrs = h.instrs;
-      cut = h.cut;
-      done =
-          map_push (with_targets (address_of starts)) numbered instr
-          ∙ ap (λ (l : List Instr). l ++ with_targets (address_of starts) instr ∷ []) h.done
-          ∙ ap (λ (x : Instr). take i h.instrs ++ x ∷ []) (is.same.start ∙ sym here)
-          ∙ sym (take_more h.instrs i instr within);
-      each = each_more (HasNumbers (length starts)) numbered instr h.each is.same.each;
-    }
+-- ---- the instructions in their places
 
-jump_fault : (code starts : List ℕ) (i : ℕ) (numbered : List Instr) (address : ℕ) → i < length starts → DoneUpTo code starts i numbered → IsJumpFault code starts (get_or starts i 0) address → IsTargetFault code address
-jump_fault code starts i numbered address lt h fault =
-    let one = one_stands code starts h.instrs (length code) i (get_or starts i 0) h.cut (start_at starts i lt) in
-    let same : one.instr ≡ fault.instr = same_instr code h.instrs i (get_or starts i 0) fault.next fault.instr one fault.stands in
-    record {
-      starts = starts;
-      instrs = h.instrs;
-      cut = h.cut;
-      number = i;
-      stands_at = start_at starts i lt ∙ ap (λ (n : ℕ). Some n) (sym fault.same);
-      instr = one.instr;
-      first = record {
-        found = one.found;
-        lacks = λ has. fault.lacks (subst (HasStarts starts) same has);
-        before = subst (AllByRecursion (HasStarts starts)) h.done (have_starts starts numbered h.each);
-      };
-    }
+-- the first instructions have numbers for targets, so many, and the others are as they were
+pub record NumberedUpTo (starts : List ℕ) (old now : List Instr) (count : ℕ) : Type 0 where
+  pub same : length now ≡ length old
+  pub done : DoneUpTo starts old count (take count now)
+  pub rest : (i : ℕ) (none : Instr) → count ≤ i → get_or now i none ≡ get_or old i none
 
-pub done_fault : (code starts : List ℕ) (i : ℕ) (numbered : List Instr) (e : CodeError) → i < length starts → DoneUpTo code starts i numbered → IsInstrFault code starts (get_or starts i 0) e → IsInstrsFault code e
-done_fault code starts i numbered (errors.Target address) lt h fault = jump_fault code starts i numbered address lt h fault
-done_fault code starts i numbered (errors.Op address) lt h fault = fault
-done_fault code starts i numbered (errors.Range number) lt h fault = fault
-done_fault code starts i numbered errors.Memory lt h fault = tt
+pub numbered_none : (starts : List ℕ) (instrs : List Instr) → NumberedUpTo starts instrs instrs 0
+numbered_none starts instrs = record { same = refl; done = done_none starts instrs; rest = λ i none le. refl }
 
-pub done_all : (code starts : List ℕ) (i : ℕ) (numbered : List Instr) → length starts ≤ i → DoneUpTo code starts i numbered → AreInstrs code starts numbered
-done_all code starts i numbered past h =
-    let many : length starts ≡ length h.instrs = as_many code starts h.instrs (length code) h.cut.each in
-    let all : addressed starts numbered ≡ h.instrs = h.done ∙ take_all i h.instrs (omega (arith, many, past)) in
-    record { cut = subst (λ (l : List Instr). IsCut code starts l (length code)) (sym all) h.cut; each = h.each }
+pub numbered_more : (starts : List ℕ) (old now : List Instr) (i : ℕ) (instr one : Instr) → i < length old → instr ≡ get_or now i instr → NumberedUpTo starts old now i → IsInstrOf starts instr one → NumberedUpTo starts old (set now i one) (i + 1)
+numbered_more starts old now i instr one lt here h is = record {
+  same = length-set now i one ∙ h.same;
+  done =
+      subst (DoneUpTo starts old (i + 1)) (sym (take_more_set now i one (omega (arith, lt, h.same))))
+      (done_more starts old i (take i now) instr one lt (here ∙ h.rest i instr (omega arith)) h.done is);
+  rest = λ j none le. get_or-set_other now i j one none (λ e. absurd (omega (arith, le, e))) ∙ h.rest j none (omega (arith, le));
+}
 
-pub start_within : (code starts : List ℕ) (i : ℕ) → AreStarts code starts → i < length starts → get_or starts i 0 < length code
-start_within code starts i are lt = let one = some_stands code starts i are lt in omega (arith, one.stands.later, one.stands.within)
+pub numbered_fault : (starts : List ℕ) (old now : List Instr) (i at : ℕ) (instr : Instr) (e : CodeError) → i < length starts → at ≡ get_or starts i at → i < length old → instr ≡ get_or now i instr → NumberedUpTo starts old now i → LacksStart starts at (targets_of instr) e
+    → IsNumberingFault starts old e
+numbered_fault starts old now i at instr e some there lt here h fault = done_fault starts old i at (take i now) instr e some there lt (here ∙ h.rest i instr (omega arith)) h.done fault
+
+pub numbered_all : (starts : List ℕ) (old now : List Instr) (i : ℕ) → length old ≤ i → NumberedUpTo starts old now i → AreNumbered starts old now
+numbered_all starts old now i past h = subst (AreNumbered starts old) (take_all i now (omega (arith, past, h.same))) (done_all starts old i (take i now) past h.done)
+
+-- ---- an instruction without targets
+
+pub without_targets : (starts : List ℕ) (instr : Instr) → targets_of instr ≡ [] → IsInstrOf starts instr instr
+without_targets starts (instrs.Simple op) none = record { each = tt; start = refl }
+without_targets starts (instrs.Push op value) none = record { each = tt; start = refl }
+without_targets starts (instrs.Literal op index) none = record { each = tt; start = refl }
+without_targets starts (instrs.Local op slot wide) none = record { each = tt; start = refl }
+without_targets starts (instrs.Inc slot by wide) none = record { each = tt; start = refl }
+without_targets starts (instrs.Branch op target) none = absurd cc
+without_targets starts (instrs.Table default low targets) none = absurd cc
+without_targets starts (instrs.Lookup default pairs) none = absurd cc
+without_targets starts (instrs.Member op index) none = record { each = tt; start = refl }
+without_targets starts (instrs.Interface index count) none = record { each = tt; start = refl }
+without_targets starts (instrs.Dynamic index) none = record { each = tt; start = refl }
+without_targets starts (instrs.Class op index) none = record { each = tt; start = refl }
+without_targets starts (instrs.Array base) none = record { each = tt; start = refl }
+without_targets starts (instrs.Multi index dims) none = record { each = tt; start = refl }

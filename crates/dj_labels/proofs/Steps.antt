@@ -9,10 +9,10 @@ use Rattle.dj_labels.specs.declared.errors.CodeError.{CodeError}
 use Rattle.dj_labels.specs.declared.errors.CodeError.TheVariants as errors
 use Rattle.dj_labels.specs.Labels.{IsCut}
 use Rattle.dj_labels.specs.Faults.{IsOpFault}
-use Rattle.dj_labels.specs.Passes.{AreStarts, StandsAt, step_error, IsStep, IsStartsFault}
+use Rattle.dj_labels.specs.Passes.{step_error, IsStep, IsStartsFault}
 use Rattle.dj_labels.proofs.Cuts.{IsEnd, one_more}
 
--- ---- starts
+-- ---- what is read
 
 -- where reading was refused, and not for want of memory, nothing stands
 none_yields : {code : List ℕ} {at : ℕ} {e : OpError} → (◌≡◌ {A = Result (Instr × ℕ) OpError} (Err e) (Err op_errors.Memory) → ⊥) → ((instr : Instr) (next : ℕ) → Stands code at instr next → Yields (Err e) (Ok (instr, next))) → IsEnd code at
@@ -25,23 +25,22 @@ stops code at op_errors.Cut all = (refl, none_yields (λ same. absurd cc) all)
 stops code at op_errors.BadOperand all = (refl, none_yields (λ same. absurd cc) all)
 
 -- the instructions up to an address of the code
-pub record ReadUpTo (code starts : List ℕ) (at : ℕ) : Type 0 where
-  pub instrs : List Instr
+pub record ReadUpTo (code starts : List ℕ) (instrs : List Instr) (at : ℕ) : Type 0 where
   pub cut : IsCut code starts instrs at
   pub within : at ≤ length code
 
-pub read_none : (code : List ℕ) → ReadUpTo code [] 0
-read_none code = record { instrs = []; cut = record { first = refl; each = tt }; within = omega arith }
+pub read_none : (code : List ℕ) → ReadUpTo code [] [] 0
+read_none code = record { cut = record { first = refl; each = tt }; within = omega arith }
 
-pub read_more : (code starts : List ℕ) (at next : ℕ) → ReadUpTo code starts at → StandsAt code at next → ReadUpTo code (starts ++ at ∷ []) next
-read_more code starts at next h s = record { instrs = h.instrs ++ s.instr ∷ []; cut = one_more code starts h.instrs at next s.instr h.cut s.stands; within = s.stands.within }
+pub read_more : (code starts : List ℕ) (instrs : List Instr) (at next : ℕ) (instr : Instr) → ReadUpTo code starts instrs at → Stands code at instr next → ReadUpTo code (starts ++ at ∷ []) (instrs ++ instr ∷ []) next
+read_more code starts instrs at next instr h s = record { cut = one_more code starts instrs at next instr h.cut s; within = s.within }
 
-pub read_all : (code starts : List ℕ) (at : ℕ) → ReadUpTo code starts at → length code ≤ at → AreStarts code starts
-read_all code starts at h past = let same : at ≡ length code = omega (arith, h.within, past) in record { instrs = h.instrs; cut = subst (λ (n : ℕ). IsCut code starts h.instrs n) same h.cut }
+pub read_all : (code starts : List ℕ) (instrs : List Instr) (at : ℕ) → ReadUpTo code starts instrs at → length code ≤ at → IsCut code starts instrs (length code)
+read_all code starts instrs at h past = let same : at ≡ length code = omega (arith, h.within, past) in subst (λ (n : ℕ). IsCut code starts instrs n) same h.cut
 
-pub read_fault : (code starts : List ℕ) (at : ℕ) (e : CodeError) → ReadUpTo code starts at → at < length code → IsStep code at e → IsStartsFault code e
-read_fault code starts at (errors.Op address) h lt step =
-    subst (IsOpFault code) (sym step.0) (record { starts = starts; instrs = h.instrs; cut = h.cut; within = lt; none = step.1 })
-read_fault code starts at (errors.Target address) h lt step = step
-read_fault code starts at (errors.Range number) h lt step = step
-read_fault code starts at errors.Memory h lt step = tt
+pub read_fault : (code starts : List ℕ) (instrs : List Instr) (at : ℕ) (e : CodeError) → ReadUpTo code starts instrs at → at < length code → IsStep code at e → IsStartsFault code e
+read_fault code starts instrs at (errors.Op address) h lt step =
+    subst (IsOpFault code) (sym step.0) (record { starts = starts; instrs = instrs; cut = h.cut; within = lt; none = step.1 })
+read_fault code starts instrs at (errors.Target address) h lt step = step
+read_fault code starts instrs at (errors.Range number) h lt step = step
+read_fault code starts instrs at errors.Memory h lt step = tt

@@ -9,14 +9,17 @@ use Rattle.dj_labels.specs.declared.labelled.Protected.{Protected}
 use Rattle.dj_labels.specs.declared.labelled.Labelled.{Labelled}
 use Rattle.dj_labels.specs.declared.errors.CodeError.{CodeError}
 use Rattle.dj_labels.specs.declared.errors.CodeError.TheVariants as errors
-use Rattle.dj_labels.specs.Labels.{HasNumbers, IsRange, addressed, IsLabelled}
+use Rattle.dj_labels.specs.Labels.{IsCut, HasNumbers, IsRange, addressed, IsLabelled}
 use Rattle.dj_labels.specs.Faults.{Refuses, IsRefused, Yields}
-use Rattle.dj_labels.specs.Passes.{AreStarts, IsStartsFault, IsRising, AreInstrs, IsInstrsFault, AreRangesOf, IsRowsFault}
+use Rattle.dj_labels.specs.Passes.{AreStarts, IsStartsFault, IsRising, AreNumbered, IsNumberingFault, AreInstrs, AreRangesOf, IsRowsFault}
 use Rattle.dj_labels.proofs.Cuts.{as_many, starts_rise, starts_within, few_starts}
 use Rattle.dj_labels.proofs.Numbers.{have_starts, bounds_rise}
 use Rattle.dj_labels.proofs.Once.{one_labelling_is, no_labels, one_fault_is}
 
 -- ---- what the table of starts asks
+
+pub are_starts : (code starts : List ℕ) (instrs : List Instr) → IsCut code starts instrs (length code) → AreStarts code starts
+are_starts code starts instrs cut = record { instrs = instrs; cut = cut }
 
 pub all_rise : (code starts : List ℕ) → AreStarts code starts → IsRising starts
 all_rise code starts are = starts_rise code starts are.instrs (length code) are.cut
@@ -49,11 +52,15 @@ starts_fault code table (errors.Target at) h = absurd h
 starts_fault code table (errors.Range number) h = absurd h
 starts_fault code table errors.Memory h = tt
 
-pub instrs_fault : (code : List ℕ) (table : List CatchRow) (e : CodeError) → IsInstrsFault code e → IsRefused code table e
-instrs_fault code table (errors.Op at) h = absurd h
-instrs_fault code table (errors.Target at) h = h
-instrs_fault code table (errors.Range number) h = absurd h
-instrs_fault code table errors.Memory h = tt
+pub are_instrs : (code starts : List ℕ) (instrs numbered : List Instr) → IsCut code starts instrs (length code) → AreNumbered starts instrs numbered → AreInstrs code starts numbered
+are_instrs code starts instrs numbered cut h = record { cut = subst (λ (l : List Instr). IsCut code starts l (length code)) (sym h.start) cut; each = h.each }
+
+pub numbering_fault : (code : List ℕ) (table : List CatchRow) (starts : List ℕ) (instrs : List Instr) (e : CodeError) → IsCut code starts instrs (length code) → IsNumberingFault starts instrs e → IsRefused code table e
+numbering_fault code table starts instrs (errors.Op at) cut fault = absurd fault
+numbering_fault code table starts instrs (errors.Target at) cut fault =
+    record { starts = starts; instrs = instrs; cut = cut; number = fault.number; stands_at = fault.stands_at; instr = fault.instr; first = fault.first }
+numbering_fault code table starts instrs (errors.Range number) cut fault = absurd fault
+numbering_fault code table starts instrs errors.Memory cut fault = tt
 
 pub rows_fault : (code : List ℕ) (table : List CatchRow) (starts : List ℕ) (instrs : List Instr) (e : CodeError) → AreInstrs code starts instrs → IsRowsFault starts (length code) table e → IsRefused code table e
 rows_fault code table starts instrs (errors.Op at) h fault = absurd fault

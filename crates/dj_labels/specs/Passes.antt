@@ -1,5 +1,5 @@
 -- The code's own: what its passes hand on to one another.
-use Rattle.std.specs.Prelude.{◌≡◌, ℕ, ◌<◌, ⊤, ℤ, pos, List, [], ◌∷◌, ◌++◌, map, length, AllPairs, Contains}
+use Rattle.std.specs.Prelude.{◌≡◌, ℕ, ◌<◌, ⊤, ℤ, pos, List, [], ◌∷◌, ◌++◌, map, length, slice_get, Some, AllPairs, Contains}
 use Rattle.std.specs.List.{AllByRecursion}
 use Rattle.dj_ops.specs.declared.instruction.Instr.{Instr}
 use Rattle.dj_ops.specs.declared.rows.CatchRow.{CatchRow}
@@ -11,25 +11,14 @@ use Rattle.dj_labels.specs.declared.errors.CodeError.TheVariants as errors
 use Rattle.dj_labels.specs.declared.labelled.Protected.{Protected}
 use Rattle.dj_labels.specs.Targets.{with_targets}
 use Rattle.dj_labels.specs.Labels.{IsCut, IsNumber, HasNumbers, IsRange, address_of, addressed, row_of}
-use Rattle.dj_labels.specs.Faults.{IsFirstWithout, IsOpFault, IsTargetFault, HasStarts, IsRow}
+use Rattle.dj_labels.specs.Faults.{IsFirstWithout, IsOpFault, HasStarts, IsRow}
 
--- ---- starts
+-- ---- what is read
 
 -- instructions start at these addresses, and end with the code
 pub record AreStarts (code : List ℕ) (starts : List ℕ) : Type 0 where
   pub instrs : List Instr
   pub cut : IsCut code starts instrs (length code)
-
--- an instruction stands at the address, up to the next
-pub record StandsAt (code : List ℕ) (at : ℕ) (next : ℕ) : Type 0 where
-  pub instr : Instr
-  pub stands : Stands code at instr next
-
--- some instruction stands at the address
-pub record StandsSome (code : List ℕ) (at : ℕ) : Type 0 where
-  pub instr : Instr
-  pub next : ℕ
-  pub stands : Stands code at instr next
 
 -- why no instruction was read at an address
 abbrev pub step_error : ℕ → OpError → CodeError
@@ -42,7 +31,7 @@ IsStep code at (errors.Op address) = (address ≡ at) × ((instr : Instr) (next 
 IsStep code at errors.Memory = ⊤
 IsStep code at e = ⊥
 
--- the pass for the starts is refused with its cause
+-- the reading of the code is refused with its cause
 abbrev pub IsStartsFault : List ℕ → CodeError → Type 0
 IsStartsFault code (errors.Op at) = IsOpFault code at
 IsStartsFault code errors.Memory = ⊤
@@ -77,37 +66,28 @@ LacksStart starts at targets (errors.Target address) = (address ≡ at) × (AllB
 LacksStart starts at targets errors.Memory = ⊤
 LacksStart starts at targets e = ⊥
 
--- what stands at an address, with numbers for targets
-pub record IsInstrAt (code starts : List ℕ) (at : ℕ) (numbered : Instr) : Type 0 where
-  pub instr : Instr
-  pub next : ℕ
-  pub stands : Stands code at instr next
-  pub same : IsInstrOf starts instr numbered
+-- instructions, and the same with numbers for targets
+pub record AreNumbered (starts : List ℕ) (instrs numbered : List Instr) : Type 0 where
+  pub each : AllByRecursion (HasNumbers (length starts)) numbered
+  pub start : addressed starts numbered ≡ instrs
 
--- what stands at an address is refused
-pub record IsJumpFault (code starts : List ℕ) (at address : ℕ) : Type 0 where
+-- the first of these instructions with a target at which none starts stands at this address
+pub record IsJumpFault (starts : List ℕ) (instrs : List Instr) (at : ℕ) : Type 0 where
+  pub number : ℕ
+  pub stands_at : slice_get starts number ≡ Some at
   pub instr : Instr
-  pub next : ℕ
-  pub stands : Stands code at instr next
-  pub same : address ≡ at
-  pub lacks : HasStarts starts instr → ⊥
+  pub first : IsFirstWithout (HasStarts starts) instrs number instr
 
--- the instruction at an address is refused with its cause
-abbrev pub IsInstrFault : List ℕ → List ℕ → ℕ → CodeError → Type 0
-IsInstrFault code starts at (errors.Target address) = IsJumpFault code starts at address
-IsInstrFault code starts at errors.Memory = ⊤
-IsInstrFault code starts at e = ⊥
+-- the pass over the instructions is refused with its cause
+abbrev pub IsNumberingFault : List ℕ → List Instr → CodeError → Type 0
+IsNumberingFault starts instrs (errors.Target at) = IsJumpFault starts instrs at
+IsNumberingFault starts instrs errors.Memory = ⊤
+IsNumberingFault starts instrs e = ⊥
 
 -- the instructions of the code, with numbers for targets
 pub record AreInstrs (code starts : List ℕ) (numbered : List Instr) : Type 0 where
   pub cut : IsCut code starts (addressed starts numbered) (length code)
   pub each : AllByRecursion (HasNumbers (length starts)) numbered
-
--- the pass over the instructions is refused with its cause
-abbrev pub IsInstrsFault : List ℕ → CodeError → Type 0
-IsInstrsFault code (errors.Target at) = IsTargetFault code at
-IsInstrsFault code errors.Memory = ⊤
-IsInstrsFault code e = ⊥
 
 -- ---- rows
 

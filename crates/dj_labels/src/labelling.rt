@@ -3,44 +3,28 @@ ghost use Rattle.dj_labels.specs.declared.errors.CodeError.{CodeError};
 ghost use Rattle.dj_labels.specs.declared.labelled.Labelled.{Labelled};
 ghost use Rattle.dj_labels.specs.Labels.{IsLabelled};
 ghost use Rattle.dj_labels.specs.Faults.{Refuses, IsRefused, Yields};
-ghost use Rattle.dj_labels.specs.Passes.{AreStarts, StandsSome, IsInstrAt, IsInstrFault, AreInstrs, IsInstrsFault};
+ghost use Rattle.dj_labels.specs.Passes.{AreStarts, AreNumbered, IsNumberingFault};
 
 use crate::errors::CodeError;
 use crate::labelled::{Labelled, Labelling};
 use crate::rows::ranges_of;
-use crate::starts::{StartTable, read_starts};
-use crate::targets::number_instr;
-use dj_ops::{CatchRow, Instr, Instrs, read_instr};
+use crate::starts::{StartTable, read_code};
+use crate::targets::renumber;
+use dj_ops::{CatchRow, Instr, Instrs};
 use std::alloc::Global;
 
-/// The instruction at an address, with the numbers of its targets.
-fn label_instr(alloc: Global, code: &[u8], table: &StartTable, at: u32) -> Result<Instr, CodeError>
-    requires within { at < length code.now }
-    requires few { length code.now < 2 ^ 16 }
-    requires stands { StandsSome code.now at }
-    ensures labelled { IfOk result (IsInstrAt code.now table.now.starts.items at) }
-    ensures refused { IfErr result (IsInstrFault code.now table.now.starts.items at) }
+/// The instructions with the numbers of their targets in place of the addresses. They start at those of the table.
+fn number_instrs(alloc: Global, table: &StartTable, instrs: Vec<Instr>) -> Result<Instrs, CodeError>
+    requires many { length table.now.starts.items ≡ length instrs.items }
+    ensures numbered { IfOk result (AreNumbered table.now.starts.items instrs.items) }
+    ensures refused { IfErr result (IsNumberingFault table.now.starts.items instrs.items) }
 {
-    match read_instr(alloc, code, at) {
-        Ok((instr, _)) => number_instr(alloc, table, at, instr),
-        // An instruction stands there, so that memory alone was short.
-        Err(_) => Err(CodeError::Memory),
+    let mut numbered = instrs;
+    for number in 0..numbered.len() {
+        let at = table.starts[number];
+        renumber(alloc, table, at, &mut numbered[number])?;
     }
-}
-
-/// The instructions of the code, with the numbers of their targets.
-fn label_instrs(alloc: Global, code: &[u8], table: &StartTable) -> Result<Instrs, CodeError>
-    requires few { length code.now < 2 ^ 16 }
-    requires starts { AreStarts code.now table.now.starts.items }
-    ensures labelled { IfOk result (AreInstrs code.now table.now.starts.items) }
-    ensures refused { IfErr result (IsInstrsFault code.now) }
-{
-    let mut instrs = Instrs::with_capacity(alloc, table.starts.len())?;
-    for i in 0..table.starts.len() {
-        let instr = label_instr(alloc, code, table, table.starts[i])?;
-        instrs.push(instr)?;
-    }
-    Ok(instrs)
+    Ok(Instrs::from_vec(numbered))
 }
 
 /// The same as `label`, with the addresses at which the instructions start.
@@ -57,9 +41,9 @@ pub fn label_with_starts(
     // A refusal has its cause, so that where there are labels only memory is short.
     ensures refused { IfErr result (IsRefused code.now table.now) }
 {
-    let starts = read_starts(alloc, code)?;
+    let (starts, addressed) = read_code(alloc, code)?;
     let numbers = StartTable::new(starts);
-    let instrs = label_instrs(alloc, code, &numbers)?;
+    let instrs = number_instrs(alloc, &numbers, addressed)?;
     let ranges = ranges_of(alloc, &numbers, code.len(), table)?;
     Ok(Labelling {
         labelled: Labelled {

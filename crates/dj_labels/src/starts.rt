@@ -1,8 +1,10 @@
 ghost use Rattle.std.specs.Prelude.{◌≡◌, ◌^◌, ◌<◌, length, Some, Contains, slice_get, IfOk, IfErr, IfSome, IfNone};
-ghost use Rattle.dj_labels.specs.Passes.{AreStarts, StandsAt, step_error, IsStep, IsStartsFault, IsRising};
+ghost use Rattle.dj_ops.specs.Instructions.{Stands};
+ghost use Rattle.dj_labels.specs.Labels.{IsCut};
+ghost use Rattle.dj_labels.specs.Passes.{AreStarts, step_error, IsStep, IsStartsFault, IsRising};
 
 use crate::errors::CodeError;
-use dj_ops::{OpError, read_instr};
+use dj_ops::{Instr, OpError, read_instr};
 use std::alloc::Global;
 
 /// Why no instruction was read at an address.
@@ -15,17 +17,36 @@ fn step_error(at: u32, error: OpError) -> CodeError
     }
 }
 
-/// Where the next instruction starts.
-fn next_start(alloc: Global, code: &[u8], at: u32) -> Result<u32, CodeError>
+/// The instruction at an address, and the address after it.
+fn next_instr(alloc: Global, code: &[u8], at: u32) -> Result<(Instr, u32), CodeError>
     requires within { at < length code.now }
     requires few { length code.now < 2 ^ 16 }
-    ensures stands { IfOk result (StandsAt code.now at) }
+    ensures stands { IfOk result (λ x. Stands code.now at x.0 x.1) }
     ensures refused { IfErr result (IsStep code.now at) }
 {
     match read_instr(alloc, code, at) {
-        Ok((_, next)) => Ok(next),
+        Ok(read) => Ok(read),
         Err(error) => Err(step_error(at, error)),
     }
+}
+
+/// The addresses at which the instructions of the code start, and the instructions, whose targets are addresses too.
+pub fn read_code(alloc: Global, code: &[u8]) -> Result<(Vec<u32>, Vec<Instr>), CodeError>
+    requires few { length code.now < 2 ^ 16 }
+    ensures read { IfOk result (λ x. IsCut code.now x.0.items x.1.items (length code.now)) }
+    ensures refused { IfErr result (IsStartsFault code.now) }
+{
+    // An instruction has a byte at least.
+    let mut starts = Vec::with_capacity(alloc, code.len())?;
+    let mut instrs = Vec::with_capacity(alloc, code.len())?;
+    let mut at = 0;
+    while (at as usize) < code.len() {
+        let (instr, next) = next_instr(alloc, code, at)?;
+        starts.push(at)?;
+        instrs.push(instr)?;
+        at = next;
+    }
+    Ok((starts, instrs))
 }
 
 /// The addresses at which the instructions of the code start.
@@ -34,13 +55,7 @@ pub fn read_starts(alloc: Global, code: &[u8]) -> Result<Vec<u32>, CodeError>
     ensures read { IfOk result (λ starts. AreStarts code.now starts.items) }
     ensures refused { IfErr result (IsStartsFault code.now) }
 {
-    // An instruction has a byte at least.
-    let mut starts = Vec::with_capacity(alloc, code.len())?;
-    let mut at = 0;
-    while (at as usize) < code.len() {
-        starts.push(at)?;
-        at = next_start(alloc, code, at)?;
-    }
+    let (starts, _) = read_code(alloc, code)?;
     Ok(starts)
 }
 

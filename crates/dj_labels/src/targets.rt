@@ -1,4 +1,4 @@
-ghost use Rattle.std.specs.Prelude.{◌≡◌, ◌^◌, ◌<◌, [], ◌∷◌, map, IfOk, IfErr};
+ghost use Rattle.std.specs.Prelude.{◌≡◌, ◌^◌, ◌<◌, [], ◌∷◌, map, false, IfOk, IfErr, OnOk};
 ghost use Rattle.dj_labels.specs.Labels.{IsNumber, address_of};
 ghost use Rattle.dj_labels.specs.Targets.{targets_of};
 ghost use Rattle.dj_labels.specs.Passes.{AreNumbers, ArePairs, IsInstrOf, LacksStart};
@@ -7,6 +7,7 @@ use crate::errors::CodeError;
 use crate::starts::StartTable;
 use dj_ops::{Instr, Pairs, Targets};
 use std::alloc::Global;
+use std::mem;
 
 /// The number of a target of the jump at an address.
 fn number_of(table: &StartTable, at: u32, target: i64) -> Result<i64, CodeError>
@@ -57,7 +58,7 @@ fn number_pairs(
 }
 
 /// The instruction at an address, with the numbers of its targets.
-pub fn number_instr(
+fn number_instr(
     alloc: Global,
     table: &StartTable,
     at: u32,
@@ -91,4 +92,33 @@ pub fn number_instr(
         }
         other => Ok(other),
     }
+}
+
+// Whether the instruction has targets.
+fn has_targets(instr: &Instr) -> bool
+    ensures { result ≡ false → targets_of instr.now ≡ [] }
+{
+    matches!(
+        instr,
+        Instr::Branch { .. } | Instr::Table { .. } | Instr::Lookup { .. }
+    )
+}
+
+/// Puts the numbers of the targets of the instruction at an address in their place.
+pub fn renumber(
+    alloc: Global,
+    table: &StartTable,
+    at: u32,
+    instr: &mut Instr,
+) -> Result<(), CodeError>
+    ensures found { OnOk result (IsInstrOf table.now.starts.items instr.old instr.new) }
+    ensures refused { IfErr result (LacksStart table.now.starts.items at (targets_of instr.old)) }
+{
+    if !has_targets(instr) {
+        return Ok(());
+    }
+    // Another instruction stands there meanwhile.
+    let addressed = mem::replace(instr, Instr::Simple { op: 0 });
+    *instr = number_instr(alloc, table, at, addressed)?;
+    Ok(())
 }

@@ -1,7 +1,8 @@
 -- Marks of the rules 17 and 18 that passes add.
-use Rattle.std.proofs.Common.{◌≡◌, ℕ, ◌+◌, ◌⊎◌, ◌↔◌, Bool, true, false, List, [], length, Option, Some, refl, sym, ap, ◌∙◌, subst, inl, inr, arith, Decides, IsTrue, IsFalse, slice_get}
+use Rattle.std.proofs.Common.{◌≡◌, ℕ, ◌+◌, ◌⊎◌, ◌↔◌, Bool, true, false, List, [], length, Option, Some, None, refl, sym, ap, ◌∙◌, subst, inl, inr, arith, Decides, IsTrue, IsFalse, slice_get}
 use Rattle.std.proofs.lemmas.Bool.{cases_lt, false_from_ne_true}
 use Rattle.std.proofs.lemmas.Option.{slice_get_within}
+use Rattle.std.specs.Prelude.{option_and_then}
 use Rattle.dj_names.specs.Types.{Name}
 use Rattle.dj_ops.specs.declared.instruction.Instr.{Instr}
 use Rattle.dj_pool.specs.Pool.{Constant}
@@ -15,17 +16,32 @@ use Rattle.dj_check.specs.declared.code.WholeCode.{WholeCode}
 use Rattle.dj_check.specs.declared.marks.Place.{Place}
 use Rattle.dj_check.specs.declared.marks.Mark.{Mark}
 use Rattle.dj_check.specs.Attributes.{codes_of}
+use Rattle.dj_check.specs.Instructions.{index_of}
 use Rattle.dj_check.specs.Methods.{InstrViolates, CatchesError}
 use Rattle.dj_check.specs.Passes.{IsWholeMethod}
 use Rattle.dj_check.specs.Marks.{mark_at, place_of, MarksAt, MarksOf}
 use Rattle.dj_check.proofs.MethodLaws.{one_labelled, labelled_own, no_code_of}
 use Rattle.dj_link.specs.Lines.{IsUntold, IsFirstOf, LinkViolates, CatchViolates, CodeLinkViolates, MethodLinkViolates}
 use Rattle.dj_link.specs.declared.known.Known.{Known}
-use Rattle.dj_link.specs.Known.{is_foreign, is_unlinked, is_foreign_catch, is_unlinked_catch, IsKnown, IsRuled, KnownInstr, KnownCatch, KnownBelow, KnownRange, KnownCode}
+use Rattle.dj_link.specs.Judged.{kept_at}
+use Rattle.dj_link.specs.Known.{is_foreign, is_foreign_by, is_unlinked, is_unlinked_at, is_foreign_catch, is_unlinked_catch, IsKnown, IsRuled, KnownInstr, KnownCatch, KnownBelow, KnownRange, KnownCode}
 use Rattle.dj_link.specs.Marks.{AreRangeMarks, AreUntold, IsUntoldMethod}
 use Rattle.dj_link.proofs.Judging.{foreign_instr, unlinked_instr, foreign_catch, unlinked_catch}
 
 -- ---- one mark
+
+named_none : (known : Known) (instr : Instr) (index : Option ℕ) → index ≡ None → (is_foreign_by known instr (option_and_then (kept_at known.kept.now) index) ≡ false) × (is_unlinked_at known instr index ≡ false)
+named_none known instr None none = (refl, refl)
+named_none known instr (Some index) none = absurd cc
+
+-- an instruction that names no constant violates neither rule
+pub unnamed_mark : (place : Place) (known : Known) (pool : List Constant) (instr : Instr) (a : List Mark) → index_of instr ≡ None → Gains (MarksAt place (KnownInstr known pool instr)) a a
+unnamed_mark place known pool instr a none =
+    let both = named_none known instr (index_of instr) none in
+    adds_nothing (MarksAt place (KnownInstr known pool instr)) a (λ mark m. elim m.1.1 [
+      | inl f ↦ not_both (is_foreign known instr) f.0 both.0
+      | inr u ↦ not_both (is_unlinked known instr) u.1 both.1
+    ])
 
 pub told_mark : (place : Place) (told foreign unlinked : Bool) (a : List Mark) → told ≡ true → Gains (MarksAt place (IsRuled told foreign unlinked)) a a
 told_mark place told foreign unlinked a is = adds_nothing (MarksAt place (IsRuled told foreign unlinked)) a (λ mark m. not_both told is m.1.0)

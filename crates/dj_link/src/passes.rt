@@ -7,6 +7,7 @@ ghost use Rattle.dj_link.specs.Known.{IsRuled, KnownInstr, KnownBelow, KnownRang
 ghost use Rattle.dj_link.specs.Lines.{IsUntold};
 ghost use Rattle.dj_link.specs.Marks.{AreRangeMarks, AreUntold};
 
+use crate::asks::index_of;
 use crate::error::LinkError;
 use crate::judge::{is_foreign, is_foreign_catch, is_unlinked, is_unlinked_catch};
 use crate::known::Known;
@@ -51,8 +52,8 @@ fn is_told(pool: &Pool<'_>, texts: &[JudgedText], instr: &Instr, untold: bool) -
     violates_instr(pool, texts, instr)
 }
 
-// Appends the mark of an instruction at its place.
-fn add_instr_mark(
+// Appends the mark of an instruction at its place, one that names a constant.
+fn add_named_mark(
     marks: &mut Vec<Mark>,
     place: Place,
     pool: &Pool<'_>,
@@ -69,6 +70,26 @@ fn add_instr_mark(
     let foreign = is_foreign(known, instr);
     let unlinked = is_unlinked(known, instr);
     add_rule_mark(marks, place, told, foreign, unlinked)
+}
+
+// Appends the mark of an instruction at its place. One that names no constant, as most, has none.
+fn add_instr_mark(
+    marks: &mut Vec<Mark>,
+    place: Place,
+    pool: &Pool<'_>,
+    texts: &[JudgedText],
+    known: &Known<'_>,
+    instr: &Instr,
+    untold: bool,
+) -> Result<(), LinkError>
+    requires texts { AreTexts pool.now texts.now }
+    requires untold { IsTrue untold → IsUntold pool.now instr.now }
+    ensures { OnOk result (Gains (MarksAt place (KnownInstr known.now pool.now instr.now)) marks.old.items marks.new.items) }
+{
+    match index_of(instr) {
+        None => Ok(()),
+        Some(_) => add_named_mark(marks, place, pool, texts, known, instr, untold),
+    }
 }
 
 // Appends the marks of all instructions of a method of these names.

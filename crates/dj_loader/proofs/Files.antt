@@ -95,8 +95,10 @@ module _ (pool : List Constant) where
 pub class_with_parts : (c : ClassFile) (p : ClassParts) → AreFileParts c p → IsClassIn c (class_of_source (source_of (declared_class c) p))
 unfolding class_of_source declared_class
 class_with_parts c p are =
-    let fields : with_values (map (declared_field c.pool) c.fields) (map told_value p.values.items) ≡ map (field_in_file c.pool) c.fields =
-    ap (with_values (map (declared_field c.pool) c.fields)) are.values ∙ fields_with_values c.pool c.fields in
+    let fields : with_values (map (declared_field c.pool) c.fields) (map (told_value p.pool) p.values.items) ≡ map (field_in_file c.pool) c.fields =
+    ap (λ (pool : List Constant). with_values (map (declared_field c.pool) c.fields) (map (told_value pool) p.values.items)) are.pool
+    ∙ ap (with_values (map (declared_field c.pool) c.fields)) are.values
+    ∙ fields_with_values c.pool c.fields in
     record {
       methods = with_codes c.pool (map (declared_method c.pool) c.methods) (map (option_map parts_of) p.codes.items);
       each = methods_with_codes c.pool c.methods p.codes.items are.codes;
@@ -113,7 +115,7 @@ unfolding declared_class
 file_fits c p valid are = record {
   methods = fit_methods c.pool c.methods p.codes.items are.codes;
   fields =
-      (let a = length-map p.values.items told_value in
+      (let a = length-map p.values.items (told_value c.pool) in
       let b = length-map c.fields (constant_in c.pool) in
       let d = length-map c.fields (declared_field c.pool) in
       let same = ap length are.values in

@@ -14,4 +14,7 @@ pub mod BareFacts
 pub mod Owned
 pub mod Strings
 mod Facts
+pub mod NumberedFacts
+pub mod RefusalFacts
+pub mod FiledFacts
 pub mod LibraryFacts

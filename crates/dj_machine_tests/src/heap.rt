@@ -1,276 +1,129 @@
-use dj_heap::{Heap, HeapError};
-use dj_names::Element;
+ghost use Rattle.std.specs.Prelude.{IsSome, IsTrue};
+ghost use Rattle.dj_heap.specs.Heaps.{element_in, field_in, object_in, unit_in};
+
+use crate::sequences::{Answer, LIMITS, READS_AND_WRITES, REFUSALS, SIZES, Sequence, Step};
+use dj_heap::{Heap, HeapError, Made};
 use std::alloc::Global;
 
-// An object that is wanted: the number of its class, and its fields, elements or units.
-#[derive(Clone, Copy)]
-enum Wanted {
-    Instance(u32, u32),
-    Array(u32, Element, u32),
-    Text(u32, &'static [u16]),
+// ---- what is there
+
+// Whether there is an object of this number.
+fn has_object(heap: &Heap, r: u32) -> bool
+    ensures { IsTrue result → IsSome (object_in heap.now r) }
+{
+    0 < r && r <= heap.count()
 }
 
-// The number of the object, or the bytes that are used and those that are wanted.
-type Made = Result<u32, (u64, u64)>;
-
-// The limit of a heap, and what comes of what is wanted, one after the other.
-const ALLOCATIONS: [(u64, &[(Wanted, Made)]); 25] = [
-    (
-        48,
-        &[
-            (Wanted::Array(0, Element::Byte, 1), Ok(1)),
-            (Wanted::Array(0, Element::Byte, 8), Ok(2)),
-            (Wanted::Instance(0, 0), Err((48, 16))),
-        ],
-    ),
-    (48, &[(Wanted::Text(1, &[0x0041]), Ok(1))]),
-    (24, &[(Wanted::Array(5, Element::Byte, 3), Ok(1))]),
-    (
-        0,
-        &[
-            (Wanted::Instance(0, 0), Err((0, 16))),
-            (Wanted::Text(0, &[]), Err((0, 16))),
-            (Wanted::Array(0, Element::Long, 0), Err((0, 16))),
-        ],
-    ),
-    (
-        16,
-        &[
-            (Wanted::Instance(3, 0), Ok(1)),
-            (Wanted::Instance(3, 0), Err((16, 16))),
-        ],
-    ),
-    (15, &[(Wanted::Instance(3, 0), Err((0, 16)))]),
-    (
-        40,
-        &[
-            (Wanted::Instance(1, 3), Ok(1)),
-            (Wanted::Instance(1, 0), Err((40, 16))),
-        ],
-    ),
-    (
-        39,
-        &[
-            (Wanted::Instance(1, 3), Err((0, 40))),
-            (Wanted::Instance(1, 2), Ok(1)),
-            (Wanted::Instance(1, 0), Err((32, 16))),
-        ],
-    ),
-    (
-        100,
-        &[
-            (Wanted::Array(0, Element::Long, 10), Ok(1)),
-            (Wanted::Array(0, Element::Long, 11), Err((96, 104))),
-            (Wanted::Array(0, Element::Byte, 4), Err((96, 24))),
-        ],
-    ),
-    (2147483648, &[(Wanted::Array(0, Element::Byte, 0), Ok(1))]),
-    (
-        1000,
-        &[
-            (Wanted::Array(0, Element::Boolean, 0), Ok(1)),
-            (Wanted::Array(0, Element::Boolean, 1), Ok(2)),
-            (Wanted::Array(0, Element::Boolean, 2), Ok(3)),
-            (Wanted::Array(0, Element::Boolean, 3), Ok(4)),
-            (Wanted::Array(0, Element::Boolean, 4), Ok(5)),
-            (Wanted::Array(0, Element::Boolean, 5), Ok(6)),
-            (Wanted::Array(0, Element::Boolean, 8), Ok(7)),
-            (Wanted::Array(0, Element::Boolean, 9), Ok(8)),
-        ],
-    ),
-    (
-        1000,
-        &[
-            (Wanted::Array(0, Element::Byte, 0), Ok(1)),
-            (Wanted::Array(0, Element::Byte, 1), Ok(2)),
-            (Wanted::Array(0, Element::Byte, 2), Ok(3)),
-            (Wanted::Array(0, Element::Byte, 3), Ok(4)),
-            (Wanted::Array(0, Element::Byte, 4), Ok(5)),
-            (Wanted::Array(0, Element::Byte, 5), Ok(6)),
-            (Wanted::Array(0, Element::Byte, 8), Ok(7)),
-            (Wanted::Array(0, Element::Byte, 9), Ok(8)),
-        ],
-    ),
-    (
-        1000,
-        &[
-            (Wanted::Array(0, Element::Char, 0), Ok(1)),
-            (Wanted::Array(0, Element::Char, 1), Ok(2)),
-            (Wanted::Array(0, Element::Char, 2), Ok(3)),
-            (Wanted::Array(0, Element::Char, 3), Ok(4)),
-            (Wanted::Array(0, Element::Char, 4), Ok(5)),
-            (Wanted::Array(0, Element::Char, 5), Ok(6)),
-            (Wanted::Array(0, Element::Char, 8), Ok(7)),
-            (Wanted::Array(0, Element::Char, 9), Ok(8)),
-        ],
-    ),
-    (
-        1000,
-        &[
-            (Wanted::Array(0, Element::Short, 0), Ok(1)),
-            (Wanted::Array(0, Element::Short, 1), Ok(2)),
-            (Wanted::Array(0, Element::Short, 2), Ok(3)),
-            (Wanted::Array(0, Element::Short, 3), Ok(4)),
-            (Wanted::Array(0, Element::Short, 4), Ok(5)),
-            (Wanted::Array(0, Element::Short, 5), Ok(6)),
-            (Wanted::Array(0, Element::Short, 8), Ok(7)),
-            (Wanted::Array(0, Element::Short, 9), Ok(8)),
-        ],
-    ),
-    (
-        1000,
-        &[
-            (Wanted::Array(0, Element::Int, 0), Ok(1)),
-            (Wanted::Array(0, Element::Int, 1), Ok(2)),
-            (Wanted::Array(0, Element::Int, 2), Ok(3)),
-            (Wanted::Array(0, Element::Int, 3), Ok(4)),
-            (Wanted::Array(0, Element::Int, 4), Ok(5)),
-            (Wanted::Array(0, Element::Int, 5), Ok(6)),
-            (Wanted::Array(0, Element::Int, 8), Ok(7)),
-            (Wanted::Array(0, Element::Int, 9), Ok(8)),
-        ],
-    ),
-    (
-        1000,
-        &[
-            (Wanted::Array(0, Element::Long, 0), Ok(1)),
-            (Wanted::Array(0, Element::Long, 1), Ok(2)),
-            (Wanted::Array(0, Element::Long, 2), Ok(3)),
-            (Wanted::Array(0, Element::Long, 3), Ok(4)),
-            (Wanted::Array(0, Element::Long, 4), Ok(5)),
-            (Wanted::Array(0, Element::Long, 5), Ok(6)),
-            (Wanted::Array(0, Element::Long, 8), Ok(7)),
-            (Wanted::Array(0, Element::Long, 9), Ok(8)),
-        ],
-    ),
-    (
-        1000,
-        &[
-            (Wanted::Array(0, Element::Ref, 0), Ok(1)),
-            (Wanted::Array(0, Element::Ref, 1), Ok(2)),
-            (Wanted::Array(0, Element::Ref, 2), Ok(3)),
-            (Wanted::Array(0, Element::Ref, 3), Ok(4)),
-            (Wanted::Array(0, Element::Ref, 4), Ok(5)),
-            (Wanted::Array(0, Element::Ref, 5), Ok(6)),
-            (Wanted::Array(0, Element::Ref, 8), Ok(7)),
-            (Wanted::Array(0, Element::Ref, 9), Ok(8)),
-        ],
-    ),
-    (
-        1000,
-        &[
-            (Wanted::Text(0, &[]), Ok(1)),
-            (Wanted::Text(0, &[0x0041]), Ok(2)),
-            (Wanted::Text(0, &[0x0041, 0x0042]), Ok(3)),
-            (Wanted::Text(0, &[0x0041, 0x0042, 0x0043]), Ok(4)),
-            (Wanted::Text(0, &[0x0041, 0x0042, 0x0043, 0x0044]), Ok(5)),
-            (
-                Wanted::Text(0, &[0x0041, 0x0042, 0x0043, 0x0044, 0x0045]),
-                Ok(6),
-            ),
-        ],
-    ),
-    (
-        1000,
-        &[
-            (Wanted::Instance(0, 0), Ok(1)),
-            (Wanted::Instance(0, 1), Ok(2)),
-            (Wanted::Instance(0, 2), Ok(3)),
-            (Wanted::Instance(0, 10), Ok(4)),
-        ],
-    ),
-    (
-        1000,
-        &[
-            (Wanted::Instance(1, 1), Ok(1)),
-            (Wanted::Array(2, Element::Int, 2), Ok(2)),
-            (Wanted::Text(3, &[0x0041]), Ok(3)),
-            (Wanted::Array(4, Element::Ref, 1), Ok(4)),
-        ],
-    ),
-    (
-        2000,
-        &[
-            (Wanted::Array(0, Element::Boolean, 1), Ok(1)),
-            (Wanted::Array(1, Element::Byte, 1), Ok(2)),
-            (Wanted::Array(2, Element::Char, 1), Ok(3)),
-            (Wanted::Array(3, Element::Short, 1), Ok(4)),
-            (Wanted::Array(4, Element::Int, 1), Ok(5)),
-            (Wanted::Array(5, Element::Long, 1), Ok(6)),
-            (Wanted::Array(6, Element::Ref, 1), Ok(7)),
-            (Wanted::Instance(7, 0), Ok(8)),
-            (Wanted::Text(8, &[]), Ok(9)),
-        ],
-    ),
-    (
-        100,
-        &[
-            (Wanted::Array(4294967295, Element::Byte, 0), Ok(1)),
-            (Wanted::Instance(4294967295, 0), Ok(2)),
-        ],
-    ),
-    (
-        64,
-        &[
-            (Wanted::Array(1, Element::Int, 3), Ok(1)),
-            (Wanted::Instance(1, 1), Ok(2)),
-            (Wanted::Array(1, Element::Byte, 1), Err((56, 24))),
-            (Wanted::Instance(1, 2), Err((56, 32))),
-        ],
-    ),
-    (
-        80,
-        &[
-            (Wanted::Array(1, Element::Byte, 8), Ok(1)),
-            (Wanted::Array(1, Element::Byte, 57), Err((24, 80))),
-            (Wanted::Array(1, Element::Byte, 40), Ok(2)),
-            (Wanted::Array(1, Element::Byte, 41), Err((80, 64))),
-            (Wanted::Instance(1, 5), Err((80, 56))),
-            (Wanted::Text(1, &[0x0041, 0x0042]), Err((80, 24))),
-        ],
-    ),
-    (
-        40,
-        &[
-            (Wanted::Text(1, &[0x0061]), Ok(1)),
-            (Wanted::Instance(1, 0), Ok(2)),
-            (Wanted::Instance(1, 0), Err((40, 16))),
-        ],
-    ),
-];
-
-fn make(heap: &mut Heap, wanted: Wanted) -> Result<u32, HeapError> {
-    match wanted {
-        Wanted::Instance(class, fields) => heap.instance(class, fields),
-        Wanted::Array(class, element, n) => heap.array(class, element, n),
-        Wanted::Text(class, units) => heap.text(class, units),
+// Whether it is an instance with a field at the place.
+#[tactic(auto, using(crate::proofs::Places::field_here))]
+fn has_field(heap: &Heap, r: u32, at: u32) -> bool
+    ensures { IsTrue result → IsSome (field_in heap.now r at) }
+{
+    if !has_object(heap, r) {
+        return false;
     }
+    let Made::Instance = heap.made(r) else {
+        return false;
+    };
+    at < heap.length(r)
 }
 
-fn is_made(heap: &mut Heap, wanted: Wanted, made: Made) -> bool {
-    match make(heap, wanted) {
-        Ok(number) => made == Ok(number),
-        Err(HeapError::Full { used, size }) => made == Err((used, size)),
+// Whether it is an array with an element at the place.
+#[tactic(auto, using(crate::proofs::Places::element_here))]
+fn has_element(heap: &Heap, r: u32, at: u32) -> bool
+    ensures { IsTrue result → IsSome (element_in heap.now r at) }
+{
+    if !has_object(heap, r) {
+        return false;
+    }
+    let Made::Array(_) = heap.made(r) else {
+        return false;
+    };
+    at < heap.length(r)
+}
+
+// Whether it is a text with a unit at the place.
+#[tactic(auto, using(crate::proofs::Places::unit_here))]
+fn has_unit(heap: &Heap, r: u32, at: u32) -> bool
+    ensures { IsTrue result → IsSome (unit_in heap.now r at) }
+{
+    if !has_object(heap, r) {
+        return false;
+    }
+    let Made::Text = heap.made(r) else {
+        return false;
+    };
+    at < heap.length(r)
+}
+
+// ---- what is done
+
+fn is_made(made: Result<u32, HeapError>, answer: Answer) -> bool {
+    match made {
+        Ok(number) => answer == Ok(number),
+        Err(HeapError::Full { used, size }) => answer == Err((used, size)),
         Err(HeapError::Memory) => false,
     }
 }
 
-fn are_made(heap: &mut Heap, rows: &[(Wanted, Made)]) -> bool {
-    for row in rows {
-        if !is_made(heap, row.0, row.1) {
-            return false;
-        }
+fn set_element(heap: &mut Heap, r: u32, at: u32, value: i64) -> bool {
+    if !has_element(heap, r, at) {
+        return false;
     }
+    heap.set_element(r, at, value);
     true
 }
 
-fn all_made(alloc: Global, rows: &[(u64, &[(Wanted, Made)])]) -> bool {
-    for row in rows {
-        if 2147483648 < row.0 {
-            return false;
+fn set_field(heap: &mut Heap, r: u32, at: u32, bits: u64) -> bool {
+    if !has_field(heap, r, at) {
+        return false;
+    }
+    heap.set_field(r, at, bits);
+    true
+}
+
+fn is_read(heap: &Heap, step: &Step) -> bool {
+    match step {
+        Step::Element(r, at, value) => has_element(heap, *r, *at)
+            && heap.element(*r, *at) == *value,
+        Step::Field(r, at, bits) => has_field(heap, *r, *at) && heap.field(*r, *at) == *bits,
+        Step::Unit(r, at, unit) => has_unit(heap, *r, *at) && heap.unit(*r, *at) == *unit,
+        _ => false,
+    }
+}
+
+fn is_told(heap: &Heap, step: &Step) -> bool {
+    match step {
+        Step::Length(r, length) => has_object(heap, *r) && heap.length(*r) == *length,
+        Step::ClassOf(r, class) => has_object(heap, *r) && heap.class_of(*r) == *class,
+        Step::Made(r, made) => has_object(heap, *r) && heap.made(*r) == *made,
+        Step::Used(bytes) => heap.used() == *bytes,
+        Step::Count(objects) => heap.count() == *objects,
+        _ => is_read(heap, step),
+    }
+}
+
+// Whether the call answers what the step tells.
+fn is_answered(heap: &mut Heap, step: &Step) -> bool {
+    match step {
+        Step::Instance(class, fields, answer) => is_made(heap.instance(*class, *fields), *answer),
+        Step::Array(class, element, n, answer) => {
+            is_made(heap.array(*class, *element, *n), *answer)
         }
-        let mut heap = Heap::new(alloc, row.0);
-        if !are_made(&mut heap, row.1) {
+        Step::Text(class, units, answer) => is_made(heap.text(*class, *units), *answer),
+        Step::SetElement(r, at, value) => set_element(heap, *r, *at, *value),
+        Step::SetField(r, at, bits) => set_field(heap, *r, *at, *bits),
+        _ => is_told(heap, step),
+    }
+}
+
+fn are_answered(alloc: Global, sequence: &Sequence) -> bool {
+    if 2147483648 < sequence.0 {
+        return false;
+    }
+    let mut heap = Heap::new(alloc, sequence.0);
+    for step in sequence.1 {
+        if !is_answered(&mut heap, step) {
             return false;
         }
     }
@@ -279,5 +132,28 @@ fn all_made(alloc: Global, rows: &[(u64, &[(Wanted, Made)])]) -> bool {
 
 #[test]
 fn objects_are_made_up_to_the_limit(rt: HostRuntime) {
-    assert!(rt; all_made(rt.alloc(), &ALLOCATIONS));
+    for (number, sequence) in LIMITS.iter().enumerate() {
+        assert!(rt; are_answered(rt.alloc(), sequence), "sequence {number}");
+    }
+}
+
+#[test]
+fn objects_have_their_sizes(rt: HostRuntime) {
+    for (number, sequence) in SIZES.iter().enumerate() {
+        assert!(rt; are_answered(rt.alloc(), sequence), "sequence {number}");
+    }
+}
+
+#[test]
+fn what_is_written_is_read(rt: HostRuntime) {
+    for (number, sequence) in READS_AND_WRITES.iter().enumerate() {
+        assert!(rt; are_answered(rt.alloc(), sequence), "sequence {number}");
+    }
+}
+
+#[test]
+fn a_refusal_changes_nothing(rt: HostRuntime) {
+    for (number, sequence) in REFUSALS.iter().enumerate() {
+        assert!(rt; are_answered(rt.alloc(), sequence), "sequence {number}");
+    }
 }

@@ -2,8 +2,14 @@
 #![tactic(auto)]
 
 #[cfg(test)]
+mod arith;
+#[cfg(test)]
+mod arith_rows;
+#[cfg(test)]
 mod heap;
 #[cfg(test)]
 mod library;
+#[cfg(test)]
+mod sequences;
 #[cfg(test)]
 mod stack;

@@ -39,6 +39,13 @@ impl Instrs {
         })
     }
 
+    /// The instructions of a list.
+    pub fn from_vec(items: Vec<Instr>) -> Instrs
+        ensures { result ≡ items.items }
+    {
+        Instrs { items }
+    }
+
     /// Appends an instruction.
     pub fn push(&mut self, instr: Instr) -> Result<(), NoMemory>
         ensures ok { OnOk result (self.new ≡ self.old ++ instr ∷ []) }

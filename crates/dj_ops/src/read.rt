@@ -1,8 +1,9 @@
-ghost use Rattle.std.specs.Prelude.{◌≡◌, ℕ, ◌^◌, ◌<◌, length, Ok, Err, IfOk, IfErr};
+ghost use Rattle.std.specs.Prelude.{◌≡◌, ℕ, ◌^◌, ◌<◌, length, Ok, Err, IfSome, IfOk, IfErr, IsTrue};
 ghost use Rattle.dj_bytes.specs.Steps.{Gives};
 ghost use Rattle.dj_bytes.specs.Views.{cursor_of};
 ghost use Rattle.dj_ops.specs.declared.instruction.Instr.{Instr};
-ghost use Rattle.dj_ops.specs.Forms.{form_of};
+ghost use Rattle.dj_ops.specs.declared.instruction.Instr.TheVariants.{Simple};
+ghost use Rattle.dj_ops.specs.Forms.{Bare, form_of};
 ghost use Rattle.dj_ops.specs.Instructions.{Stands};
 ghost use Rattle.dj_ops.specs.Refusals.{Refuses, IsRefused, Yields};
 ghost use Rattle.dj_ops.specs.Reading.{is_memory, operands_at, instr_at};
@@ -78,9 +79,35 @@ pub fn read_instr(alloc: Global, code: &[u8], at: u32) -> Result<(Instr, u32), O
     // Where a cause is, that refusal comes.
     ensures all_refused { (e : OpError) → Refuses code.now at e → Yields result (Err e) }
 {
-    match instr_from(alloc, Cursor::at(code, at)) {
+    let cursor = Cursor::at(code, at);
+    if let Some((op, after)) = bare_from(cursor) {
+        return Ok((Instr::Simple { op }, after.place));
+    }
+    match instr_from(alloc, cursor) {
         Ok((instr, after)) => Ok((instr, after.place)),
         Err(e) => Err(e),
+    }
+}
+
+/// Whether the opcode is of an instruction that has no operands.
+#[tactic(auto, unfolding(crate::specs::Forms::form_of))]
+fn is_bare(op: u8) -> bool
+    ensures { IsTrue result → form_of op ≡ Bare }
+{
+    match op {
+        0..=15 | 26..=53 | 59..=131 | 133..=152 | 172..=177 | 190..=191 | 194..=195 | 202 => true,
+        _ => false,
+    }
+}
+
+/// The opcode at the cursor, where it is the whole instruction, and what follows it. Most instructions are of this form.
+#[tactic(auto, unfolding(crate::specs::Reading::instr_at))]
+fn bare_from(cursor: Cursor<'_>) -> Option<(u8, Cursor<'_>)>
+    ensures { IfSome result (λ x. instr_at (cursor_of cursor.entry) ≡ Ok (Simple x.0, cursor_of x.1)) }
+{
+    match cursor.u8_at() {
+        Ok((op, after)) if is_bare(op) => Some((op, after)),
+        _ => None,
     }
 }
 

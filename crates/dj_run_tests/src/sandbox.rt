@@ -1,11 +1,14 @@
-ghost use Rattle.std.specs.Prelude.{◌≡◌, ◌<◌, ◌^◌, length, IfOk};
+ghost use Rattle.std.specs.Prelude.{◌≡◌, ◌<◌, ◌≤◌, ◌^◌, length, IfOk};
 ghost use Rattle.dj_straight.specs.Methods.{program_view};
+ghost use Rattle.dj_sandbox.specs.Limits.{most_file_bytes};
 ghost use Rattle.dj_sandbox.specs.Shaped.{AreShort};
 
 use dj_names::{Costs, Kind, Name, Outcome, Thresholds};
 use dj_report::{PathFile, Report, Violation};
 use dj_rules::RulesError;
-use dj_sandbox::{check, entry_name, entry_of, has_entry, run_violations, verify};
+use dj_sandbox::{
+    ClassSet, SandboxError, check, entry_name, entry_of, has_entry, run_violations, verify,
+};
 use dj_straight::{Action, StraightClass, StraightMethod};
 use std::alloc::Global;
 
@@ -20,9 +23,24 @@ const FILES: [PathFile<'static>; 1] = [PathFile {
     bytes: A,
 }];
 
+// The set of one file.
+fn set_of(alloc: Global, path: &str, bytes: &[u8]) -> Result<ClassSet, SandboxError>
+    requires { length bytes.now ≤ most_file_bytes }
+{
+    let path = String::from_str(alloc, path)?;
+    let bytes = Vec::from_slice(alloc, bytes)?;
+    let mut files = Vec::new(alloc);
+    files.push((path, bytes))?;
+    ClassSet::new(alloc, files)
+}
+
+fn check_a(alloc: Global) -> Result<Report, SandboxError> {
+    check(alloc, &set_of(alloc, "A.class", A)?)
+}
+
 #[test]
 fn checked(rt: HostRuntime) {
-    let report = check(rt.alloc(), &FILES);
+    let report = check_a(rt.alloc());
     assert!(rt; matches!(&report, Ok(Report::Accepted(1))));
 }
 
@@ -50,9 +68,14 @@ const THRESHOLDS: Thresholds = Thresholds {
     throw: 1_000_000,
 };
 
+fn verify_a(alloc: Global) -> Result<Report, SandboxError> {
+    let set = set_of(alloc, "A.class", A)?;
+    verify(alloc, &set, b"A", &[10, 11], THRESHOLDS)
+}
+
 #[test]
 fn run(rt: HostRuntime) {
-    let report = verify(rt.alloc(), &FILES, b"A", &[10, 11], THRESHOLDS);
+    let report = verify_a(rt.alloc());
     assert!(rt; matches!(&report, Ok(report) if is_returned(report)));
 }
 

@@ -1,4 +1,6 @@
 pub mod RunRules
+pub mod ByPath
+pub mod Lending
 pub mod Entries
 pub mod Classical
 pub mod InsertedLines
@@ -13,3 +15,4 @@ pub mod SomeRun
 pub mod OneJudgement
 pub mod SomeJudgement
 mod Facts
+mod SetFacts

@@ -1,4 +1,5 @@
 pub mod Limits
+pub mod ClassSets
 pub mod Entry
 pub mod Shaped
 pub mod Statuses

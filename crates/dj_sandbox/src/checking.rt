@@ -8,6 +8,8 @@ ghost use Rattle.dj_sandbox.specs.Late.{AreEarlyAlone, HasHierarchyLine, LinksFi
 ghost use Rattle.dj_sandbox.specs.Limits.{most_files};
 ghost use Rattle.dj_sandbox.specs.Statuses.{IsAmong, check_statuses};
 
+use crate::class_set::ClassSet;
+use crate::error::SandboxError;
 use crate::late::{Links, link_files};
 use dj_judge::{JudgedFiles, judge_files};
 use dj_linking::Linker;
@@ -87,8 +89,8 @@ fn check_violations(alloc: Global, files: &[PathFile<'_>]) -> Result<Violations,
     }
 }
 
-/// The report on class files, each under its path within the folder.
-pub fn check(alloc: Global, files: &[PathFile<'_>]) -> Result<Report, RulesError>
+// The report on class files, each under its path within the folder.
+fn check_files(alloc: Global, files: &[PathFile<'_>]) -> Result<Report, RulesError>
     requires few { length files.now ≤ most_files }
     requires short { All (λ file. length file.bytes.now < 2 ^ 32) files.now }
     ensures decided { IfOk result (IsDecided (check_stages (map path_file_view files.now))) }
@@ -99,4 +101,13 @@ pub fn check(alloc: Global, files: &[PathFile<'_>]) -> Result<Report, RulesError
         return Ok(Report::Rejected(violations));
     }
     Ok(Report::Accepted(files.len() as u32))
+}
+
+/// The report on a set of class files.
+pub fn check(alloc: Global, set: &ClassSet) -> Result<Report, SandboxError>
+    ensures decided { IfOk result (IsDecided (check_stages set.now)) }
+    ensures status { IfOk result (λ report. IsAmong (report_status report) check_statuses) }
+{
+    let files = set.path_files(alloc)?;
+    Ok(check_files(alloc, &files)?)
 }

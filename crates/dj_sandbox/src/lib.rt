@@ -2,12 +2,16 @@
 #![tactic(auto)]
 
 mod checking;
+mod class_set;
 mod entry;
+mod error;
 mod late;
 mod run_rules;
 mod running;
 
 pub use checking::check;
+pub use class_set::ClassSet;
 pub use entry::entry_name;
+pub use error::SandboxError;
 pub use run_rules::{entry_of, has_entry, run_violations};
 pub use running::verify;

@@ -15,6 +15,8 @@ ghost use Rattle.dj_sandbox.specs.Judging.{IsFirstPath, run_stages};
 ghost use Rattle.dj_sandbox.specs.Shaped.{AreShaped};
 ghost use Rattle.dj_sandbox.specs.Statuses.{IsAmong, run_statuses};
 
+use crate::class_set::ClassSet;
+use crate::error::SandboxError;
 use crate::run_rules::{entry_of, run_violations};
 use dj_names::{Name, Thresholds};
 use dj_report::{PathFile, Report};
@@ -65,8 +67,8 @@ fn run_entry(
     }
 }
 
-/// The report on a run of the class of this name on the input, within the thresholds. Each file stands under its path within the folder.
-pub fn verify(
+// The report on a run of the class of this name on the input, within the thresholds. Each file stands under its path within the folder.
+fn verify_files(
     alloc: Global,
     files: &[PathFile<'_>],
     class: &[u8],
@@ -95,4 +97,21 @@ pub fn verify(
         outcome: ending.outcome,
         costs: ending.costs,
     })
+}
+
+/// The report on a run of the class of this name on the input, within the thresholds.
+pub fn verify(
+    alloc: Global,
+    set: &ClassSet,
+    class: &[u8],
+    input: &[u8],
+    thresholds: Thresholds,
+) -> Result<Report, SandboxError>
+    requires input { length input.now ≤ most_input_bytes }
+    requires thresholds { IsWithinMost thresholds }
+    ensures decided { IfOk result (IsDecided (run_stages set.now class.now input.now thresholds)) }
+    ensures status { IfOk result (λ report. IsAmong (report_status report) run_statuses) }
+{
+    let files = set.path_files(alloc)?;
+    Ok(verify_files(alloc, &files, class, input, thresholds)?)
 }

@@ -16,6 +16,17 @@ made_at (true ∷ made) zero = refl
 made_at (false ∷ made) zero = refl
 made_at (b ∷ made) (suc n) = made_at made n
 
+-- whether an instruction makes an object, where there is one of this number
+pub makes_at : {A : Type 0} (f : A → Bool) (xs : List A) (n : ℕ) (x : A) → slice_get xs n ≡ Some x → get_or (map f xs) n false ≡ f x
+makes_at f [] n x at = absurd cc
+makes_at f (y ∷ xs) zero x at = let s : y ≡ x = cc in ap f s
+makes_at f (y ∷ xs) (suc n) x at = makes_at f xs n x at
+
+pub makes_past : {A : Type 0} (f : A → Bool) (xs : List A) (n : ℕ) → slice_get xs n ≡ None → get_or (map f xs) n false ≡ false
+makes_past f [] n at = refl
+makes_past f (y ∷ xs) zero at = absurd cc
+makes_past f (y ∷ xs) (suc n) at = makes_past f xs n at
+
 -- ---- slots
 
 pub slots_more : (xs : List (Option Kind)) (x : Option Kind) → entry_slots (xs ++ x ∷ []) ≡ entry_slots xs ++ entry_slots (x ∷ [])

@@ -21,9 +21,9 @@ use Rattle.dj_model.proofs.Flows.{either_way}
 use Rattle.dj_program.specs.Naming.{instruction_in, named_at}
 use Rattle.dj_shape.specs.Told.{ToldFrames, told_at}
 use Rattle.dj_shape.specs.Flows.{FlowsToFrame}
-use Rattle.dj_shape.specs.Forms.{StoresAt, StoresInForm, form_ends, FormFlows}
+use Rattle.dj_shape.specs.Forms.{StoresAt, form_ends, FormFlows}
 use Rattle.dj_shape.specs.Passing.{IsRun, JumpsFlow}
-use Rattle.dj_shape.specs.Works.{Work, Stores, got, put, work_of}
+use Rattle.dj_shape.specs.Works.{got, put, work_of}
 use Rattle.dj_shape.proofs.Parts.{at_contains, contains_at}
 
 -- ---- rows of opcodes
@@ -196,27 +196,6 @@ ends_so pool (instrs.Dynamic index) = refl
 ends_so pool (instrs.Class op index) = sym (class_calm op _).0
 ends_so pool (instrs.Array base) = sym (array_calm array_rows base).0
 ends_so pool (instrs.Multi index dims) = refl
-
-weaker : (slot : Option ℕ) (work : Work) → StoresAt None work → StoresAt slot work
-weaker slot (Stores kind at) s = absurd cc
-weaker slot work s = tt
-
-pub stores_so : (slot : Option ℕ) (pool : List Constant) (instr : Instr) → StoresInForm slot instr → StoresAt slot (work_of (instruction_in pool instr))
-unfolding instruction_of
-stores_so slot pool (instrs.Simple op) s = s
-stores_so slot pool (instrs.Push op value) s = tt
-stores_so slot pool (instrs.Literal op index) s = weaker slot (work_of (literal op (named_at pool index))) (literal_calm op (named_at pool index)).2
-stores_so slot pool (instrs.Local op at wide) s = s
-stores_so slot pool (instrs.Inc at by wide) s = tt
-stores_so slot pool (instrs.Branch op target) s = weaker slot (work_of (operand_does jump_rows Nothing op (unsigned_abs target))) (jump_jumps op (unsigned_abs target) Nothing).1
-stores_so slot pool (instrs.Table default low targets) s = tt
-stores_so slot pool (instrs.Lookup default pairs) s = tt
-stores_so slot pool (instrs.Member op index) s = weaker slot (work_of (member op (named_at pool index))) (member_calm op (named_at pool index)).2
-stores_so slot pool (instrs.Interface index count) s = weaker slot (work_of (interface_call count (named_at pool index))) (interface_calm count (named_at pool index)).2
-stores_so slot pool (instrs.Dynamic index) s = tt
-stores_so slot pool (instrs.Class op index) s = weaker slot (work_of (class_use op (named_at pool index))) (class_calm op (named_at pool index)).2
-stores_so slot pool (instrs.Array base) s = weaker slot (work_of (new_array array_rows base)) (array_calm array_rows base).2
-stores_so slot pool (instrs.Multi index dims) s = tt
 
 -- ---- jumps
 

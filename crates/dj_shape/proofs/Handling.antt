@@ -193,6 +193,26 @@ module _ (frames : ToldFrames) (rows : List Protected) (number : ℕ) (locals : 
     begun_more begun meet at from (inl nothing) = nothing_more begun meet at from nothing.0 nothing.1
     begun_more begun meet at from (inr asks) = asks_more begun meet at from asks
 
+-- ---- there are no ranges
+
+pub none_enter : (changed : Changed) (frames : ToldFrames) (number : ℕ) (locals : List (Option Kind)) (h : Handlers) → length h.rows.items ≡ 0
+    → IsKnownBut changed frames number locals h → Enters true frames number locals h
+none_enter changed frames number locals h none known = (
+  λ k row slot kind at from to tells. absurd (nothing k row at),
+  record {
+    rising = known.0.rising;
+    begun = record {
+      behind = λ k row less at. absurd (nothing k row at);
+      ahead = λ k row most at. absurd (nothing k row at);
+      asked = λ k row slot kind less at within t. absurd (nothing k row at);
+      real = λ slot short. let real = known.0.begun.real slot (omega arith) in absurd (nothing real.0 real.1 real.3);
+    };
+  },
+  λ slot short. let real = known.0.begun.real slot short in absurd (nothing real.0 real.1 real.3),
+) where
+  nothing : (k : ℕ) (row : Protected) → slice_get h.rows.items k ≡ Some row → ⊥
+  nothing k row at = let within = slice_get_within h.rows.items k row at in omega (arith, none)
+
 -- ---- local variables of which those after the last aren't kept
 
 module _ (n : ℕ) (frames : ToldFrames) (number : ℕ) (few all : List (Option Kind)) (h : Handlers) (same : padded n few ≡ all) where

@@ -1,5 +1,5 @@
 -- What is kept of the constants of a pool.
-use Rattle.std.proofs.Common.{◌≡◌, ℕ, zero, suc, ◌+◌, ◌<◌, ◌≤◌, List, [], ◌∷◌, ◌++◌, length, map, take, get_or, Option, Some, None, unwrap_or, refl, sym, ap, ◌∙◌}
+use Rattle.std.proofs.Common.{◌≡◌, ℕ, zero, suc, ◌+◌, ◌<◌, ◌≤◌, false, List, [], ◌∷◌, ◌++◌, length, map, take, get_or, Option, Some, None, unwrap_or, refl, sym, ap, ◌∙◌}
 use Rattle.std.proofs.lemmas.List.{append_assoc, take_more, take_all, map-append}
 use Rattle.dj_names.specs.declared.descriptor.Kind.{Kind}
 use Rattle.dj_names.specs.declared.descriptor.Kind.TheVariants as kinds
@@ -9,7 +9,8 @@ use Rattle.dj_names.specs.declared.descriptor.Of.TheVariants as ofs
 use Rattle.dj_names.specs.declared.descriptor.Desc.{Desc}
 use Rattle.dj_names.specs.declared.descriptor.Desc.TheVariants as descs
 use Rattle.dj_names.specs.Descriptors.{Describes, IsFieldDescriptor, type_kind, type_text}
-use Rattle.dj_names.specs.DescReading.{desc_read}
+use Rattle.dj_names.specs.declared.descriptor.Ty.{Ty}
+use Rattle.dj_names.specs.DescReading.{desc_read, field_read, opens}
 use Rattle.dj_names.specs.Types.{field_kind}
 use Rattle.dj_names.proofs.DescLaws.{desc_again, desc_takes}
 use Rattle.dj_pool.specs.declared.pool.Entry.{Entry}
@@ -19,7 +20,7 @@ use Rattle.dj_model.specs.Kinds.{Signature}
 use Rattle.dj_model.specs.Members.{with_kind}
 use Rattle.dj_model.specs.Types.{no_parameters}
 use Rattle.dj_declared.specs.Files.{desc_in}
-use Rattle.dj_shape.specs.Keeping.{text_kind, kind_by, call_by}
+use Rattle.dj_shape.specs.Keeping.{text_kind, text_call, kind_by, call_by}
 use Rattle.dj_shape.specs.declared.pool.ConstantKind.{ConstantKind}
 use Rattle.dj_shape.specs.declared.pool.ConstantKind.TheVariants as constants
 
@@ -31,6 +32,15 @@ not_some text (Some d) e none = absurd (none d (desc_takes text d e))
 
 pub not_read : (text : List ℕ) → ((d : Desc) → Describes text d → ⊥) → desc_read text ≡ None
 not_read text none = not_some text (desc_read text) refl none
+
+-- a text that starts otherwise is no descriptor of a method
+field_no_call : (text : List ℕ) (o : Option Ty) → opens text ≡ false → field_read text ≡ o → text_call text ≡ None
+unfolding desc_read
+field_no_call text None e f = rw (e, f) refl
+field_no_call text (Some ty) e f = rw (e, f) refl
+
+pub not_opened : (text : List ℕ) → opens text ≡ false → text_call text ≡ None
+not_opened text e = field_no_call text (field_read text) e refl
 
 pub desc_in_is : (text : List ℕ) (desc : Desc) → Describes text desc → desc_in text ≡ desc
 unfolding desc_in

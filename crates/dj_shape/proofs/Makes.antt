@@ -1,5 +1,5 @@
 -- Which instructions make an object of a class: new, with a class.
-use Rattle.std.proofs.Common.{◌≡◌, ℕ, Bool, true, false, ◌&&◌, List, [], ◌∷◌, Option, get_or, nat_eq, nat_lt, refl, sym, inl, inr}
+use Rattle.std.proofs.Common.{◌≡◌, ℕ, Bool, true, false, ◌&&◌, List, [], ◌∷◌, map, Option, get_or, nat_eq, nat_lt, refl, sym, ap, ◌∙◌, inl, inr}
 use Rattle.std.specs.Prelude.{⊤}
 use Rattle.dj_names.specs.declared.descriptor.Base.{Base}
 use Rattle.dj_names.specs.declared.run.Element.{Element}
@@ -117,3 +117,10 @@ makes_so pool kinds (instrs.Dynamic index) are = refl
 makes_so pool kinds (instrs.Class op index) are = class_makes kinds.calls op (named_at pool index) (get_or kinds.constants index constants.Other) (are.each index)
 makes_so pool kinds (instrs.Array base) are = sym (array_none array_rows base)
 makes_so pool kinds (instrs.Multi index dims) are = refl
+
+pub all_make_so : (pool : List Constant) (kinds : KeptKinds) → ArePoolKinds pool kinds → (code : List Instr)
+    → map (form_makes kinds.constants) code ≡ map (λ i. makes_uninitialised (instruction_in pool i)) code
+all_make_so pool kinds are [] = refl
+all_make_so pool kinds are (instr ∷ code) =
+    ap (λ (b : Bool). b ∷ map (form_makes kinds.constants) code) (makes_so pool kinds instr are)
+    ∙ ap (λ (l : List Bool). makes_uninitialised (instruction_in pool instr) ∷ l) (all_make_so pool kinds are code)

@@ -1,8 +1,10 @@
 -- The places of the entries of a frame's local variables, and the frames that are kept.
-use Rattle.std.proofs.Common.{◌≡◌, ℕ, zero, suc, ◌+◌, ◌-◌, ◌<◌, ◌≤◌, Bool, true, false, List, [], ◌∷◌, ◌++◌, length, take, min, get_or, Option, Some, None, Result, Ok, Err, IfOk, IfErr, slice_get, nat_eq, nat_le, if◌then◌else◌, refl, sym, ap, subst, ◌∙◌, inl, inr, arith}
+use Rattle.std.proofs.Common.{◌≡◌, ℕ, zero, suc, ◌+◌, ◌-◌, ◌<◌, ◌≤◌, Bool, true, false, List, [], ◌∷◌, ◌++◌, length, take, min, get_or, set, Option, Some, None, Result, Ok, Err, IfOk, IfErr, slice_get, nat_eq, nat_le, if◌then◌else◌, refl, sym, ap, subst, ◌∙◌, inl, inr, arith}
 use Rattle.std.specs.Option.{option_map}
 use Rattle.std.specs.BTreeMap.{BTreeMap}
-use Rattle.std.proofs.lemmas.List.{take-append-le, take_all, take_more}
+use Rattle.std.proofs.lemmas.List.{get_or-set_other, get_or_past, take-append-le, take_all, take_more}
+use Rattle.std.proofs.lemmas.Bool.Decides.{nat_tests}
+use Rattle.std.proofs.lemmas.Grind.{get_or-set_at}
 use Rattle.std.proofs.lemmas.Option.{slice_get-get_or}
 use Rattle.dj_names.specs.declared.descriptor.Kind.{Kind}
 use Rattle.dj_ops.specs.declared.frames.Form.{Form}
@@ -14,7 +16,7 @@ use Rattle.dj_shape.specs.declared.arena.Slot.{Slot}
 use Rattle.dj_shape.specs.declared.arena.Place.{Place}
 use Rattle.dj_shape.specs.declared.frames.KeptFrame.{KeptFrame}
 use Rattle.dj_shape.specs.Arena.{slots_at, AreLinked, IsIn, IsAt, Extends}
-use Rattle.dj_shape.specs.Placing.{kept_at, ArePlaced, HasOneMore, HasSame}
+use Rattle.dj_shape.specs.Placing.{kept_at, AreMarked, ArePlaced, HasOneMore, HasSame}
 use Rattle.dj_shape.specs.Told.{Told, ToldFrames, told_at, told_in, Grows, IsKept}
 use Rattle.dj_shape.specs.declared.reading.Reader.{Reader}
 use Rattle.dj_shape.specs.Reading.{ChangesTo, ArePlaces, IsReading, kept_entries}
@@ -159,6 +161,39 @@ pub placed_after : {A E : Type 0} (r : Result A E) (slots : List Slot) (old new 
     → IfErr r (λ e. HasSame old new) → IsIn slots kept.place → ArePlaced slots old → ArePlaced slots new
 placed_after (Ok x) slots old new at kept more same is placed = placed_more slots old new at kept more is placed
 placed_after (Err e) slots old new at kept more same is placed = placed_same slots old new same placed
+
+-- one more is marked
+pub marked_set : (marked : List Bool) (number : ℕ) → number < length marked → (other : ℕ) → get_or (set marked number true) other true ≡ false
+    → (other ≡ number → ⊥) × (get_or marked other true ≡ false)
+marked_set marked number within other e = (own, sym (get_or-set_other marked number other true true own) ∙ e) where
+  own : other ≡ number → ⊥
+  own same =
+      let t : true ≡ false = sym (get_or-set_at marked number other true true same within) ∙ e in
+      absurd cc
+
+pub marked_past : (marked : List Bool) (number : ℕ) → length marked ≤ number → (other : ℕ) → get_or marked other true ≡ false
+    → (other ≡ number → ⊥) × (get_or marked other true ≡ false)
+marked_past marked number past other e = (own, e) where
+  own : other ≡ number → ⊥
+  own same =
+      let t : true ≡ false = sym (get_or_past marked other true (omega arith)) ∙ e in
+      absurd cc
+
+other_number : (a b : ℕ) → (b ≡ a → ⊥) → nat_eq a b ≡ false
+other_number a b differ = by (nat_eq a b) refl where
+  by : (t : Bool) → nat_eq a b ≡ t → t ≡ false
+  by true e = let same : b ≡ a = grind (arith, nat_tests) in absurd (differ same)
+  by false e = refl
+
+-- the marks of the frames, where the one that is kept is marked first
+pub marked_after : {A E : Type 0} (r : Result A E) (before after : List Bool) (old new : BTreeMap ℕ KeptFrame) (at : ℕ) (kept : KeptFrame) → IfOk r (λ x. HasOneMore old new at kept)
+    → IfErr r (λ e. HasSame old new) → ((n : ℕ) → get_or after n true ≡ false → (n ≡ at → ⊥) × (get_or before n true ≡ false)) → AreMarked before old → AreMarked after new
+marked_after (Ok x) before after old new at kept more same first marks number e =
+    let own = first number e in
+    let other = other_number at number own.0 in
+    more number ∙ ap (λ (b : Bool). or_else (kept_at old number) (if b then Some kept else None)) other
+    ∙ ap (λ (o : Option KeptFrame). or_else o None) (marks number own.1)
+marked_after (Err f) before after old new at kept more same first marks number e = same number ∙ marks number (first number e).1
 
 pub told_none : (frames : ToldFrames) (number : ℕ) → kept_at frames.told number ≡ None → told_at frames number ≡ None
 unfolding told_at

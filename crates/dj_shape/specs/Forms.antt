@@ -3,23 +3,18 @@ use Rattle.std.specs.Prelude.{◌≡◌, ℕ, ◌+◌, ◌-◌, ⊤, Bool, true,
 use Rattle.dj_ops.specs.declared.instruction.Instr.{Instr}
 use Rattle.dj_ops.specs.declared.instruction.Instr.TheVariants as instrs
 use Rattle.dj_model.specs.Instructions.{Nothing, ends}
-use Rattle.dj_model.specs.Opcodes.{simple, operand_does, local_rows, jump_rows}
+use Rattle.dj_model.specs.Opcodes.{simple, operand_does, jump_rows}
 use Rattle.dj_model.specs.Kinds.{Kinds}
 use Rattle.dj_shape.specs.declared.needs.Changed.{Changed}
 use Rattle.dj_shape.specs.declared.needs.Changed.TheVariants as changes
 use Rattle.dj_shape.specs.Told.{ToldFrames, told_at}
 use Rattle.dj_shape.specs.Flows.{FlowsToFrame}
-use Rattle.dj_shape.specs.Works.{Work, Stores, work_of}
+use Rattle.dj_shape.specs.Works.{Work, Stores}
 
 -- the slot in which it stores, where it does
 abbrev pub StoresAt : Option ℕ → Work → Type 0
 StoresAt slot (Stores kind at) = slot ≡ Some at
 StoresAt slot work = ⊤
-
-abbrev pub StoresInForm : Option ℕ → Instr → Type 0
-StoresInForm slot (instrs.Simple op) = StoresAt slot (work_of (simple Nothing op))
-StoresInForm slot (instrs.Local op at wide) = StoresAt slot (work_of (operand_does local_rows Nothing op at))
-StoresInForm slot instr = ⊤
 
 -- the local variables around the slot
 abbrev pub around : Option ℕ → Changed

@@ -1,5 +1,5 @@
 -- The code's own: frames as they are kept, whose local variables stand in slots.
-use Rattle.std.specs.Prelude.{◌≡◌, ℕ, List, Option, Some, None, nat_eq, if◌then◌else◌}
+use Rattle.std.specs.Prelude.{◌≡◌, ℕ, Bool, true, false, List, get_or, Option, Some, None, nat_eq, if◌then◌else◌}
 use Rattle.std.specs.Ordering.{nat_cmp}
 use Rattle.std.specs.BTreeMap.{BTreeMap, get}
 use Rattle.dj_model.specs.Linking.{or_else}
@@ -13,6 +13,10 @@ kept_at told number = get nat_cmp told number
 -- the local variables of each are a place of these slots
 abbrev pub ArePlaced : List Slot → BTreeMap ℕ KeptFrame → Type 0
 ArePlaced slots told = (number : ℕ) (kept : KeptFrame) → kept_at told number ≡ Some kept → IsIn slots kept.place
+
+-- an instruction that isn't marked has no frame
+abbrev pub AreMarked : List Bool → BTreeMap ℕ KeptFrame → Type 0
+AreMarked marked told = (number : ℕ) → get_or marked number true ≡ false → kept_at told number ≡ None
 
 -- a frame is kept, where none was before
 abbrev pub HasOneMore : BTreeMap ℕ KeptFrame → BTreeMap ℕ KeptFrame → ℕ → KeptFrame → Type 0

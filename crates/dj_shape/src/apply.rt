@@ -3,6 +3,7 @@ ghost use Rattle.dj_names.specs.declared.descriptor.Kind.TheVariants as kinds;
 ghost use Rattle.dj_pool.specs.Pool.{Constant};
 ghost use Rattle.dj_program.specs.Naming.{instruction_in};
 ghost use Rattle.dj_model.specs.Program.{Code};
+ghost use Rattle.dj_model.specs.Instructions.{Instruction};
 ghost use Rattle.dj_model.specs.Kinds.{Signature};
 ghost use Rattle.dj_model.specs.Values.{local_at};
 ghost use Rattle.dj_model.specs.Shape.{after, gives, is_kind, result_list, same_result, taken};
@@ -22,24 +23,24 @@ use crate::state::KindState;
 use dj_names::Kind;
 use dj_ops::Instr;
 
-/// Whether the instruction finds what it takes, and what it gives fits. Then the kinds after it stand, and else it doesn't matter which.
+/// Whether the instruction with this effect finds what it takes, and what it gives fits. Then the kinds after it stand, and else it doesn't
+/// matter which.
 pub fn apply(
     state: &mut KindState,
     kinds: &PoolKinds,
     returned: Option<Kind>,
-    instr: &Instr,
+    effect: Effect,
 ) -> Result<bool, ShapeError>
     ensures room { SameRoom state.old state.new }
-    ensures after { IfOk result (λ fits. (pool : List Constant) (signature : Signature) (code : Code) → ArePoolKinds pool kinds.now
-        → GivesResult signature returned → HasRoomOf state.old code
-        → Leaves fits (after signature code (instruction_in pool instr.now) state.old.kinds) state.new.kinds) }
+    ensures after { IfOk result (λ fits. (signature : Signature) (code : Code) (i : Instruction) → work_view kinds.now.calls effect ≡ work_of i
+        → GivesResult signature returned → HasRoomOf state.old code → Leaves fits (after signature code i state.old.kinds) state.new.kinds) }
 {
-    perform(state, kinds, returned, effect_of(kinds, instr))
+    perform(state, kinds, returned, effect)
 }
 
-// What an instruction does.
+/// What an instruction does.
 #[tactic(auto, unfolding(dj_model::specs::Opcodes::instruction_of))]
-fn effect_of(kinds: &PoolKinds, instr: &Instr) -> Effect
+pub fn effect_of(kinds: &PoolKinds, instr: &Instr) -> Effect
     ensures { (pool : List Constant) → ArePoolKinds pool kinds.now → work_view kinds.now.calls result ≡ work_of (instruction_in pool instr.now) }
 {
     match instr {

@@ -1,6 +1,6 @@
-ghost use Rattle.std.specs.Prelude.{IfErr, IfOk};
+ghost use Rattle.std.specs.Prelude.{◌≡◌, ℕ, true, false, get_or, IfErr, IfOk};
 ghost use Rattle.dj_shape.specs.Arena.{AreLinked};
-ghost use Rattle.dj_shape.specs.Placing.{ArePlaced, HasOneMore, HasSame};
+ghost use Rattle.dj_shape.specs.Placing.{AreMarked, ArePlaced, HasOneMore, HasSame};
 
 use crate::arena::{Locals, Place, Slot, add_slot};
 use crate::error::ShapeError;
@@ -26,13 +26,16 @@ pub struct Telling<'a> {
 }
 
 /// What the frames of a stack map tell, by the numbers of their instructions. Their local variables stand in slots, of which a frame shares
-/// those that it has from the frame before it: so all frames together take no more memory than their stack map.
+/// those that it has from the frame before it: so all frames together take no more memory than their stack map, and a byte for each instruction.
 #[derive(Drop)]
 pub struct Frames {
     slots: Vec<Slot>,
     told: BTreeMap<u64, KeptFrame>,
+    // Of each instruction, whether it may have a frame, so that most aren't looked up.
+    marked: Vec<bool>,
     pub ghost linked: { AreLinked slots.items },
     pub ghost placed: { ArePlaced slots.items told },
+    pub ghost marks: { AreMarked marked.items told },
 }
 
 // A frame is kept, if none is at the instruction yet.
@@ -46,23 +49,56 @@ fn keep(told: &mut BTreeMap<u64, KeptFrame>, at: u64, kept: KeptFrame) -> Result
     Ok(())
 }
 
+// Whether the instruction of the number may have a frame. Those after the last may.
+fn is_marked(marked: &[bool], number: u64) -> bool
+    ensures { result ≡ get_or marked.now number true }
+{
+    match marked.get(number as usize) {
+        None => true,
+        Some(may) => *may,
+    }
+}
+
+// The instruction of the number may have a frame.
+#[tactic(auto, using(crate::proofs::Places::marked_set, crate::proofs::Places::marked_past))]
+fn mark(marked: &mut [bool], number: u64)
+    ensures { (other : ℕ) → get_or marked.new other true ≡ false → (other ≡ number → ⊥) × (get_or marked.old other true ≡ false) }
+{
+    let at = number as usize;
+    if at < marked.len() {
+        marked[at] = true;
+    }
+}
+
 impl Frames {
     ghost use Rattle.std.specs.Prelude.{◌≡◌, ℕ, ◌∷◌, ◌++◌, [], None, Some, IfOk, MatchOption};
     ghost use Rattle.dj_shape.specs.Arena.{IsAt, IsIn, slots_at};
     ghost use Rattle.dj_shape.specs.Told.{Grows, IsKept, told_at, told_by, told_in};
 
-    /// No frames.
-    pub fn new(alloc: Global) -> Frames
-        ensures { (number : ℕ) → told_at result number ≡ None }
+    /// No frames, of code of so many instructions.
+    pub fn new(alloc: Global, count: usize) -> Result<Frames, ShapeError>
+        ensures { IfOk result (λ frames. (number : ℕ) → told_at frames number ≡ None) }
     {
-        Frames {
+        Ok(Frames {
             slots: Vec::new(alloc),
             told: BTreeMap::new(alloc),
-        }
+            marked: vec![in alloc; false; count]?,
+        })
     }
 
     /// What the frame at the instruction of this number tells, if there is one.
     pub fn at(&self, number: u64) -> Option<Telling<'_>>
+        ensures { MatchOption result (told_at self.now number ≡ None) (λ telling. told_at self.now number ≡ Some (told_by telling)) }
+    {
+        if is_marked(&self.marked, number) {
+            self.look_up(number)
+        } else {
+            None
+        }
+    }
+
+    // The same, whether the instruction is marked or not.
+    fn look_up(&self, number: u64) -> Option<Telling<'_>>
         ensures { MatchOption result (told_at self.now number ≡ None) (λ telling. told_at self.now number ≡ Some (told_by telling)) }
     {
         match self.told.get(&number) {
@@ -97,6 +133,7 @@ impl Frames {
         ensures same { self.new.slots.items ≡ self.old.slots.items }
         ensures kept { IfOk result (λ x. IsKept self.old self.new at (told_in self.old.slots.items kept)) }
     {
+        mark(&mut self.marked, at);
         keep(&mut self.told, at, kept)
     }
 }

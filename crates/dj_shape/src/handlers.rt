@@ -106,6 +106,9 @@ impl Handlers {
         ensures same { self.new.rows.items ≡ self.old.rows.items }
         ensures entered { IfOk result (λ handled. IsKnownBut changed frames.now number locals.now self.old → Enters handled frames.now number locals.now self.new) }
     {
+        if self.rows.is_empty() {
+            return Ok(true);
+        }
         if !meets(&self.needs, number, locals, changed) {
             return Ok(false);
         }

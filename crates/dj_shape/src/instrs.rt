@@ -1,16 +1,15 @@
 ghost use Rattle.std.specs.Prelude.{◌≡◌, ℕ, List, All, Option, Decides};
 ghost use Rattle.dj_pool.specs.Pool.{Constant};
 ghost use Rattle.dj_program.specs.Naming.{instruction_in};
-ghost use Rattle.dj_model.specs.Instructions.{Nothing, ends, makes_uninitialised, targets};
+ghost use Rattle.dj_model.specs.Instructions.{Instruction, Nothing, ends, targets};
 ghost use Rattle.dj_model.specs.Kinds.{Signature};
 ghost use Rattle.dj_model.specs.Opcodes.{jump_rows, last_rows, operand_does, row_does, simple};
-ghost use Rattle.dj_shape.specs.Forms.{FlowsAt, FormFlows, StoresAt, StoresInForm, around, form_ends};
+ghost use Rattle.dj_shape.specs.Forms.{FlowsAt, FormFlows, StoresAt, around, form_ends};
 ghost use Rattle.dj_shape.specs.Makes.{form_makes, is_class};
-ghost use Rattle.dj_shape.specs.Pools.{ArePoolKinds};
 ghost use Rattle.dj_shape.specs.Passing.{ChangesOnly, IsRun, JumpsFlow};
 ghost use Rattle.dj_shape.specs.Works.{work_of, work_view};
 
-use crate::effect::{Effect, local_effect, simple_effect};
+use crate::effect::Effect;
 use crate::flows::flows_to_frame;
 use crate::frames::Frames;
 use crate::needs::Changed;
@@ -80,17 +79,6 @@ fn effect_slot(effect: Effect) -> Option<u16>
     }
 }
 
-// The slot in which it stores, if it does.
-fn stored_slot(instr: &Instr) -> Option<u16>
-    ensures { StoresInForm result instr.now }
-{
-    match instr {
-        Instr::Simple { op } => effect_slot(simple_effect(*op)),
-        Instr::Local { op, slot, .. } => effect_slot(local_effect(*op, *slot)),
-        _ => None,
-    }
-}
-
 fn around(slot: Option<u16>) -> Changed
     ensures { result ≡ around slot }
 {
@@ -103,11 +91,11 @@ fn around(slot: Option<u16>) -> Changed
     }
 }
 
-/// The local variables that may have another kind after it.
-pub fn changed_by(instr: &Instr) -> Changed
-    ensures { (pool : List Constant) → ChangesOnly result (instruction_in pool instr.now) }
+/// The local variables that may have another kind after an instruction with this effect.
+pub fn changed_by(effect: Effect) -> Changed
+    ensures { (calls : List (Option Signature)) (i : Instruction) → work_view calls effect ≡ work_of i → ChangesOnly result i }
 {
-    around(stored_slot(instr))
+    around(effect_slot(effect))
 }
 
 // ---- where it jumps to
@@ -172,18 +160,12 @@ fn is_class(constant: ConstantKind) -> bool
     matches!(constant, ConstantKind::Class)
 }
 
-fn form_makes(kinds: &PoolKinds, instr: &Instr) -> bool
+/// Whether it makes an object of a class.
+pub fn makes_object(kinds: &PoolKinds, instr: &Instr) -> bool
     ensures { result ≡ form_makes kinds.now.constants instr.now }
 {
     match instr {
         Instr::Class { op, index } => *op == 187 && is_class(kinds.constant(*index)),
         _ => false,
     }
-}
-
-/// Whether it makes an object of a class.
-pub fn makes_object(kinds: &PoolKinds, instr: &Instr) -> bool
-    ensures { (pool : List Constant) → ArePoolKinds pool kinds.now → result ≡ makes_uninitialised (instruction_in pool instr.now) }
-{
-    form_makes(kinds, instr)
 }

@@ -94,13 +94,14 @@ fn fault_with_frames(
     ensures { IfOk result (λ fault. (pool : List Constant) → ArePoolKinds pool kinds.now → code.now.frames ≡ Some frames.now
         → IsFaultOf (signature_with is_static call.now) (code_in pool (parts_of code.now)) fault) }
 {
+    let instrs = code.code.code.as_slice();
     let entries = parameter_entries(alloc, is_static, call)?;
-    let reader = Reader::new(alloc, entries)?;
+    let reader = Reader::new(alloc, entries, instrs.len())?;
     let mut state = KindState::new(alloc, code.max_stack, code.max_locals);
     if !state.set(&reader.locals(), &[])? {
         return Ok(Some(0));
     }
-    let made = objects_made(alloc, kinds, code.code.code.as_slice())?;
+    let made = objects_made(kinds, instrs);
     match read_frames(
         alloc,
         (code.max_stack, code.max_locals),

@@ -8,8 +8,10 @@ ghost use Rattle.dj_shape.specs.Handlers.{Enters, IsKnownBut};
 ghost use Rattle.dj_shape.specs.Passing.{Answers, Before, Case, HasHandlerFrame, IsCase, IsFirst, IsFirstUnhandled, Leaving, MeetsFrame, least_of};
 ghost use Rattle.dj_shape.specs.Standing.{HasRoomOf, SameRoom};
 ghost use Rattle.dj_shape.specs.Told.{told_at};
+ghost use Rattle.dj_shape.specs.Works.{work_of, work_view};
 
-use crate::apply::apply;
+use crate::apply::{apply, effect_of};
+use crate::effect::Effect;
 use crate::error::ShapeError;
 use crate::flows::{flows, flows_to, same_stacks};
 use crate::frames::Frames;
@@ -81,13 +83,14 @@ impl Pass {
     }
 
     // Whether what is left flows to where the run goes on.
-    fn leave(&mut self, method: &Method<'_>, number: u32, instr: &Instr) -> bool
+    fn leave(&mut self, method: &Method<'_>, number: u32, instr: &Instr, effect: Effect) -> bool
         requires { number < length method.now.code.now }
         ensures same { (self.new.state ≡ self.old.state) × (self.new.handlers ≡ self.old.handlers) }
-        ensures left { (pool : List Constant) → Leaving method.now number self.new.state.kinds self.new.going self.new.changed (instruction_in pool instr.now) result }
+        ensures left { (pool : List Constant) → work_view method.now.kinds.now.calls effect ≡ work_of (instruction_in pool instr.now)
+            → Leaving method.now number self.new.state.kinds self.new.going self.new.changed (instruction_in pool instr.now) result }
     {
         self.going = !ends(instr);
-        self.changed = changed_by(instr);
+        self.changed = changed_by(effect);
         jumps_flow(&self.state, &method.frames, instr)
             && (!self.going || self.goes_on(method, number as usize + 1))
     }
@@ -122,10 +125,11 @@ impl Pass {
         if !self.meet_handlers(method, number)? {
             return Ok(false);
         }
-        if !apply(&mut self.state, method.kinds, method.returned, instr)? {
+        let effect = effect_of(method.kinds, instr);
+        if !apply(&mut self.state, method.kinds, method.returned, effect)? {
             return Ok(false);
         }
-        Ok(self.leave(method, number, instr))
+        Ok(self.leave(method, number, instr, effect))
     }
 
     /// Before the first instruction stand these kinds.

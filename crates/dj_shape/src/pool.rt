@@ -1,5 +1,6 @@
 ghost use Rattle.std.specs.Prelude.{◌≡◌, ◌<◌, ◌^◌, length, get_or, option_copied, IfOk};
 ghost use Rattle.std.specs.Option.{option_map};
+ghost use Rattle.dj_names.specs.DescReading.{opens};
 ghost use Rattle.dj_pool.specs.Pool.{IsPool, desc_at};
 ghost use Rattle.dj_pool.specs.Views.{constant_of};
 ghost use Rattle.dj_model.specs.Kinds.{call_signature, signature_with};
@@ -217,11 +218,24 @@ fn desc_call(alloc: Global, desc: &Desc) -> Result<Option<CallKinds>, ShapeError
     }
 }
 
+// Whether the text starts as the descriptor of a method does.
+fn opens_method(text: &[u8]) -> bool
+    ensures { result ≡ opens text.now }
+{
+    match text {
+        [b'(', ..] => true,
+        _ => false,
+    }
+}
+
 // The kinds of a call of the method whose descriptor is this text.
 #[tactic(auto, using(crate::proofs::Keeping::not_read))]
 fn text_call(alloc: Global, text: &[u8]) -> Result<Option<CallKinds>, ShapeError>
     ensures { IfOk result (λ call. call ≡ text_call text.now) }
 {
+    if !opens_method(text) {
+        return Ok(None);
+    }
     match read_desc(alloc, text) {
         Ok(desc) => desc_call(alloc, &desc),
         Err(DescError::NotADescriptor) => Ok(None),

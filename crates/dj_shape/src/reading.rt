@@ -8,6 +8,7 @@ ghost use Rattle.dj_model.specs.Instructions.{makes_uninitialised};
 ghost use Rattle.dj_model.specs.Kinds.{entries_of, entry_of, entry_slots, form_entries, made_by, stack_of};
 ghost use Rattle.dj_shape.specs.declared.arena.Slot.{Slot};
 ghost use Rattle.dj_shape.specs.Arena.{IsAt, IsIn, slots_at};
+ghost use Rattle.dj_shape.specs.Makes.{form_makes};
 ghost use Rattle.dj_shape.specs.Pools.{ArePoolKinds};
 ghost use Rattle.dj_shape.specs.Reading.{ArePlaces, AreRead, ChangesTo, Gains, IsFrameRead, IsReading, entry_view, frame_code, kept_entries, made_as};
 ghost use Rattle.dj_shape.specs.Told.{Grows, told_at};
@@ -21,37 +22,56 @@ use crate::pool::PoolKinds;
 use dj_names::Kind;
 use dj_ops::{Form, Frame, Instr, VType};
 use std::alloc::Global;
+use std::marker::Model;
+
+/// Of each instruction of code, whether it makes an object of a class.
+#[derive(Drop)]
+pub struct Made<'a> {
+    kinds: &'a PoolKinds,
+    code: &'a [Instr],
+}
+
+impl<'a> Model for Made<'a> {
+    ghost use Rattle.std.specs.Prelude.{Bool, List, map};
+    ghost use Rattle.dj_shape.specs.Makes.{form_makes};
+
+    ghost Value = { List Bool };
+
+    ghost view = { λ made. map (form_makes made.kinds.now.constants) made.code.now };
+}
 
 /// Of each instruction, whether it makes an object of a class.
-pub fn objects_made(
-    alloc: Global,
-    kinds: &PoolKinds,
-    code: &[Instr],
-) -> Result<Vec<bool>, ShapeError>
-    ensures { IfOk result (λ made. (pool : List Constant) → ArePoolKinds pool kinds.now → made.items ≡ map (λ i. makes_uninitialised (instruction_in pool i)) code.now) }
+pub fn objects_made<'a>(kinds: &'a PoolKinds, code: &'a [Instr]) -> Made<'a>
+    ensures { (pool : List Constant) → ArePoolKinds pool kinds.now → result ≡ map (λ i. makes_uninitialised (instruction_in pool i)) code.now }
 {
-    let mut made = Vec::new(alloc);
-    for instr in code {
-        made.push(makes_object(kinds, instr))?;
-    }
-    Ok(made)
+    Made { kinds, code }
 }
 
 // Whether the instruction of the number makes an object.
-fn is_made(made: &[bool], number: u32) -> bool
-    ensures { result ≡ get_or made.now number false }
+#[tactic(auto, using(crate::proofs::Entries::makes_at, crate::proofs::Entries::makes_past))]
+fn makes_at(kinds: &PoolKinds, code: &[Instr], number: u32) -> bool
+    ensures { result ≡ get_or (map (form_makes kinds.now.constants) code.now) number false }
 {
-    match made.get(number as usize) {
+    match code.get(number as usize) {
         None => false,
-        Some(makes) => *makes,
+        Some(instr) => makes_object(kinds, instr),
+    }
+}
+
+impl Made<'_> {
+    // Whether the instruction of the number makes an object.
+    fn is_made(&self, number: u32) -> bool
+        ensures { result ≡ get_or self.now number false }
+    {
+        makes_at(self.kinds, self.code, number)
     }
 }
 
 // What an instruction makes, if it makes an object.
-fn made_entry(made: &[bool], number: u32) -> Option<Option<Kind>>
+fn made_entry(made: &Made<'_>, number: u32) -> Option<Option<Kind>>
     ensures { entry_view result ≡ made_by (slice_get (map made_as made.now) number) }
 {
-    if is_made(made, number) {
+    if made.is_made(number) {
         Some(Some(Kind::Ref))
     } else {
         None
@@ -59,7 +79,7 @@ fn made_entry(made: &[bool], number: u32) -> Option<Option<Kind>>
 }
 
 // What a type tells: a value of a kind, or any; or nothing.
-fn entry_of(made: &[bool], ty: VType) -> Option<Option<Kind>>
+fn entry_of(made: &Made<'_>, ty: VType) -> Option<Option<Kind>>
     ensures { (max_stack max_locals : ℕ) → entry_view result ≡ entry_of (frame_code max_stack max_locals made.now) ty }
 {
     match ty {
@@ -75,7 +95,7 @@ fn entry_of(made: &[bool], ty: VType) -> Option<Option<Kind>>
 // Appends what types tell, one after the other. Whether each tells something.
 fn add_entries(
     entries: &mut Vec<Option<Kind>>,
-    made: &[bool],
+    made: &Made<'_>,
     types: &[VType],
 ) -> Result<bool, ShapeError>
     ensures { IfOk result (λ told. (max_stack max_locals : ℕ) → Gains told (entries_of (frame_code max_stack max_locals made.now) types.now) entries.old.items entries.new.items) }
@@ -104,7 +124,11 @@ fn stack_kinds(alloc: Global, entries: &[Option<Kind>]) -> Result<Option<Vec<Kin
 }
 
 // The operands that types tell.
-fn operands(alloc: Global, made: &[bool], types: &[VType]) -> Result<Option<Vec<Kind>>, ShapeError>
+fn operands(
+    alloc: Global,
+    made: &Made<'_>,
+    types: &[VType],
+) -> Result<Option<Vec<Kind>>, ShapeError>
     ensures { IfOk result (λ stack. (max_stack max_locals : ℕ) → option_map (λ v. v.items) stack ≡ option_and_then stack_of (entries_of (frame_code max_stack max_locals made.now) types.now)) }
 {
     let mut entries = Vec::new(alloc);
@@ -129,7 +153,7 @@ fn chop(alloc: Global, entries: &mut Vec<Option<Kind>>, count: usize) -> Option<
 fn change(
     alloc: Global,
     entries: &mut Vec<Option<Kind>>,
-    made: &[bool],
+    made: &Made<'_>,
     form: &Form,
 ) -> Result<Option<Vec<Kind>>, ShapeError>
     ensures { IfOk result (λ stack. (max_stack max_locals : ℕ) → ChangesTo (option_map (λ v. v.items) stack) (form_entries (frame_code max_stack max_locals made.now) entries.old.items form.now) entries.new.items) }
@@ -216,8 +240,12 @@ impl Reader {
         Ok(())
     }
 
-    /// No frames, before which these local variables stand.
-    pub fn new(alloc: Global, entries: Vec<Option<Kind>>) -> Result<Reader, ShapeError>
+    /// No frames, of code of so many instructions, before which these local variables stand.
+    pub fn new(
+        alloc: Global,
+        entries: Vec<Option<Kind>>,
+        count: usize,
+    ) -> Result<Reader, ShapeError>
         ensures reading { IfOk result (λ reader. IsReading reader) }
         ensures entries { IfOk result (λ reader. reader.entries.items ≡ entries.items) }
         ensures none { IfOk result (λ reader. (number : ℕ) → told_at reader.frames number ≡ None) }
@@ -225,7 +253,7 @@ impl Reader {
         let mut reader = Reader {
             entries,
             places: Vec::new(alloc),
-            frames: Frames::new(alloc),
+            frames: Frames::new(alloc, count)?,
         };
         reader.place_all()?;
         Ok(reader)
@@ -251,7 +279,7 @@ impl Reader {
     fn change(
         &mut self,
         alloc: Global,
-        made: &[bool],
+        made: &Made<'_>,
         form: &Form,
     ) -> Result<Option<Vec<Kind>>, ShapeError>
         requires { IsReading self.old }
@@ -274,7 +302,7 @@ impl Reader {
         &mut self,
         alloc: Global,
         room: (u16, u16),
-        made: &[bool],
+        made: &Made<'_>,
         form: &Form,
     ) -> Result<Option<KeptFrame>, ShapeError>
         requires { IsReading self.old }
@@ -299,7 +327,7 @@ impl Reader {
 pub fn read_frames(
     alloc: Global,
     room: (u16, u16),
-    made: &[bool],
+    made: &Made<'_>,
     mut reader: Reader,
     frames: &[Frame],
 ) -> Result<Result<Frames, u32>, ShapeError>

@@ -13,13 +13,17 @@ first_of_both : (a b : Bool) → (a && b) ≡ true → a ≡ true
 first_of_both true b h = refl
 first_of_both false b h = absurd cc
 
--- the path is the folder, a slash and more
-pub after_folder : (folder path : List ℕ) → IsTrue (is_class_path folder path) → (rest : List ℕ) × (path ≡ folder ++ 47 ∷ rest)
-after_folder folder path is =
+-- the path is the folder, a slash and what is left where it is cut
+pub behind_folder : (folder path : List ℕ) → IsTrue (is_class_path folder path) → path ≡ folder ++ 47 ∷ drop (length folder + 1) path
+behind_folder folder path is =
     let start : List ℕ = folder ++ 47 ∷ [] in
     let starts : path ≡ start ++ drop (length start) path =
     (starts_is Decides-eqb path start (starts_with nat_eq path start) refl).0 (first_of_both _ _ is) in
-    (drop (length start) path, starts ∙ append_assoc folder (47 ∷ []) (drop (length start) path))
+    starts ∙ append_assoc folder (47 ∷ []) (drop (length start) path) ∙ ap (λ n. folder ++ 47 ∷ drop n path) (length-append folder (47 ∷ []))
+
+-- the path is the folder, a slash and more
+pub after_folder : (folder path : List ℕ) → IsTrue (is_class_path folder path) → (rest : List ℕ) × (path ≡ folder ++ 47 ∷ rest)
+after_folder folder path is = (drop (length folder + 1) path, behind_folder folder path is)
 
 pub slash_at : (folder path rest : List ℕ) → path ≡ folder ++ 47 ∷ rest → (length folder < length path) × (get_or path (length folder) 0 ≡ 47)
 slash_at folder path rest is =

@@ -1,5 +1,6 @@
 pub mod Allowed
 pub mod Folders
+pub mod Cutting
 pub mod Loading
 pub mod Reporting
 pub mod Same

@@ -1,26 +1,32 @@
 -- Listing and reading: what is listed where a store tells, and a step of the reading loop.
-use Rattle.std.proofs.Common.{◌≡◌, ℕ, ◌+◌, ◌<◌, ◌≤◌, List, [], ◌∷◌, ◌++◌, length, take, drop, map, get_or, All, IsTrue, Option, Some, None, IfSome, string_bytes, unwrap_or, sym, ap, ◌∙◌, subst, take-append-drop, arith}
+use Rattle.std.proofs.Common.{◌≡◌, ℕ, ◌+◌, ◌<◌, ◌≤◌, false, List, [], ◌∷◌, ◌++◌, length, take, drop, map, get_or, All, IsTrue, Option, Some, None, IfSome, string_bytes, unwrap_or, sym, ap, ◌∙◌, subst, take-append-drop, arith}
 use Rattle.std.specs.declared.string.String.{String}
 use Rattle.std.specs.List.Sorted.{IsPermutation, IsSorted}
-use Rattle.std.specs.String.{string_cmp}
+use Rattle.std.specs.Ordering.{nat_cmp, is_lt}
+use Rattle.std.specs.Cmp.Lexicographic.{slice_cmp}
+use Rattle.std.specs.String.{string_cmp, string_cmp_total}
 use Rattle.std.proofs.lemmas.List.{length-map, map-append, drop_more}
 use Rattle.std.proofs.lemmas.Bool.{cases_lt}
 use Rattle.std.proofs.Common.{inl, inr}
 use Rattle.std.proofs.lemmas.List.Elements.{All-push, All-from_recursion, recursion_from_All}
 use Rattle.std.proofs.lemmas.List.Sums.{sum_by-append}
-use Rattle.std.proofs.lemmas.List.Sorted.{All-permutation, length_permutation, IsPermutation-map}
+use Rattle.std.proofs.lemmas.List.Sorted.{All-permutation, length_permutation, ranks_by, IsPermutation-map}
 use Rattle.dj_edge.specs.Held.{File, Held, class_files, is_class_path, bytes_at}
-use Rattle.dj_edge.specs.Counts.{GrowsByFront, IsFront}
+use Rattle.dj_edge.specs.Counts.{AllDiffer, GrowsByFront, IsFront}
 use Rattle.dj_edge.specs.Calls.{IsListing}
 use Rattle.dj_edge.proofs.Growth.{GrowsByFront-after, GrowsByFront-within, IsFront-more, grown_more}
 use Rattle.dj_edge.proofs.Listings.{sorted_listing}
+use Rattle.dj_edge.proofs.Pairs.{AllPairs-map}
+use Rattle.dj_edge.proofs.Sorting.{pairs_from_sorted}
 use Rattle.dj_report.specs.declared.report.Limit.{Limit}
 use Rattle.dj_report.specs.declared.report.Limit.TheVariants as limits
 use Rattle.djvm_cli.specs.declared.load.SourceFile.{SourceFile}
 use Rattle.djvm_cli.specs.declared.load.NextFile.{NextFile}
 use Rattle.djvm_cli.specs.declared.load.NextFile.TheVariants as next_files
 use Rattle.djvm_cli.specs.declared.load.Loaded.TheVariants as loads
+use Rattle.dj_sandbox.specs.ClassSets.{TextsRise}
 use Rattle.dj_sandbox.specs.Limits.{most_file_bytes, most_total_bytes, total_bytes, AreWithin}
+use Rattle.dj_sandbox.proofs.ByPath.{texts_rise}
 use Rattle.djvm_cli.specs.Steps.{files_at, IsLoaded}
 use Rattle.djvm_cli.specs.Next.{IsNextRead, IsNext}
 use Rattle.djvm_cli.specs.Views.{source_view}
@@ -69,6 +75,13 @@ pub moved_class_paths : {Z : Type 0} (folder : List ℕ) (found paths : List (St
 moved_class_paths {Z} folder found paths all moved =
     All-unmap string_bytes (λ path. IsTrue (is_class_path folder path)) paths
     (All-permutation (λ path. IsTrue (is_class_path folder path)) (map string_bytes found) (map string_bytes paths) (IsPermutation-map string_bytes found paths moved) all)
+
+-- and puts paths that differ in strict order
+pub moved_rise : {Z : Type 0} (found paths : List (String Z)) → AllDiffer (map string_bytes found) → IsPermutation found paths → IsSorted string_cmp paths → TextsRise (map string_bytes paths)
+moved_rise {Z} found paths differ moved sorted =
+    let NotAbove : List ℕ → List ℕ → Type 0 = λ a b. is_lt (slice_cmp nat_cmp b a) ≡ false in
+    texts_rise (map string_bytes found) (map string_bytes paths) (IsPermutation-map string_bytes found paths moved) differ
+    (AllPairs-map string_bytes NotAbove paths (pairs_from_sorted (λ a b. is_lt (string_cmp a b)) (ranks_by string_cmp_total (λ (a : String Z). a)) paths sorted))
 
 -- ---- a step of the reading loop
 

@@ -1,10 +1,11 @@
 -- From the steps of a job to its report.
-use Rattle.std.proofs.Common.{◌≡◌, ℕ, ◌^◌, ◌<◌, ◌≤◌, List, [], ◌∷◌, ◌++◌, length, map, All, IsTrue, Option, Some, None, IsSome, IfSome, string_bytes, vec_len, unwrap_or, refl, sym, ap, ◌∙◌, subst, inl, inr, arith}
+use Rattle.std.proofs.Common.{◌≡◌, ℕ, ◌≤◌, List, [], ◌∷◌, ◌++◌, length, map, All, IsTrue, Option, Some, None, IsSome, IfSome, string_bytes, vec_len, unwrap_or, refl, sym, ap, ◌∙◌, subst, inl, inr, arith}
 use Rattle.std.specs.Prelude.{is_some}
 use Rattle.std.specs.Global.{Vec}
 use Rattle.dj_edge.specs.InMemory.{String}
 use Rattle.std.proofs.lemmas.List.{length-map}
-use Rattle.std.proofs.lemmas.List.Elements.{All-head, All-tail, All-map, All-weaker, All-from_recursion}
+use Rattle.std.proofs.lemmas.Simd.{map-map}
+use Rattle.std.proofs.lemmas.List.Elements.{All-head, All-tail, All-map, All-weaker}
 use Rattle.dj_edge.specs.Held.{File, Held, class_files, is_class_path, bytes_at}
 use Rattle.dj_edge.specs.Counts.{GrowsByFront}
 use Rattle.dj_edge.proofs.Growth.{IsFront-append, GrowsByFront-after, GrowsByFront-within}
@@ -15,9 +16,8 @@ use Rattle.dj_report.specs.declared.report.Report.{Report}
 use Rattle.dj_report.specs.declared.report.Report.TheVariants as reports
 use Rattle.dj_report.specs.declared.report.Limit.{Limit}
 use Rattle.dj_report.specs.declared.report.Limit.TheVariants as limits
-use Rattle.dj_report.specs.declared.report.PathFile.{PathFile}
-use Rattle.dj_rules.specs.Views.{path_file_view}
-use Rattle.dj_sandbox.specs.Limits.{most_files, most_file_bytes, AreWithin}
+use Rattle.dj_sandbox.specs.ClassSets.{TextsRise, PathsRise}
+use Rattle.dj_sandbox.specs.Limits.{most_files, AreWithin}
 use Rattle.djvm_cli.specs.declared.load.SourceFile.{SourceFile}
 use Rattle.djvm_cli.specs.declared.load.Listing.{Listing}
 use Rattle.djvm_cli.specs.declared.load.Listing.TheVariants as listings
@@ -29,7 +29,7 @@ use Rattle.djvm_cli.specs.Inputs.{IsJobInput}
 use Rattle.dj_words.specs.DoneJobs.{FolderJob}
 use Rattle.djvm_cli.specs.Jobs.{folder_of}
 use Rattle.djvm_cli.specs.Report.{input_asks, CountsFiles, FindsInput, ReadsFiles, judging, folder_stages, input_of, within_folder, files_within}
-use Rattle.djvm_cli.specs.Steps.{files_at, IsListed, AreClassPaths, AreRead, IsLoaded}
+use Rattle.djvm_cli.specs.Steps.{files_at, IsListed, AreClassPaths, AreRising, AreRead, IsLoaded}
 use Rattle.djvm_cli.specs.Views.{source_view}
 
 abbrev path_of : File → List ℕ
@@ -82,42 +82,39 @@ module _ (folder : List ℕ) (list : List String) (paths : Vec String) (listing 
   class_paths_listed listed =
       subst (All (λ path. IsTrue (is_class_path folder (string_bytes path)))) (sym items) (subst (AreClassPaths folder) is listed).1
 
+  pub paths_rise : AreRising listing → TextsRise (map string_bytes list)
+  paths_rise rise = subst (λ (l : List String). TextsRise (map string_bytes l)) (sym items) (subst AreRising is rise)
+
 pub paths_held : (held mid : Option Held) (folder : List ℕ) (paths : List String) → mid ≡ held → IfSome held (AreTheirs folder paths)
     → IfSome mid (λ h. All (λ path. IsSome (bytes_at h (string_bytes path))) paths)
 paths_held held mid folder paths same theirs =
     subst (λ o. IfSome o (λ h. All (λ path. IsSome (bytes_at h (string_bytes path))) paths)) (sym same)
     (told_so held (AreTheirs folder paths) (λ h. All (λ path. IsSome (bytes_at h (string_bytes path))) paths) (λ h is. all_held folder h paths is) theirs)
 
--- what check asks of its caller
-pub sources_class_paths : (folder : List ℕ) (paths : List String) (list : List SourceFile) (sources : Vec SourceFile) (loaded : Loaded) → All (λ path. IsTrue (is_class_path folder (string_bytes path))) paths
-    → list ≡ sources.items → loaded ≡ loads.Files sources → AreRead (map string_bytes paths) loaded → All (λ file. IsTrue (is_class_path folder (string_bytes file.path))) list
-sources_class_paths folder paths list sources loaded all items is read =
-    let facts = subst (AreRead (map string_bytes paths)) is read in
-    let Is : List ℕ → Type 0 = λ path. IsTrue (is_class_path folder path) in
-    subst (All (λ file. Is (string_bytes file.path))) (sym items)
-    (All-unmap (λ (file : SourceFile). string_bytes file.path) Is sources.items (subst (All Is) (sym facts.0) (All-map Is string_bytes paths all)))
+-- ---- the files that were read
 
--- ---- what is judged
+module _ (paths : List String) (sources : Vec SourceFile) (loaded : Loaded) (is : loaded ≡ loads.Files sources) (read : AreRead (map string_bytes paths) loaded) where
+  abbrev source_path : SourceFile → List ℕ
+  source_path file = string_bytes file.path
 
--- what is asked of files that are judged
-pub sources_short : (paths : List (List ℕ)) (sources : Vec SourceFile) (loaded : Loaded) (folder : List ℕ) (within : List PathFile) → loaded ≡ loads.Files sources → AreRead paths loaded
-    → map path_file_view within ≡ map (within_folder folder) (map source_view sources.items) → All (λ file. length file.bytes.now < 2 ^ 32) within
-sources_short paths sources loaded folder within is read same =
-    let Short : File → Type 0 = λ file. length file.1 ≤ most_file_bytes in
-    let all : All Short (map source_view sources.items) = All-from_recursion Short (map source_view sources.items) (subst (AreRead paths) is read).1.each in
-    All-unmap path_file_view (λ file. length file.1 < 2 ^ 32) within
-    (All-weaker Short (λ file. length file.1 < 2 ^ 32) (λ file short. omega arith) (map path_file_view within)
-    (subst (All Short) (sym same) (All-map Short (within_folder folder) (map source_view sources.items) all)))
+  are_read : AreRead (map string_bytes paths) (loads.Files sources)
+  are_read = subst (AreRead (map string_bytes paths)) is read
 
-pub sources_few : (paths : List (List ℕ)) (sources : Vec SourceFile) (loaded : Loaded) (folder : List ℕ) (within : List PathFile) → loaded ≡ loads.Files sources → AreRead paths loaded
-    → length paths ≤ most_files → map path_file_view within ≡ map (within_folder folder) (map source_view sources.items) → length within ≤ most_files
-sources_few paths sources loaded folder within is read few same =
-    let size : length (map path_file_view within) ≡ length within = length-map within path_file_view in
-    let cut : length (map (within_folder folder) (map source_view sources.items)) ≡ length (map source_view sources.items) = length-map (map source_view sources.items) (within_folder folder) in
-    let all : length (map source_view sources.items) ≡ length sources.items = length-map sources.items source_view in
-    let named : length (map (λ (file : SourceFile). string_bytes file.path) sources.items) ≡ length sources.items = length-map sources.items (λ file. string_bytes file.path) in
-    let path : length (map (λ (file : SourceFile). string_bytes file.path) sources.items) ≡ length paths = ap length (subst (AreRead paths) is read).0 in
-    omega (arith, ap length same)
+  pub sources_class_paths : (folder : List ℕ) → All (λ path. IsTrue (is_class_path folder (string_bytes path))) paths → All (λ file. IsTrue (is_class_path folder (string_bytes file.path))) sources.items
+  sources_class_paths folder all =
+      let Is : List ℕ → Type 0 = λ path. IsTrue (is_class_path folder path) in
+      All-unmap source_path Is sources.items (subst (All Is) (sym are_read.0) (All-map Is string_bytes paths all))
+
+  pub sources_few : length paths ≤ most_files → length sources.items ≤ most_files
+  sources_few few =
+      let same : length (map source_path sources.items) ≡ length (map string_bytes paths) = ap length are_read.0 in
+      omega (arith, few, same, length-map sources.items source_path, length-map paths string_bytes)
+
+  pub sources_within : AreWithin (map source_view sources.items)
+  sources_within = are_read.1
+
+  pub sources_rise : TextsRise (map string_bytes paths) → PathsRise (map source_view sources.items)
+  sources_rise rise = subst TextsRise (sym (map-map path_of source_view sources.items ∙ are_read.0)) rise
 
 -- ---- what was asked
 
@@ -208,10 +205,10 @@ module _ (job : FolderJob) (held : Option Held) where
           passed_stage limits.Total files past = inr (refl, past)
           passed_stage limits.Input files past = absurd past
 
-    pub judged : (sources : Vec SourceFile) (within : List PathFile) (bytes : Vec ℕ) (report : Report) → Counted → IfSome held (λ h. FindsInput job h None × (bytes.items ≡ input_of job h))
-        → loaded ≡ loads.Files sources → AreRead (map string_bytes list) loaded → map path_file_view within ≡ map (within_folder folder) (map source_view sources.items)
-        → IsDecided (judging job (map path_file_view within) bytes.items) report → Decides report
-    judged sources within bytes report few there is all cut decided =
+    pub judged : (sources : Vec SourceFile) (set : List File) (bytes : Vec ℕ) (report : Report) → Counted → IfSome held (λ h. FindsInput job h None × (bytes.items ≡ input_of job h))
+        → loaded ≡ loads.Files sources → AreRead (map string_bytes list) loaded → set ≡ map (within_folder folder) (map source_view sources.items)
+        → IsDecided (judging job set bytes.items) report → Decides report
+    judged sources set bytes report few there is all cut decided =
         both_told held (λ h. CountsFiles (class_files (folder_of job) h) None × (FindsInput job h None × (bytes.items ≡ input_of job h)))
         (λ h. IsLoaded (class_files (folder_of job) h) (loads.Files sources)) (λ h. IsDecided (folder_stages job h) report)
         (λ h on view. inr (

@@ -9,6 +9,7 @@ use Rattle.djvm_cli.specs.declared.load.Listing.TheVariants as listings
 use Rattle.djvm_cli.specs.declared.load.Loaded.{Loaded}
 use Rattle.djvm_cli.specs.declared.load.Loaded.TheVariants as loads
 use Rattle.dj_report.specs.declared.report.Limit.TheVariants as limits
+use Rattle.dj_sandbox.specs.ClassSets.{TextsRise}
 use Rattle.dj_sandbox.specs.Limits.{most_files, AreWithin, IsFirstPast, IsTooLong, IsTooMuch}
 use Rattle.djvm_cli.specs.Report.{class_paths}
 use Rattle.djvm_cli.specs.Views.{source_view}
@@ -37,6 +38,11 @@ abbrev pub AreClassPaths : List ℕ → Listing → Type 0
 AreClassPaths folder (listings.Paths paths) =
     (vec_len paths ≤ most_files) × All (λ path. IsTrue (is_class_path folder (string_bytes path))) paths.items
 AreClassPaths folder listings.TooMany = ⊤
+
+-- and they stand in the order of their bytes, each once
+abbrev pub AreRising : Listing → Type 0
+AreRising (listings.Paths paths) = TextsRise (map string_bytes paths.items)
+AreRising listings.TooMany = ⊤
 
 -- the files that were read have these paths and are within the limits
 abbrev pub AreRead : List (List ℕ) → Loaded → Type 0

@@ -1,10 +1,9 @@
-ghost use Rattle.std.specs.Prelude.{◌≡◌, ◌≢◌, ◌≤◌, ◌<◌, ◌^◌, Some, length, map, All, IfOk, IfErr, IfSome, string_bytes};
+ghost use Rattle.std.specs.Prelude.{◌≡◌, ◌≢◌, ◌≤◌, Some, length, map, IfOk, IfErr, IfSome, string_bytes};
 ghost use Rattle.std.specs.Io.KnownBytes.{Appends};
 ghost use Rattle.dj_edge.specs.Counts.{Rose, GrowsByFront};
 ghost use Rattle.dj_report.specs.Stages.{IsDecided};
 ghost use Rattle.dj_report.specs.Text.{report_text, report_status};
-ghost use Rattle.dj_rules.specs.Views.{path_file_view};
-ghost use Rattle.dj_sandbox.specs.Limits.{most_files, most_input_bytes};
+ghost use Rattle.dj_sandbox.specs.Limits.{most_input_bytes};
 ghost use Rattle.djvm_cli.specs.declared.load.Stop.TheVariants.{Memory};
 ghost use Rattle.dj_words.specs.DoneJobs.{OnFolder, done_job_of};
 ghost use Rattle.djvm_cli.specs.Jobs.{folder_of, IsAllowed, IsAllowedJob};
@@ -14,11 +13,11 @@ ghost use Rattle.djvm_cli.specs.Steps.{Counted};
 ghost use Rattle.dj_words.specs.Views.{folder_job_view, job_view};
 
 use crate::assembling::report_of_text;
-use crate::cut::cut_folders;
+use crate::cut::class_set;
 use crate::load::{Input, Listing, Loaded, Stop, list_paths, read_files, read_job_input};
 use dj_edge::{Files, Host, Sink, SinkError, put_all};
-use dj_report::{Limit, PathFile, Report, bytes_of, status_of};
-use dj_sandbox::{check, entry_name, verify};
+use dj_report::{Limit, Report, bytes_of, status_of};
+use dj_sandbox::{ClassSet, check, entry_name, verify};
 use dj_words::{Command, FolderCommand, command_of};
 use std::alloc::Global;
 
@@ -31,30 +30,28 @@ fn folder<'a>(command: FolderCommand<'a>) -> &'a str
     }
 }
 
-/// Judges files and an input that were read, as the job asks.
+/// Judges a set and an input that were read, as the job asks.
 fn judge(
     alloc: Global,
     command: FolderCommand<'_>,
-    files: &[PathFile<'_>],
+    set: &ClassSet,
     input: &[u8],
 ) -> Result<Report, Stop>
-    requires few { length files.now ≤ most_files }
-    requires short { All (λ file. length file.bytes.now < 2 ^ 32) files.now }
     requires input { length input.now ≤ most_input_bytes }
     requires allowed { IsAllowed (folder_job_view command) }
-    ensures decided { IfOk result (IsDecided (judging (folder_job_view command.entry) (map path_file_view files.now) input.now)) }
+    ensures decided { IfOk result (IsDecided (judging (folder_job_view command.entry) set.now input.now)) }
     ensures status { IfOk result (λ report. IsReportStatus (Some (OnFolder (folder_job_view command.entry))) None (report_status report)) }
     ensures no_fault { IfErr result (λ stop. stop ≡ Memory) }
 {
     match command {
-        FolderCommand::Check { .. } => Ok(check(alloc, files)?),
+        FolderCommand::Check { .. } => Ok(check(alloc, set)?),
         FolderCommand::Verify {
             entry,
             thresholds,
             ..
         } => {
             let class = entry_name(alloc, entry)?;
-            Ok(verify(alloc, files, class.as_slice(), input, thresholds)?)
+            Ok(verify(alloc, set, class.as_slice(), input, thresholds)?)
         }
     }
 }
@@ -86,8 +83,8 @@ fn report_of_folder<F: Files>(
         Loaded::Files(sources) => sources,
         Loaded::Passed(limit) => return Ok(Report::Limited(limit)),
     };
-    let within = cut_folders(alloc, folder(command), &sources)?;
-    judge(alloc, command, &within, &input)
+    let set = class_set(alloc, folder(command), sources)?;
+    judge(alloc, command, &set, &input)
 }
 
 /// The report of a job.

@@ -4,7 +4,7 @@ ghost use Rattle.djvm_cli.specs.declared.load.Input.TheVariants.{Absent};
 ghost use Rattle.dj_edge.specs.Held.{bytes_at};
 ghost use Rattle.dj_edge.specs.Counts.{GrowsByFront};
 ghost use Rattle.dj_sandbox.specs.Limits.{most_total_bytes, most_input_bytes};
-ghost use Rattle.djvm_cli.specs.Steps.{Counted, IsListed, AreClassPaths, AreRead, IsLoaded, files_at};
+ghost use Rattle.djvm_cli.specs.Steps.{Counted, IsListed, AreClassPaths, AreRising, AreRead, IsLoaded, files_at};
 ghost use Rattle.djvm_cli.specs.Inputs.{IsShortInput, IsAbsentWhereTold, IsReadInput, IsJobInput, IsInputOf};
 ghost use Rattle.djvm_cli.specs.Report.{input_asks};
 ghost use Rattle.dj_words.specs.Views.{folder_job_view};
@@ -14,6 +14,7 @@ use dj_edge::{Files, ListError, ReadError};
 use dj_names::Name;
 use dj_report::Limit;
 use dj_rules::RulesError;
+use dj_sandbox::SandboxError;
 use dj_words::FolderCommand;
 use std::alloc::Global;
 
@@ -33,6 +34,17 @@ impl From<RulesError> for Stop {
     ghost from_gives = { λ _ e. e ≡ Memory };
 
     fn from(_error: RulesError) -> Stop {
+        Stop::Memory
+    }
+}
+
+impl From<SandboxError> for Stop {
+    ghost use Rattle.std.specs.Prelude.{◌≡◌};
+    ghost use Rattle.djvm_cli.specs.declared.load.Stop.TheVariants.{Memory};
+
+    ghost from_gives = { λ _ e. e ≡ Memory };
+
+    fn from(_error: SandboxError) -> Stop {
         Stop::Memory
     }
 }
@@ -98,6 +110,7 @@ pub fn list_paths<F: Files>(alloc: Global, files: &mut F, folder: &str) -> Resul
     ensures asks { GrowsByFront (F.asked files.old) (F.asked files.new) (folder.now ∷ []) }
     ensures asked { OnOk result (F.asked files.new ≡ F.asked files.old ++ folder.now ∷ []) }
     ensures class_paths { IfOk result (AreClassPaths folder.now) }
+    ensures rise { IfOk result AreRising }
     ensures told { IfSome (F.held files.old) (λ h. IfOk result (IsListed folder.now h)) }
 {
     let mut paths = match files.list(alloc, folder, MOST_FILES + 1) {

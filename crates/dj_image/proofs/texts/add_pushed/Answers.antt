@@ -1,16 +1,10 @@
-use Rattle.std.proofs.Common.{refl}
-use Rattle.dj_image.specs.Uses.{pushed_text}
-use Rattle.dj_image.specs.declared.uses.Use.TheVariants as uses
-use Rattle.dj_image.proofs.TextFacts.{text_step, no_more, all_added, same_texts}
+use Rattle.std.proofs.Common.{map}
+use Rattle.dj_image.specs.Uses.{class_uses}
+use Rattle.dj_image.specs.Texts.{key_items}
+use Rattle.dj_image.proofs.TextFacts.{same_texts, ok_then}
 use Rattle.dj_image.proofs.texts.add_pushed.Goals as goal
-
-pub loop-one-init : goal.loop-one-init
-loop-one-init c = λ all same. no_more all _ same
-
-pub loop-one-preserved : goal.loop-one-preserved
-loop-one-preserved c = λ all same. text_step (pushed_text c.args.parts.now.pool) c.deref-one-items.result.now c.loop-one.one-index (uses.Itself 0) _ all _ c.loop-one-test.true refl (c.in_ok-add_use.ensures _ (c.loop-one.invariant all same))
 
 pub returns : goal.returns
 returns c = λ all same.
-    same_texts c.args.parts.now c.in_ok-uses.uses.items c.deref-one-items.result.now all _ c.in_ok-uses.ensures c.deref-one-items.ensures.value
-    (all_added (pushed_text c.args.parts.now.pool) c.deref-one-items.result.now c.loop-one.one-index all _ c.loop-one-test.false (c.loop-one.invariant all same))
+    ok_then c.add_uses.result _ _ (c.add_uses.ensures all same)
+    (λ now. same_texts c.args.parts.now.pool (class_uses c.args.parts.now) c.in_ok-uses.uses.items c.deref.result.now all (map key_items c.add_uses.new.texts.keys) c.in_ok-uses.ensures c.deref.ensures.value now)

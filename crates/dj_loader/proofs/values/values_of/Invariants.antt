@@ -6,4 +6,4 @@ use Rattle.dj_loader.proofs.values.values_of.Given as goal
 
 -- those of the fields so far
 abbrev pub invariant-loop-field : goal.invariant-loop-field
-invariant-loop-field l = map told_value l.values.items ≡ map (constant_in l.pool) (map member_of (take l.field-index l.fields))
+invariant-loop-field l = map (told_value l.pool) l.values.items ≡ map (constant_in l.pool) (map member_of (take l.field-index l.fields))

@@ -1,10 +1,8 @@
-use Rattle.dj_program.specs.Naming.{instruction_in}
 use Rattle.dj_shape.specs.Works.{work_view}
 use Rattle.dj_shape.proofs.Works.{done, ok_more}
 use Rattle.dj_shape.proofs.apply.apply.Goals as goal
 
 pub returns-clause-after : goal.returns-clause-after
 returns-clause-after c =
-    ok_more c.perform.result _ _ (λ fits left. λ pool signature code are gives has.
-    done fits c.args.state.now c.perform.new.state.kinds c.args.returned (work_view c.args.kinds.now.calls c.effect_of.result) signature code
-    (instruction_in pool c.args.instr.now) (c.effect_of.ensures pool are) gives has left) c.perform.ensures.performed
+    ok_more c.perform.result _ _ (λ fits left. λ signature code i does gives has.
+    done fits c.args.state.now c.perform.new.state.kinds c.args.returned (work_view c.args.kinds.now.calls c.args.effect) signature code i does gives has left) c.perform.ensures.performed

@@ -1,18 +1,26 @@
-use Rattle.std.proofs.Common.{◌∷◌, ◌++◌, [], map, ap, sym, ◌∙◌, arith, ◌<◌, length}
-use Rattle.std.proofs.lemmas.List.{length-map, map-append}
+use Rattle.std.proofs.Common.{length, map, map-id, IsTrue, string_bytes, rules, sym, ap, ◌∙◌}
+use Rattle.std.proofs.lemmas.Iterator.Adapters.{YieldsList-from_vec}
+use Rattle.std.proofs.lemmas.Iterator.Consumers.{YieldsList-turn, YieldsList-end}
+use Rattle.dj_edge.specs.Held.{is_class_path}
+use Rattle.djvm_cli.specs.declared.load.SourceFile.{SourceFile}
 use Rattle.djvm_cli.specs.Report.{within_folder}
 use Rattle.djvm_cli.specs.Views.{source_view}
-use Rattle.dj_rules.specs.Views.{path_file_view}
-use Rattle.dj_edge.proofs.Lists.{mapped_at, mapped_more}
+use Rattle.djvm_cli.proofs.Cutting.{at_turn, cut_more}
 use Rattle.djvm_cli.proofs.cut.cut_folders.Goals as goal
+
+pub cut_folder-requires : goal.cut_folder-requires
+cut_folder-requires c =
+    at_turn (λ (file : SourceFile). IsTrue (is_class_path c.args.folder.now (string_bytes file.path))) c.args.files.items (length c.loop-file.yielded) c.in-Some.file c.requires
+    (YieldsList-turn (YieldsList-from_vec {s = c.into_iter-file-iterator.result} c.args.files.items (search rules) (search rules))
+    c.loop-file.yielded c.loop-file.file-iterator c.loop-file.yielded_by c.next.result c.next.new.self c.in-Some.file c.in-Some.is c.next.ensures.steps)
 
 pub loop-file-preserved : goal.loop-file-preserved
 loop-file-preserved c =
-    let files = c.args.files.now in
-    let i = c.loop-file.file-index in
-    let file = c.file-item.result in
-    let inside : i < length (map source_view files) = omega (arith, length-map files source_view, c.loop-file-test.true) in
-    ap (map path_file_view) c.in-Ok.ensures.items ∙ map-append path_file_view c.loop-file.within.items (c.cut_folder.result ∷ [])
-    ∙ ap (λ f. map path_file_view c.loop-file.within.items ++ f ∷ []) c.cut_folder.ensures
-    ∙ mapped_more (within_folder c.args.folder.now) (map source_view files) i (source_view file) (map path_file_view c.loop-file.within.items) inside
-    (sym (mapped_at source_view files i file c.loop-file-test.true c.file-item.is)) c.loop-file.invariant
+    cut_more c.args.folder.now c.loop-file.yielded c.in-Some.file c.loop-file.within.items c.push.new.self.items c.in_ok-cut_folder.field-0
+    c.in_ok-push.ensures.items c.in_ok-cut_folder.ensures c.loop-file.invariant
+
+pub returns : goal.returns
+returns c =
+    let end = YieldsList-end (YieldsList-from_vec {s = c.into_iter-file-iterator.result} c.args.files.items (search rules) (search rules))
+    c.loop-file.yielded c.loop-file.file-iterator c.loop-file.yielded_by c.next.result c.next.new.self c.in-None.is c.next.ensures.steps in
+    c.loop-file.invariant ∙ ap (λ files. map (within_folder c.args.folder.now) (map source_view files)) (sym (map-id c.loop-file.yielded) ∙ end.0)

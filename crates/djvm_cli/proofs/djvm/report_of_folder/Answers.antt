@@ -1,14 +1,12 @@
-use Rattle.std.proofs.Common.{◌≡◌, ◌<◌, ◌^◌, ℕ, List, None, length, map, All, IsTrue, string_bytes, refl, sym, ap, ◌∙◌, subst, arith}
+use Rattle.std.proofs.Common.{◌≡◌, ℕ, List, None, map, All, IsTrue, string_bytes, refl, sym, ap, ◌∙◌, subst, arith}
 use Rattle.dj_edge.specs.Held.{is_class_path}
 use Rattle.dj_edge.proofs.Lists.{told_so, ok_so}
 use Rattle.dj_report.specs.Stages.{IsDecided}
-use Rattle.dj_report.specs.declared.report.PathFile.{PathFile}
-use Rattle.dj_rules.specs.Views.{path_file_view}
 use Rattle.djvm_cli.specs.declared.load.SourceFile.{SourceFile}
 use Rattle.djvm_cli.specs.Report.{FindsInput, judging, within_folder, input_of}
 use Rattle.dj_words.specs.Views.{folder_job_view}
 use Rattle.djvm_cli.specs.Views.{source_view}
-use Rattle.djvm_cli.proofs.Reporting.{paths_listed, few_listed, class_paths_listed, paths_held, sources_class_paths, sources_short, asks_input, asks_files, counted, found, passed, judged, Decides}
+use Rattle.djvm_cli.proofs.Reporting.{paths_listed, few_listed, class_paths_listed, paths_rise, paths_held, sources_class_paths, sources_few, sources_within, sources_rise, asks_input, asks_files, counted, found, passed, judged, Decides}
 use Rattle.djvm_cli.proofs.djvm.report_of_folder.Goals as goal
 
 pub returns-in_err-input-clause-asks : goal.returns-in_err-input-clause-asks
@@ -52,8 +50,8 @@ returns-in-Passed-clause-asks g c =
     c.folder.ensures (paths_listed c.folder.result.now c.deref.result.now c.in-Paths.paths c.in_ok-paths.field-0 c.deref.ensures.value c.in-Paths.is
     (g.F.Files.held c.args.files.now) c.in_ok-paths.ensures.told) c.in_ok-paths.ensures.asked c.in_ok-input.ensures.asked c.read_files.ensures.asks
 
-pub returns-in_err-within-clause-asks : goal.returns-in_err-within-clause-asks
-returns-in_err-within-clause-asks g c =
+pub returns-in_err-set-clause-asks : goal.returns-in_err-set-clause-asks
+returns-in_err-set-clause-asks g c =
     asks_files (folder_job_view c.args.command) c.folder.result.now (g.F.Files.held c.args.files.now) c.deref.result.now
     (g.F.Files.asked c.args.files.now) (g.F.Files.asked c.list_paths.new.files) (g.F.Files.asked c.read_job_input.new.files) (g.F.Files.asked c.read_files.new.files)
     c.folder.ensures (paths_listed c.folder.result.now c.deref.result.now c.in-Paths.paths c.in_ok-paths.field-0 c.deref.ensures.value c.in-Paths.is
@@ -78,17 +76,24 @@ returns-in-Passed-clause-right g c =
     (paths_listed c.folder.result.now c.deref.result.now c.in-Paths.paths c.in_ok-paths.field-0 c.deref.ensures.value c.in-Paths.is
     (g.F.Files.held c.args.files.now) c.in_ok-paths.ensures.told) c.in_ok-sources.field-0 c.in_ok-sources.ensures.told c.in-Passed.limit few there c.in-Passed.is
 
-pub cut_folders-requires : goal.cut_folders-requires
-cut_folders-requires g c =
+pub class_set-requires-clause-class_paths : goal.class_set-requires-clause-class_paths
+class_set-requires-clause-class_paths g c =
     let all = class_paths_listed c.folder.result.now c.deref.result.now c.in-Paths.paths c.in_ok-paths.field-0 c.deref.ensures.value c.in-Paths.is c.in_ok-paths.ensures.class_paths in
-    subst (λ folder. All (λ (file : SourceFile). IsTrue (is_class_path folder (string_bytes file.path))) c.deref-2.result.now) (c.folder.ensures ∙ sym c.folder-2.ensures)
-    (sources_class_paths c.folder.result.now c.deref.result.now c.deref-2.result.now c.in-Files.sources c.in_ok-sources.field-0 all c.deref-2.ensures.value c.in-Files.is c.in_ok-sources.ensures.read)
+    subst (λ folder. All (λ (file : SourceFile). IsTrue (is_class_path folder (string_bytes file.path))) c.in-Files.sources.items) (c.folder.ensures ∙ sym c.folder-2.ensures)
+    (sources_class_paths c.deref.result.now c.in-Files.sources c.in_ok-sources.field-0 c.in-Files.is c.in_ok-sources.ensures.read c.folder.result.now all)
 
-pub judge-requires-clause-short : goal.judge-requires-clause-short
-judge-requires-clause-short g c =
-    subst (All (λ file. length file.bytes.now < 2 ^ 32)) (sym c.deref-3.ensures.value)
-    (sources_short (map string_bytes c.deref.result.now) c.in-Files.sources c.in_ok-sources.field-0 c.folder-2.result.now c.in_ok-within.within.items c.in-Files.is c.in_ok-sources.ensures.read
-    (c.in_ok-within.ensures.cut ∙ ap (λ files. map (within_folder c.folder-2.result.now) (map source_view files)) c.deref-2.ensures.value))
+pub class_set-requires-clause-few : goal.class_set-requires-clause-few
+class_set-requires-clause-few g c =
+    sources_few c.deref.result.now c.in-Files.sources c.in_ok-sources.field-0 c.in-Files.is c.in_ok-sources.ensures.read
+    (omega (arith, few_listed c.folder.result.now c.deref.result.now c.in-Paths.paths c.in_ok-paths.field-0 c.deref.ensures.value c.in-Paths.is c.in_ok-paths.ensures.class_paths, c.deref.ensures.len))
+
+pub class_set-requires-clause-within : goal.class_set-requires-clause-within
+class_set-requires-clause-within g c = sources_within c.deref.result.now c.in-Files.sources c.in_ok-sources.field-0 c.in-Files.is c.in_ok-sources.ensures.read
+
+pub class_set-requires-clause-rise : goal.class_set-requires-clause-rise
+class_set-requires-clause-rise g c =
+    sources_rise c.deref.result.now c.in-Files.sources c.in_ok-sources.field-0 c.in-Files.is c.in_ok-sources.ensures.read
+    (paths_rise c.folder.result.now c.deref.result.now c.in-Paths.paths c.in_ok-paths.field-0 c.deref.ensures.value c.in-Paths.is c.in_ok-paths.ensures.rise)
 
 pub returns-clause-right : goal.returns-clause-right
 returns-clause-right g c =
@@ -98,13 +103,11 @@ returns-clause-right g c =
     (omega (arith, few_listed c.folder.result.now c.deref.result.now c.in-Paths.paths c.in_ok-paths.field-0 c.deref.ensures.value c.in-Paths.is c.in_ok-paths.ensures.class_paths, c.deref.ensures.len)) (paths_listed c.folder.result.now c.deref.result.now c.in-Paths.paths c.in_ok-paths.field-0 c.deref.ensures.value c.in-Paths.is
     (g.F.Files.held c.args.files.now) c.in_ok-paths.ensures.told) in
     let there = found (folder_job_view c.args.command) (g.F.Files.held c.args.files.now) (g.F.Files.held c.list_paths.new.files) c.list_paths.ensures.held c.in_ok-input.field-0 c.in_ok-input.ensures.told c.in-Bytes.input c.in-Bytes.is in
-    ok_so c.judge.result (IsDecided (judging job (map path_file_view c.deref-3.result.now) c.deref-4.result.now)) (Decides job held)
+    ok_so c.judge.result (IsDecided (judging job c.in_ok-set.set c.deref-2.result.now)) (Decides job held)
     (λ report decided.
     judged job held (g.F.Files.held c.read_job_input.new.files) (c.read_job_input.ensures.held ∙ c.list_paths.ensures.held) c.folder.result.now c.folder.ensures c.deref.result.now
     (paths_listed c.folder.result.now c.deref.result.now c.in-Paths.paths c.in_ok-paths.field-0 c.deref.ensures.value c.in-Paths.is
-    (g.F.Files.held c.args.files.now) c.in_ok-paths.ensures.told) c.in_ok-sources.field-0 c.in_ok-sources.ensures.told c.in-Files.sources c.in_ok-within.within.items c.in-Bytes.input report few there c.in-Files.is c.in_ok-sources.ensures.read
-    (c.in_ok-within.ensures.cut ∙ ap (λ files. map (within_folder c.folder-2.result.now) (map source_view files)) c.deref-2.ensures.value
-    ∙ ap (λ folder. map (within_folder folder) (map source_view c.in-Files.sources.items)) (c.folder-2.ensures ∙ sym c.folder.ensures))
-    (subst (λ (files : List PathFile). IsDecided (judging job (map path_file_view files) c.in-Bytes.input.items) report) c.deref-3.ensures.value
-    (subst (λ (input : List ℕ). IsDecided (judging job (map path_file_view c.deref-3.result.now) input) report) c.deref-4.ensures.value decided)))
+    (g.F.Files.held c.args.files.now) c.in_ok-paths.ensures.told) c.in_ok-sources.field-0 c.in_ok-sources.ensures.told c.in-Files.sources c.in_ok-set.set c.in-Bytes.input report few there c.in-Files.is c.in_ok-sources.ensures.read
+    (c.in_ok-set.ensures.set ∙ ap (λ folder. map (within_folder folder) (map source_view c.in-Files.sources.items)) (c.folder-2.ensures ∙ sym c.folder.ensures))
+    (subst (λ (input : List ℕ). IsDecided (judging job c.in_ok-set.set input) report) c.deref-2.ensures.value decided))
     c.judge.ensures.decided

@@ -1,6 +1,6 @@
 use Rattle.std.proofs.Common.{◌<◌, ◌≤◌, length, map, string_bytes, arith}
 use Rattle.std.proofs.lemmas.List.{length-map}
-use Rattle.djvm_cli.proofs.Loading.{listed_many, listed_all, moved_class_paths}
+use Rattle.djvm_cli.proofs.Loading.{listed_many, listed_all, moved_class_paths, moved_rise}
 use Rattle.djvm_cli.proofs.load.list_paths.Goals as goal
 
 pub returns-then-len-clause-told : goal.returns-then-len-clause-told
@@ -14,6 +14,9 @@ returns-in-Ok-sort-clause-class_paths g c = (
   omega (arith, c.len.ensures, c.sort.ensures.len),
   moved_class_paths c.args.folder.now c.in-Ok.paths.items c.sort.new.self.items c.in-Ok.ensures.lists.class_paths c.sort.ensures.permutation,
 )
+
+pub returns-in-Ok-sort-clause-rise : goal.returns-in-Ok-sort-clause-rise
+returns-in-Ok-sort-clause-rise g c = moved_rise c.in-Ok.paths.items c.sort.new.self.items c.in-Ok.ensures.lists.differ c.sort.ensures.permutation c.in-Ok-sort.ensures.sorted
 
 pub returns-in-Ok-sort-clause-told : goal.returns-in-Ok-sort-clause-told
 returns-in-Ok-sort-clause-told g c =

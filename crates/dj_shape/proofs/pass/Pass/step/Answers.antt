@@ -1,5 +1,6 @@
 use Rattle.std.proofs.Common.{◌∙◌, Some, ap, sym, subst}
 use Rattle.std.proofs.lemmas.Option.{slice_get_within}
+use Rattle.dj_program.specs.Naming.{instruction_in}
 use Rattle.dj_shape.specs.Standing.{Standing, SameRoom}
 use Rattle.dj_shape.proofs.Steps.{not_found}
 use Rattle.dj_shape.proofs.Stepping.{frame_fails, frame_stands, unhandled, handlers_fail, room_at, state_at, step_answers}
@@ -33,7 +34,7 @@ returns-then-not-branch-3 c = λ case is before.
     let r = c.meet_handlers.new.self in
     not_found c.args.method.now case is c.args.number c.args.instr.now c.requires r.state.kinds
     (state_at c.args.method.now case is c.args.number c.args.instr.now c.requires p q r stands before c.meet_handlers.ensures.same.0)
-    (fails case.pool case.signature case.code is.kinds is.gives (room_at c.args.method.now case is c.args.number c.args.instr.now c.requires p q r before c.meet_frame.ensures.room c.meet_handlers.ensures.same.0))
+    (fails case.signature case.code (instruction_in case.pool c.args.instr.now) (c.effect_of-effect.ensures case.pool is.kinds) is.gives (room_at c.args.method.now case is c.args.number c.args.instr.now c.requires p q r before c.meet_frame.ensures.room c.meet_handlers.ensures.same.0))
 
 pub returns : goal.returns
 returns c = λ case is before.
@@ -45,8 +46,9 @@ returns c = λ case is before.
     let r = c.meet_handlers.new.self in
     let frame = frame_stands c.args.method.now case is c.args.number c.args.instr.now c.requires p q stands before in
     let room = room_at c.args.method.now case is c.args.number c.args.instr.now c.requires p q r before c.meet_frame.ensures.room c.meet_handlers.ensures.same.0 in
-    let found = applied case.pool case.signature case.code is.kinds is.gives room in
+    let does = c.effect_of-effect.ensures case.pool is.kinds in
+    let found = applied case.signature case.code (instruction_in case.pool c.args.instr.now) does is.gives room in
     step_answers c.args.method.now case is c.args.number c.args.instr.now c.requires p q r c.leave.new.self c.leave.result before stands c.meet_frame.ensures.room c.meet_frame.ensures.same
     (λ e. let yes = c.is_unhandled.ensures.1 e in absurd cc) c.meet_handlers.ensures.same (enters (frame.2 c.meet_frame.ensures.same))
     (found ∙ ap (λ (x : Standing). Some x.kinds) (sym c.leave.ensures.same.0))
-    (subst (SameRoom r.state) (sym c.leave.ensures.same.0) c.apply.ensures.room) c.leave.ensures.same.1 (c.leave.ensures.left case.pool)
+    (subst (SameRoom r.state) (sym c.leave.ensures.same.0) c.apply.ensures.room) c.leave.ensures.same.1 (c.leave.ensures.left case.pool does)

@@ -3,4 +3,4 @@ use Rattle.dj_shape.proofs.Places.{told_still}
 use Rattle.dj_shape.proofs.reading.Reader.new.Goals as goal
 
 pub returns-clause-none : goal.returns-clause-none
-returns-clause-none c = λ number. told_still c.new-2.result c.place_all.new.self.frames c.place_all.ensures.grows number ∙ c.new-2.ensures number
+returns-clause-none c = λ number. told_still _ c.place_all.new.self.frames c.place_all.ensures.grows number ∙ c.in_ok-new.ensures number

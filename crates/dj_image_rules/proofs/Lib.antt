@@ -1,0 +1,2 @@
+mod Facts
+mod ShapeLaws

@@ -1,0 +1,41 @@
+ghost use Rattle.std.specs.Prelude.{◌≡◌, ◌++◌, ℕ, List, IfOk};
+ghost use Rattle.dj_names.specs.ModifiedUtf8.{Spells};
+ghost use Rattle.dj_image_rules.specs.Told.{IsLineOf};
+
+use crate::paths::{class_path, joined};
+use dj_image::MemberOf;
+use dj_names::{Name, NoMemory};
+use dj_report::Violation;
+use dj_shape::{ShapeError, ShapeFault};
+use std::alloc::Global;
+
+// The number of SHAPE.
+const SHAPE: u8 = 19;
+
+// The name of a member, followed by its descriptor.
+fn member_text(alloc: Global, member: &MemberOf<'_>) -> Result<Name, ShapeError>
+    ensures { IfOk result (λ text. text ≡ member.now.name.now ++ member.now.desc.now) }
+{
+    match joined(alloc, member.name, member.desc) {
+        Ok(text) => Ok(text),
+        Err(NoMemory::Memory) => Err(ShapeError::Memory),
+    }
+}
+
+/// The line of a fault of a method, of a class with this name.
+pub fn shape_line(
+    alloc: Global,
+    class: &[u8],
+    member: &MemberOf<'_>,
+    fault: ShapeFault,
+) -> Result<Violation, ShapeError>
+    requires { (units : List ℕ) × Spells class.now units }
+    ensures { IfOk result (IsLineOf class.now member.now fault) }
+{
+    Ok(Violation {
+        path: class_path(alloc, class)?,
+        member: member_text(alloc, member)?,
+        number: fault.number,
+        rule: SHAPE,
+    })
+}

@@ -1,0 +1,45 @@
+ghost use Rattle.std.specs.Prelude.{◌≡◌, ◌++◌, ℕ, List, codes, IfOk};
+ghost use Rattle.std.specs.Char.Utf16.{utf16_lossy_chars};
+ghost use Rattle.std.specs.Str.{encode_utf8_all};
+ghost use Rattle.dj_names.specs.ModifiedUtf8.{Spells};
+ghost use Rattle.dj_image_rules.specs.Rules.{IsPathOf};
+
+use dj_names::{Name, NoMemory, TextError, units_of};
+use dj_shape::ShapeError;
+use std::alloc::Global;
+
+// The two one after the other.
+pub fn joined(alloc: Global, front: &[u8], back: &[u8]) -> Result<Name, NoMemory>
+    ensures { IfOk result (λ text. text ≡ front.now ++ back.now) }
+{
+    let mut text = Name::from_slice(alloc, front)?;
+    text.extend(back)?;
+    Ok(text)
+}
+
+// The characters that units spell, and .class
+fn units_path(alloc: Global, units: &[u16]) -> Result<Name, ShapeError>
+    ensures { IfOk result (λ path. path ≡ encode_utf8_all (utf16_lossy_chars units.now) ++ codes ".class") }
+{
+    let text = String::from_utf16_lossy(alloc, units)?;
+    match joined(alloc, text.as_bytes(), b".class") {
+        Ok(path) => Ok(path),
+        Err(NoMemory::Memory) => Err(ShapeError::Memory),
+    }
+}
+
+/// The path of the file of the class of this name.
+pub fn class_path(alloc: Global, name: &[u8]) -> Result<Name, ShapeError>
+    requires { (units : List ℕ) × Spells name.now units }
+    ensures { IfOk result (λ path. IsPathOf path name.now) }
+{
+    // There is no memory for a longer name.
+    let Ok(_) = u32::try_from(name.len()) else {
+        return Err(ShapeError::Memory);
+    };
+    match units_of(alloc, name) {
+        Ok(units) => units_path(alloc, units.as_slice()),
+        Err(TextError::NotModifiedUtf8(_)) => unreachable!(),
+        Err(TextError::Memory) => Err(ShapeError::Memory),
+    }
+}

@@ -1,0 +1,26 @@
+-- Sets of class files: each file under its path within the folder, in the order of the bytes of their paths.
+use Rattle.std.specs.Prelude.{◌≡◌, ℕ, ◌≤◌, ◌↔◌, List, length, map, AllPairs, Contains}
+use Rattle.std.specs.Ordering.{nat_cmp}
+use Rattle.std.specs.declared.cmp.Ordering.TheVariants.{Less}
+use Rattle.std.specs.Cmp.Lexicographic.{slice_cmp}
+use Rattle.dj_edge.specs.Held.{File}
+use Rattle.dj_sandbox.specs.Limits.{most_files, AreWithin}
+
+-- each text is below all later ones, byte by byte
+abbrev pub TextsRise : List (List ℕ) → Type 0
+TextsRise texts = AllPairs (λ a b. slice_cmp nat_cmp a b ≡ Less) texts
+
+-- the files stand in the order of their paths, and no path stands twice
+abbrev pub PathsRise : List File → Type 0
+PathsRise files = TextsRise (map (λ file. file.0) files)
+
+-- the files may be judged together
+pub record IsClassSet (files : List File) : Type 0 where
+  pub few : length files ≤ most_files
+  pub within : AreWithin files
+  pub rise : PathsRise files
+
+-- the set of the files: no file is missing and none is added, and they are in order
+pub record AreByPath (files set : List File) : Type 0 where
+  pub same : (file : File) → Contains set file ↔ Contains files file
+  pub rise : PathsRise set

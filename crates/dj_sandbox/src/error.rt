@@ -1,0 +1,43 @@
+ghost use Rattle.std.specs.Prelude.{◌≡◌};
+
+use dj_rules::RulesError;
+use std::alloc::{AllocError, AllocFailed};
+use thiserror::Error;
+
+/// Why a set of class files is not made or not judged.
+#[derive(Clone, Copy, Debug, PartialEq, Eq, Error)]
+pub enum SandboxError {
+    /// There was no memory.
+    #[error("out of memory")]
+    Memory,
+}
+
+impl From<RulesError> for SandboxError {
+    ghost use Rattle.dj_sandbox.specs.declared.error.SandboxError.TheVariants.{Memory};
+
+    ghost from_gives = { λ _ e. e ≡ Memory };
+
+    fn from(_error: RulesError) -> SandboxError {
+        SandboxError::Memory
+    }
+}
+
+impl From<AllocError> for SandboxError {
+    ghost use Rattle.dj_sandbox.specs.declared.error.SandboxError.TheVariants.{Memory};
+
+    ghost from_gives = { λ _ e. e ≡ Memory };
+
+    fn from(_error: AllocError) -> SandboxError {
+        SandboxError::Memory
+    }
+}
+
+impl<T: Drop> From<AllocFailed<T>> for SandboxError {
+    ghost use Rattle.dj_sandbox.specs.declared.error.SandboxError.TheVariants.{Memory};
+
+    ghost from_gives = { λ _ e. e ≡ Memory };
+
+    fn from(_error: AllocFailed<T>) -> SandboxError {
+        SandboxError::Memory
+    }
+}
