@@ -440,3 +440,18 @@ case(
     "A 6",
     "B 6",
 )
+
+# The first example's class, which returns its argument, with another superclass or another call before that.
+
+ITS_ARGUMENT = b"\x2a\xb0"
+
+
+def first_class(*told, **more):
+    pool = Pool()
+    body = [member(pool, STATICALLY, text) for text in told]
+    return one("A", pool, method("verify", *body, ITS_ARGUMENT, descriptor="([B)[B"), **more)
+
+
+case("06-first-class-below-an-absent-one", first_class(super_name="x/Y"), "A 6")
+case("17-first-class-calls-yield", first_class("java/lang/Thread yield ()V"), "A verify([B)[B 0 17")
+case("18-first-class-calls-what-it-lacks", first_class("A g ()V"), "A verify([B)[B 0 18")

@@ -4,6 +4,7 @@ pub mod Anys
 pub mod Stands
 pub mod MarkLaws
 pub mod Judging
+pub mod FloatLetters
 pub mod PlainLaws
 pub mod MethodLaws
 pub mod MapLaws
@@ -12,6 +13,8 @@ pub mod Marked
 pub mod Keys
 pub mod DoubleLaws
 pub mod Noted
+pub mod PrintLaws
+pub mod OwnTexts
 pub mod MarkedNames
 pub mod HeadLaws
 pub mod RepeatLaws

@@ -111,7 +111,7 @@ copied_some found at key seen is = sym seen ∙ ap option_copied is
 pub copied_none : (found : Option (Bor (List ℕ))) (at : Option (List ℕ)) → option_copied found ≡ at → found ≡ None → at ≡ None
 copied_none found at seen is = sym seen ∙ ap option_copied is
 
-told_some : (P : List ℕ → Type 0) (b : Bool) (found : Option (List ℕ)) (key : List ℕ) → found ≡ Some key → (IsTrue b ↔ P key) → IsTrue b ↔ IsSomeAnd found P
+pub told_some : (P : List ℕ → Type 0) (b : Bool) (found : Option (List ℕ)) (key : List ℕ) → found ≡ Some key → (IsTrue b ↔ P key) → IsTrue b ↔ IsSomeAnd found P
 told_some P b found key at told = subst (λ (o : Option (List ℕ)). IsTrue b ↔ IsSomeAnd o P) (sym at) told
 
 first_is : (pool : List Constant) (old : Indexes) (index first : ℕ) (key : List ℕ) → text_at pool index ≡ Some key → AreRight pool old → ((first ≡ index) ⊎ (noted_at old key ≡ Some first)) → text_at pool first ≡ text_at pool index

@@ -1,5 +1,5 @@
 -- The code's own: what is kept beside the texts of a pool.
-use Rattle.std.specs.Prelude.{◌≡◌, ◌↔◌, ℕ, ◌+◌, ◌<◌, ◌⊎◌, Bool, true, false, List, [], ◌∷◌, length, Contains, Option, Some, None, IsTrue, slice_get, unwrap_or}
+use Rattle.std.specs.Prelude.{◌≡◌, ◌↔◌, ℕ, ◌+◌, ◌<◌, ◌⊎◌, Bool, true, nat_eq, ◌||◌, List, [], ◌∷◌, length, Contains, Option, Some, None, IsTrue, slice_get, unwrap_or}
 use Rattle.std.specs.Borrow.{Bor}
 use Rattle.std.specs.Ordering.{nat_cmp}
 use Rattle.std.specs.Cmp.Lexicographic.{slice_cmp}
@@ -9,6 +9,10 @@ use Rattle.dj_class.specs.ClassFile.{MemberInfo, ClassFile}
 use Rattle.dj_check.specs.declared.judged.JudgedText.{JudgedText}
 use Rattle.dj_check.specs.Floats.{HasFloat, NamesFloat}
 use Rattle.dj_check.specs.Classes.{IsReflectiveText, NamesReflectiveText}
+
+-- the letter of a float or of a double
+abbrev pub is_float_letter : ℕ → Bool
+is_float_letter b = nat_eq b 70 || nat_eq b 68
 
 -- this is told of the text of the index
 pub record IsTextAt (pool : List Constant) (index : ℕ) (text : JudgedText) : Type 0 where
@@ -113,3 +117,15 @@ pub record AreFirstTexts (indexes : Indexes) (marks : List Bool) (count : ℕ) (
   pub means : (index : ℕ) (text : JudgedText) → slice_get texts index ≡ Some text → IsTextAt pool index text
   pub number : (index : ℕ) (text : JudgedText) (marked : Bool) → slice_get texts index ≡ Some text → slice_get marks index ≡ Some marked → IsNumberedBy indexes pool index marked text
   pub right : AreRight pool indexes
+
+-- ---- texts that stand for themselves
+
+-- this is told of the text of the index, which stands for itself
+pub record IsOwnText (pool : List Constant) (index : ℕ) (text : JudgedText) : Type 0 where
+  pub means : IsTextAt pool index text
+  pub own : text.first ≡ index
+
+-- of each of so many indexes
+pub record AreOwnTexts (pool : List Constant) (count : ℕ) (texts : List JudgedText) : Type 0 where
+  pub all : length texts ≡ count
+  pub each : (index : ℕ) (text : JudgedText) → slice_get texts index ≡ Some text → IsOwnText pool index text

@@ -10,6 +10,7 @@ pub mod Methods
 pub mod Heads
 pub mod Rules
 pub mod Judged
+pub mod Prints
 pub mod Passes
 pub mod Marks
 pub mod Doubles

@@ -1,12 +1,14 @@
 ghost use Rattle.std.specs.Prelude.{◌≡◌, ◌↔◌, ◌+◌, ◌<◌, ◌≤◌, ◌^◌, [], ◌∷◌, map, length, slice_get, Contains, true, IsTrue, IfOk, OnOk};
+ghost use Rattle.std.specs.List.{list_any};
 ghost use Rattle.dj_names.specs.Names.{IsClassName};
 ghost use Rattle.dj_class.specs.ClassFile.{MemberInfo};
 ghost use Rattle.dj_class.specs.Members.{member_of};
 ghost use Rattle.dj_class.specs.Views.{class_of};
 ghost use Rattle.dj_check.specs.Floats.{HasFloat, IsFloating, HasFloating, MentionsFloat};
 ghost use Rattle.dj_check.specs.Classes.{IsReflective, IsReflectiveText, element_class};
-ghost use Rattle.dj_check.specs.Judged.{IsTextAt, AreTexts, first_in, BeginsFloat, AreNumbered, IsMarked, StayMarked, AreNamesMarked, AreMembersMarked, AreRight, Notes, IsToldText, IsJudgedText};
+ghost use Rattle.dj_check.specs.Judged.{IsTextAt, AreTexts, first_in, BeginsFloat, is_float_letter, AreNumbered, IsMarked, StayMarked, AreNamesMarked, AreMembersMarked, AreRight, Notes, IsToldText, IsJudgedText, IsOwnText, AreOwnTexts};
 
+use crate::prints::are_distinct;
 use dj_class::{ClassView, MemberView};
 use dj_names::{Base, Desc, DescError, Of, Ty, is_class_name, read_desc};
 use dj_pool::{Entry, Pool};
@@ -74,11 +76,31 @@ fn may_have_float(text: &[u8]) -> bool
     }
 }
 
-// Whether the text is a descriptor with a float or a double. Most texts are seen to be none by their first byte.
+fn is_float_letter(byte: u8) -> bool
+    ensures { result ≡ is_float_letter byte }
+{
+    (byte == b'F') | (byte == b'D')
+}
+
+// Whether the text has the letter of a float or of a double. One pass that never stops early, so that it may take many bytes at once.
+fn has_float_letter(text: &[u8]) -> bool
+    ensures { result ≡ list_any is_float_letter text.now }
+{
+    let mut found = false;
+    for byte in text {
+        found = found | is_float_letter(*byte);
+    }
+    found
+}
+
+// Whether the text is a descriptor with a float or a double. Most texts are seen to be none by their first byte, and most descriptors by their letters.
 fn has_float(alloc: Global, text: &[u8]) -> Result<bool, RulesError>
     ensures { IfOk result (λ float. IsTrue float ↔ HasFloat text.now) }
 {
     if !may_have_float(text) {
+        return Ok(false);
+    }
+    if !has_float_letter(text) {
         return Ok(false);
     }
     match read_desc(alloc, text) {
@@ -167,8 +189,8 @@ fn mark_names(marks: &mut [bool], members: &[MemberView<'_>])
     }
 }
 
-// Of each index, whether it is that of a name or a descriptor of a member.
-fn marked_names(alloc: Global, view: &ClassView<'_>) -> Result<Vec<bool>, RulesError>
+/// Of each index, whether it is that of a name or a descriptor of a member.
+pub fn marked_names(alloc: Global, view: &ClassView<'_>) -> Result<Vec<bool>, RulesError>
     ensures { IfOk result (λ marks. AreMembersMarked (class_of view.now) marks.items) }
 {
     let mut marks = vec![in alloc; false; view.pool.as_slice().len() + 1]?;
@@ -253,13 +275,51 @@ fn judge_index<'p>(
     }
 }
 
-/// What the rules ask of the texts of a class file's pool, by index. Each text is looked at once, and compared where it is a name or a descriptor of a member.
-pub fn judge_texts(alloc: Global, view: &ClassView<'_>) -> Result<Vec<JudgedText>, RulesError>
-    requires { length view.now.pool + 1 < 2 ^ 16 }
+// The same, where the index stands for itself.
+fn judge_own(alloc: Global, pool: &Pool<'_>, index: u16) -> Result<JudgedText, RulesError>
+    ensures { IfOk result (IsOwnText pool.now index) }
+{
+    match pool.text(index) {
+        Some(text) => Ok(JudgedText {
+            float: has_float(alloc, text)?,
+            reflective: is_reflective_text(alloc, text)?,
+            first: index,
+        }),
+        None => Ok(JudgedText {
+            float: false,
+            reflective: false,
+            first: index,
+        }),
+    }
+}
+
+// What the rules ask of texts, each of which stands for itself.
+fn judge_own_texts(
+    alloc: Global,
+    pool: &Pool<'_>,
+    count: usize,
+) -> Result<Vec<JudgedText>, RulesError>
+    requires { count ≤ 2 ^ 16 }
+    ensures { IfOk result (λ texts. AreOwnTexts pool.now count texts.items) }
+{
+    let mut texts = Vec::with_capacity(alloc, count)?;
+    for index in 0..count {
+        texts.push(judge_own(alloc, pool, index as u16)?)?;
+    }
+    Ok(texts)
+}
+
+// What the rules ask of texts, of which the first marked one stands for those that are the same.
+fn judge_first_texts(
+    alloc: Global,
+    view: &ClassView<'_>,
+    marks: &[bool],
+) -> Result<Vec<JudgedText>, RulesError>
+    requires few { length marks.now ≤ 2 ^ 16 }
+    requires marks { AreMembersMarked (class_of view.now) marks.now }
     ensures texts { IfOk result (λ texts. AreTexts view.now.pool texts.items) }
     ensures numbered { IfOk result (λ texts. AreNumbered (class_of view.now) texts.items) }
 {
-    let marks = marked_names(alloc, view)?;
     let mut indexes = BTreeMap::new(alloc);
     let mut texts = Vec::with_capacity(alloc, marks.len())?;
     for index in 0..marks.len() {
@@ -267,6 +327,21 @@ pub fn judge_texts(alloc: Global, view: &ClassView<'_>) -> Result<Vec<JudgedText
         texts.push(text)?;
     }
     Ok(texts)
+}
+
+/// What the rules ask of the texts of a class file's pool, by index. Each text is looked at once, and compared where it is a name or a descriptor
+/// of a member and its number is another's too.
+pub fn judge_texts(alloc: Global, view: &ClassView<'_>) -> Result<Vec<JudgedText>, RulesError>
+    requires { length view.now.pool + 1 < 2 ^ 16 }
+    ensures texts { IfOk result (λ texts. AreTexts view.now.pool texts.items) }
+    ensures numbered { IfOk result (λ texts. AreNumbered (class_of view.now) texts.items) }
+{
+    let marks = marked_names(alloc, view)?;
+    if are_distinct(alloc, &view.pool, &marks)? {
+        judge_own_texts(alloc, &view.pool, marks.len())
+    } else {
+        judge_first_texts(alloc, view, &marks)
+    }
 }
 
 /// What the rules ask of the text of an index.

@@ -17,6 +17,7 @@ mod marks;
 mod methods;
 mod opcodes;
 mod passes;
+mod prints;
 mod repeats;
 
 pub use classes::{add_naming_lines, class_name};
@@ -27,7 +28,7 @@ pub use fields::has_faulty_field;
 pub use good::{GoodFile, good_file};
 pub use hierarchy::{Owner, add_hierarchy_lines};
 pub use instructions::violates_instr;
-pub use judged::{JudgedText, judge_texts, text_in};
+pub use judged::{JudgedText, judge_texts, marked_names, text_in};
 pub use lines::add_mark_lines;
 pub use marks::{Mark, Place, add_mark_if};
 pub use methods::{add_bodiless_marks, add_field_marks, add_own_marks, names_of};

@@ -9,10 +9,10 @@ ghost use Rattle.dj_declared.specs.Rows.{AreNumbered, IsNamed, AreNamed, kept_bo
 ghost use Rattle.dj_declared.specs.Tables.{AreMembers};
 
 use crate::error::DeclareError;
-use crate::marks::named_indexes;
 use crate::members::{MemberBody, MemberRow, MemberTable};
 use crate::tables::ClassMembers;
 use crate::texts::TextTable;
+use dj_check::marked_names;
 use dj_class::{AccessFlags, ClassView, MemberView};
 use dj_pool::Pool;
 use std::alloc::Global;
@@ -198,19 +198,14 @@ fn field_rows(
 }
 
 // The texts that name the members.
-fn file_texts(
-    alloc: Global,
-    pool: &Pool<'_>,
-    fields: &[MemberView<'_>],
-    methods: &[MemberView<'_>],
-) -> Result<NumberedTexts, DeclareError>
-    requires { length pool.now + 1 < 2 ^ 16 }
-    ensures { IfOk result (λ numbered. AreNumbered pool.now numbered.places.items numbered.texts) }
+fn file_texts(alloc: Global, view: &ClassView<'_>) -> Result<NumberedTexts, DeclareError>
+    requires { length view.now.pool + 1 < 2 ^ 16 }
+    ensures { IfOk result (λ numbered. AreNumbered view.now.pool numbered.places.items numbered.texts) }
 {
-    let marks = named_indexes(alloc, pool.as_slice().len() + 1, fields, methods)?;
-    let named = named_texts(alloc, pool, &marks)?;
+    let marks = marked_names(alloc, view)?;
+    let named = named_texts(alloc, &view.pool, &marks)?;
     let mut texts = TextTable::with_room(alloc, named.len(), bytes_of(&named))?;
-    let places = number_texts(alloc, &mut texts, pool, &named)?;
+    let places = number_texts(alloc, &mut texts, &view.pool, &named)?;
     texts.shrink();
     Ok(NumberedTexts { texts, places })
 }
@@ -225,7 +220,7 @@ pub(crate) fn file_members(
 {
     let fields = view.fields.as_slice();
     let methods = view.methods.as_slice();
-    let numbered = file_texts(alloc, &view.pool, fields, methods)?;
+    let numbered = file_texts(alloc, view)?;
     let fields = MemberTable::new(alloc, field_rows(alloc, &numbered.places, fields)?)?;
     let methods = MemberTable::new(alloc, method_rows(alloc, &numbered.places, methods)?)?;
     let counts = fields.instance_counts(alloc)?;

@@ -7,7 +7,6 @@ mod file;
 mod heads;
 mod library;
 mod listed;
-mod marks;
 mod members;
 mod spelling;
 mod tables;

@@ -1,3 +1,5 @@
 pub mod Wrapping
+pub mod Kept
+pub mod Sizes
 pub mod Replacing
 mod HeapFacts

@@ -1,10 +1,10 @@
-ghost use Rattle.std.specs.Prelude.{◌≡◌, Some, option_map, IsSome, length};
+ghost use Rattle.std.specs.Prelude.{◌≡◌, ◌^◌, ◌<◌, Some, option_map, IsSome, length};
 ghost use Rattle.std.specs.Int.{w8, w16, w32, w64, int_wrap};
 ghost use Rattle.dj_names.specs.Heaps.{class_of};
-ghost use Rattle.dj_heap.specs.Heaps.{object_in, field_in, element_in, unit_in, with_field, with_number, Replaces, low_bits};
+ghost use Rattle.dj_heap.specs.Heaps.{object_in, field_in, element_in, unit_in, with_field, with_number, Replaces, low_bits, IsKeptIn};
 ghost use Rattle.dj_heap.specs.Lengths.{object_length};
 ghost use Rattle.dj_heap.specs.Calls.{made_as};
-ghost use Rattle.dj_heap.specs.Views.{object_view, IsShort};
+ghost use Rattle.dj_heap.specs.Views.{object_view, IsKept, IsShort};
 
 use crate::heap::Heap;
 use crate::object::{Made, Object};
@@ -34,9 +34,11 @@ impl Heap {
     }
 
     /// An element of an array: booleans, bytes, shorts, ints and longs with their sign.
+    #[tactic(auto, using(crate::proofs::Kept::read_in))]
     pub fn element(&self, r: u32, at: u32) -> i64
         requires { IsSome (element_in self.now r at) }
-        ensures { element_in self.now r at ≡ Some result }
+        ensures value { element_in self.now r at ≡ Some result }
+        ensures kept { IsKeptIn (object_in self.now r) result }
     {
         match self.object(r) {
             Object::Array { contents, .. } => contents.items[at as usize],
@@ -73,7 +75,8 @@ impl Heap {
     /// How many fields, elements or units an object has.
     pub fn length(&self, r: u32) -> u32
         requires { IsSome (object_in self.now r) }
-        ensures { option_map object_length (object_in self.now r) ≡ Some result }
+        ensures value { option_map object_length (object_in self.now r) ≡ Some result }
+        ensures few { result < 2 ^ 31 }
     {
         match self.object(r) {
             Object::Instance { fields, .. } => fields.items.len() as u32,
@@ -125,6 +128,7 @@ impl Heap {
         requires { IsSome (object_in self.now r) }
         ensures object { object_in self.now r ≡ Some (object_view result.now) }
         ensures short { IsShort result.now }
+        ensures kept { IsKept result.now }
     {
         &self.objects[(r - 1) as usize]
     }

@@ -2,7 +2,7 @@ ghost use Rattle.std.specs.Prelude.{◌≡◌, ℕ, ◌+◌, ◌*◌, ◌^◌, �
 ghost use Rattle.dj_names.specs.Heaps as heaps;
 ghost use Rattle.dj_names.specs.Heaps.{class_of, instance_size, array_size, text_size, object_size};
 ghost use Rattle.std.specs.List.{All};
-ghost use Rattle.dj_heap.specs.Views.{object_view, IsShort};
+ghost use Rattle.dj_heap.specs.Views.{object_view, IsKept, IsShort};
 ghost use Rattle.dj_heap.specs.Heaps.{LimitedHeap, object_in, field_in, element_in, unit_in, with_field, with_number, Replaces, Makes, Refuses, low_bits};
 ghost use Rattle.dj_names.specs.Values.{element_size};
 ghost use Rattle.dj_heap.specs.declared.errors.HeapError.TheVariants as HeapError;
@@ -26,6 +26,7 @@ pub struct Heap {
     pub ghost most: { limit ≤ 2147483648 },
     pub ghost headers: { 16 * length objects.items ≤ used },
     pub ghost short: { All IsShort objects.items },
+    pub ghost kept: { All IsKept objects.items },
 }
 
 impl Model for Heap {
@@ -71,6 +72,7 @@ impl Heap {
     }
 
     /// Makes an array of n elements, all zero. Its size is 16 bytes and those of its elements, rounded up to a multiple of 8.
+    #[tactic(auto, using(crate::proofs::Kept::zeros_kept))]
     pub fn array(&mut self, class: u32, element: Element, n: u32) -> Result<u32, HeapError>
         ensures made { IfOk result (Makes self.old self.new (heaps.Array class element (replicate n (pos 0)))) }
         ensures refused { IfErr result (Refuses self.old (array_size element n)) }
@@ -119,10 +121,11 @@ impl Heap {
     }
 
     // Appends an object of this size, which fits.
+    #[tactic(auto, using(crate::proofs::Sizes::short_object))]
     fn add(&mut self, object: Object, size: u64) -> Result<u32, HeapError>
         requires size { size ≡ object_size (object_view object) }
         requires fits { self.old.heap.used + size ≤ self.old.limit }
-        requires short { IsShort object }
+        requires kept { IsKept object }
         ensures made { IfOk result (Makes self.old self.new (object_view object)) }
         ensures refused { IfErr result (λ e. e ≡ HeapError.Memory) }
         ensures kept { OnErr result (self.new ≡ self.old) }

@@ -72,9 +72,6 @@ fields_at_bare program class =
     ∙ ap (length {A = Field}) (fields_of_bare (slice_get program class))
     ∙ length-map (fields_at program class) bare_field
 
-pub program_count_bare : (program : Program) → length (bare_program program) ≡ length program
-program_count_bare program = length-map program bare_class
-
 -- ---- members
 
 methods_found_bare : (class : Name) (methods : List Method)

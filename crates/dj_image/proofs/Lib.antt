@@ -37,3 +37,7 @@ pub mod IndexFacts
 pub mod KeptFacts
 pub mod PartFacts
 pub mod TakenFacts
+pub mod FitFacts
+pub mod ShapeFacts
+pub mod TableFacts
+pub mod KeyFacts

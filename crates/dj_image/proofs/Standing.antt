@@ -1,6 +1,6 @@
 -- A program with its code and constants differs from the one without them in these only, so what is told of the one is told of the other.
 use Rattle.std.proofs.Common.{◌≡◌, ℕ, ◌<◌, List, [], ◌∷◌, map, length, Option, Some, None, refl, sym, ap, ◌∙◌, subst, IsTrue}
-use Rattle.std.specs.Prelude.{slice_get, nat_lt, if◌then◌else◌, ◌+◌}
+use Rattle.std.specs.Prelude.{slice_get, nat_lt, if◌then◌else◌, unwrap_or, ◌+◌}
 use Rattle.std.specs.Option.{option_map}
 use Rattle.std.specs.Global.{Vec}
 use Rattle.dj_pool.specs.Pool.{Constant}
@@ -9,7 +9,7 @@ use Rattle.dj_names.specs.declared.descriptor.Ty.{Ty}
 use Rattle.dj_model.specs.Types.{Prefix}
 use Rattle.dj_model.specs.Program as programs
 use Rattle.dj_model.specs.Program.{Program, Class, Method, Field, Body, Abstract, Native, Runs, has_code}
-use Rattle.dj_model.specs.Linking.{FoundMethod, FoundField, place_of, field_count}
+use Rattle.dj_model.specs.Linking.{FoundMethod, FoundField, place_of}
 use Rattle.dj_declared.specs.Files.{bare_method, bare_field, bare_class}
 use Rattle.dj_classes.specs.Tables.{name_at, class_number, methods_at, fields_at}
 use Rattle.dj_linking.specs.Linked.{Linked}
@@ -18,7 +18,7 @@ use Rattle.dj_program.specs.Views.{parts_of}
 use Rattle.dj_program.specs.declared.code.MethodCode.{MethodCode}
 use Rattle.dj_types.specs.declared.types.MemberOf.{MemberOf}
 use Rattle.dj_types.specs.Typed.{Typed, texts_of, types_of, text_number, flags_at, super_at, interfaces_at, component_at, is_subtype_at, string_at, chars_at, stop_at}
-use Rattle.dj_types.specs.Members.{all_methods, all_fields, resolved_method, resolved_field, selected, found_method_number, found_field_number, methods_before, fields_before, IsMethodThere, IsFieldThere, IsNthMethod, IsNthField, IsFieldCount, native_at}
+use Rattle.dj_types.specs.Members.{all_methods, all_fields, field_count_at, resolved_method, resolved_field, selected, found_method_number, found_field_number, methods_before, fields_before, IsMethodThere, IsFieldThere, IsNthMethod, IsNthField, native_at}
 use Rattle.dj_image.specs.declared.parts.ClassParts.{ClassParts}
 use Rattle.dj_image.specs.Sources.{with_code, with_codes, with_values, class_of_source, program_of_sources}
 use Rattle.dj_image.specs.Parts.{source_of, sources_of, FitMethods, FitClass, FitClasses}
@@ -123,20 +123,14 @@ module _ {a b : Typed} (like : IsLike a b) where
   pub stop_like : stop_at a ≡ stop_at b
   stop_like = moved (λ t. stop_at t) laws.stop_at_bare a b like
 
-  pub class_count_like : length a.program ≡ length b.program
-  class_count_like = moved (λ t. length t.program) (λ t. laws.program_count_bare t.program) a b like
-
-  pub class_within_like : (class : ℕ) → class < length a.program → class < length b.program
-  class_within_like class within = subst (λ (n : ℕ). class < n) class_count_like within
-
   pub name_at_like : (class : ℕ) → name_at a.program class ≡ name_at b.program class
   name_at_like class = moved (λ t. name_at t.program class) (λ t. laws.name_at_bare t.program class) a b like
 
   pub class_number_like : (name : Name) → class_number a.program name ≡ class_number b.program name
   class_number_like name = moved (λ t. class_number t.program name) (λ t. laws.number_bare t.program name) a b like
 
-  pub field_count_like : (class count : ℕ) → IsFieldCount b class count → IsFieldCount a class count
-  field_count_like class count is = is ∙ sym (moved (λ t. option_map (field_count t.program) (name_at t.program class)) (λ t. laws.count_there_bare t.program class) a b like)
+  pub field_count_like : (class : ℕ) → field_count_at a class ≡ field_count_at b class
+  field_count_like class = moved (λ t. field_count_at t class) (λ t. ap (λ (count : Option ℕ). unwrap_or count 0) (laws.count_there_bare t.program class)) a b like
 
   pub methods_like : (class : ℕ) → length (methods_at a.program class) ≡ length (methods_at b.program class)
   methods_like class = moved (λ t. length (methods_at t.program class)) (λ t. laws.methods_at_bare t.program class) a b like

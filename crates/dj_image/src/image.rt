@@ -4,7 +4,7 @@ ghost use Rattle.dj_model.specs.Linking.{place_of};
 ghost use Rattle.dj_declared.specs.Files.{bare_class};
 ghost use Rattle.dj_declared.specs.Members.{IsDescriptor};
 ghost use Rattle.dj_types.specs.Typed.{texts_of, types_of, text_number, flags_at, super_at, interfaces_at, component_at, is_subtype_at, string_at, chars_at, stop_at};
-ghost use Rattle.dj_types.specs.Members.{all_methods, all_fields, resolved_method, resolved_field, selected, found_method_number, found_field_number, IsMethodThere, IsFieldThere, IsNthMethod, IsNthField, IsFieldCount, number_of_method, number_of_field};
+ghost use Rattle.dj_types.specs.Members.{all_methods, all_fields, field_count_at, resolved_method, resolved_field, selected, found_method_number, found_field_number, IsMethodThere, IsFieldThere, IsNthMethod, IsNthField, number_of_method, number_of_field};
 ghost use Rattle.dj_image.specs.Imaged.{program_of, typed_of};
 ghost use Rattle.dj_image.specs.Codes.{HasInstr, HasRange, IsOperandAt, IsNamedAt, IsCaughtAt, IsConstantAt, IsBodyAt};
 ghost use Rattle.dj_image.specs.Shaped.{AreShapePartsAt};
@@ -170,10 +170,10 @@ impl Image {
         self.types.stop()
     }
 
-    /// The number of instance fields of a class, inherited ones included.
+    /// The number of instance fields of a class, inherited ones included; 0 of an array.
     pub fn field_count(&self, class: u32) -> u32
-        requires { class < length (program_of self.now) }
-        ensures { IsFieldCount (typed_of self.now) class result }
+        requires { class < length (types_of (typed_of self.now)) }
+        ensures { result ≡ field_count_at (typed_of self.now) class }
     {
         self.types.field_count(class)
     }
@@ -291,7 +291,8 @@ impl Image {
         }
     }
 
-    /// The class that a row of the exception table catches; none where it catches everything.
+    /// The class or the array that a row of the exception table catches. None where it catches everything, which its `catch_type` of 0 tells apart,
+    /// and where its constant names an absent class or an array without a number, or is no class, as an int.
     pub fn catch_class(&self, method: MethodId, range: u32) -> Option<u32>
         requires { HasRange self.now method.number range }
         ensures { IsCaughtAt self.now method.number range result }
@@ -303,7 +304,8 @@ impl Image {
         }
     }
 
-    /// The constant with which a field begins.
+    /// The constant that its file tells for a field, with which a static one begins. That of an instance field is told too, though no object
+    /// begins with it (JVMS 4.7.2).
     pub fn constant(&self, field: FieldId) -> Operand
         requires { field.number < length (all_fields (program_of self.now)) }
         ensures { IsConstantAt self.now field.number result }

@@ -3,3 +3,4 @@ pub mod FileLaws
 pub mod MethodLaws
 pub mod ShapeLaws
 pub mod ClassLaws
+mod Facts

@@ -13,3 +13,5 @@ pub mod Selections
 pub mod Specials
 pub mod Subclasses
 pub mod Walks
+mod LinkedFacts
+mod ListedFacts

@@ -39,6 +39,9 @@ pub struct Linker {
     above: Vec<Vec<u32>>,
     methods: Chains,
     fields: Chains,
+    // The number of Object, where it is there.
+    object: Option<u32>,
+    ghost named: { object ≡ class_number table (object_name (prefix_of base)) },
 }
 
 impl Model for Linker {
@@ -73,12 +76,14 @@ impl Linker {
         let order = downward(alloc, &table)?;
         let methods = method_chains(alloc, &table, &order, &above)?;
         let fields = field_chains(alloc, &table, &order, &above)?;
+        let object = table.class_named(object_of(base));
         Ok(Linker {
             table,
             base,
             above,
             methods,
             fields,
+            object,
         })
     }
 
@@ -103,8 +108,7 @@ impl Linker {
         ensures { option_map (method_there self.now.program) result ≡ option_map Some (resolved_method self.now class name.now desc.now) }
     {
         self.table.names_differ();
-        let object = self.table.class_named(object_of(self.base));
-        match method_first(&self.table, object, class, name, desc) {
+        match method_first(&self.table, self.object, class, name, desc) {
             Some(place) => Some(place),
             None => plain_method_up(&self.table, &self.above, &self.methods, class, name, desc),
         }
@@ -155,7 +159,7 @@ impl Linker {
     pub fn object(&self) -> Option<u32>
         ensures { result ≡ class_number self.now.program (object_name self.now.prefix) }
     {
-        self.table.class_named(object_of(self.base))
+        self.object
     }
 
     /// The method that is taken for a receiver whose methods are those of this class, or of no class that is there (JVMS 6.5, invokevirtual and invokeinterface).

@@ -18,3 +18,4 @@ pub mod NumberedFacts
 pub mod RefusalFacts
 pub mod FiledFacts
 pub mod LibraryFacts
+pub mod PartingFacts

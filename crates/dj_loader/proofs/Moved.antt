@@ -1,20 +1,14 @@
 -- What is told of classes in order holds of them in any order.
-use Rattle.std.proofs.Common.{◌≡◌, ℕ, zero, suc, ◌+◌, ◌<◌, ◌^◌, List, [], map, length, Contains, sym, ap, ◌∙◌, subst, arith}
-use Rattle.std.proofs.lemmas.List.{length-append, length-map}
+use Rattle.std.proofs.Common.{◌≡◌, ℕ, zero, suc, List, [], Contains, sym, subst}
 use Rattle.dj_names.specs.Types.{Name}
-use Rattle.dj_class.specs.declared.class.ClassView.{ClassView}
-use Rattle.dj_class.specs.Views.{class_of}
-use Rattle.dj_natives.specs.declared.library.LibClass.{LibClass}
-use Rattle.dj_natives.specs.Views.{library_class_view, library_view}
 use Rattle.dj_model.specs.Program.{Program, Class}
-use Rattle.dj_model.specs.Libraries.{library_class, joined}
-use Rattle.dj_declared.specs.Files.{declared_class}
+use Rattle.dj_model.specs.Libraries.{joined}
 use Rattle.dj_classes.specs.Tables.{IsShared}
 use Rattle.dj_classes.specs.Rows.{RiseStrictly}
 use Rattle.dj_classes.proofs.Rising.{members_joined, rise_joined, differ_from_none_shared}
 use Rattle.dj_loader.specs.declared.error.LoadError.{LoadError}
 use Rattle.dj_loader.specs.declared.error.LoadError.TheVariants as errors
-use Rattle.dj_loader.specs.Loads.{all_classes, StandsUnder, LacksAbove, StandsBelow, IsOwnAncestor, IsLeast, Never, IsLoadable, RefusesLoad}
+use Rattle.dj_loader.specs.Loads.{StandsUnder, LacksAbove, StandsBelow, IsOwnAncestor, IsLeast, Never, IsLoadable, RefusesLoad}
 use Rattle.dj_loader.specs.Numbered.{RefusesLacking, RefusesCycles}
 use Rattle.dj_loader.proofs.Named.{none_of_name, class_at_none}
 
@@ -23,14 +17,6 @@ rise_of_table all table is differ = subst RiseStrictly (sym is) (rise_joined all
 
 pub refuses_memory : (all : List Class) (e : LoadError) → e ≡ errors.Memory → RefusesLoad all e
 refuses_memory all e is = subst (RefusesLoad all) (sym is) tt
-
--- there are few classes
-pub few_classes : (views : List ClassView) (rows : List LibClass) (classes : List Class) → classes ≡ all_classes (library_view rows) (map class_of views) → length views + length rows < 2 ^ 31 → length classes < 2 ^ 31
-few_classes views rows classes is few =
-    let a = ap length is ∙ length-append (map declared_class (map class_of views)) (map library_class (library_view rows)) in
-    let b = length-map (map class_of views) declared_class ∙ length-map views class_of in
-    let d = length-map (library_view rows) library_class ∙ length-map rows library_class_view in
-    omega (arith, few, a, b, d)
 
 abbrev pub HaveSame : List Class → List Class → Type 0
 HaveSame xs ys = (c : Class) → Contains xs c → Contains ys c

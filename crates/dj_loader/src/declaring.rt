@@ -13,7 +13,7 @@ use crate::error::LoadError;
 use dj_class::ClassView;
 use dj_classes::{ClassTable, TableError};
 use dj_declared::{DeclaredClass, declare_file, declare_library_class};
-use dj_natives::LibClass;
+use dj_natives::{LibClass, Library};
 use std::alloc::Global;
 
 // The classes of the files.
@@ -49,7 +49,7 @@ fn add_rows(
 pub fn declare_all(
     alloc: Global,
     views: &[ClassView<'_>],
-    library: &[LibClass],
+    library: &Library,
 ) -> Result<Vec<DeclaredClass>, LoadError>
     requires valid { All (λ view. IsValid (class_of view)) views.now }
     requires described { All (λ row. All (λ m. IsDesc m.desc) row.methods) library.now }
@@ -57,17 +57,19 @@ pub fn declare_all(
     ensures memory { IfErr result IsMemory }
 {
     let mut classes = declare_views(alloc, views)?;
-    add_rows(alloc, &mut classes, library)?;
+    add_rows(alloc, &mut classes, library.as_slice())?;
     Ok(classes)
 }
 
-/// The classes in the order of their names, which differ.
+/// The classes in the order of their names, which differ. There is no memory for more of them than a table has.
 pub fn table_of(alloc: Global, classes: Vec<DeclaredClass>) -> Result<ClassTable, LoadError>
-    requires { length classes.items < 2 ^ 31 }
     ensures table { IfOk result (λ table. table ≡ joined classes.items []) }
     ensures differ { IfOk result (λ _. Never (IsShared classes.items)) }
     ensures refused { IfErr result (RefusesLoad classes.items) }
 {
+    if classes.len() >= 0x8000_0000 {
+        return Err(LoadError::Memory);
+    }
     match ClassTable::of(alloc, classes) {
         Ok(table) => Ok(table),
         Err(TableError::Duplicate(name)) => Err(LoadError::Duplicate(name)),

@@ -11,6 +11,7 @@ mod owners;
 mod parts;
 mod values;
 
+pub use cycles::refuse_cycles;
 pub use dj_image::{BaseNames, Image};
 pub use error::LoadError;
 pub use loading::load;

@@ -1,6 +1,6 @@
-ghost use Rattle.std.specs.Prelude.{◌≡◌, ◌+◌, ◌^◌, ◌<◌, [], length, map, All, IfOk, IfErr};
+ghost use Rattle.std.specs.Prelude.{◌≡◌, ◌+◌, ◌^◌, ◌<◌, [], List, length, map, All, IfOk, IfErr};
 ghost use Rattle.dj_names.specs.Descriptors.{IsDesc};
-ghost use Rattle.dj_names.specs.Library.{Library};
+ghost use Rattle.dj_names.specs.Library.{LibraryClass};
 ghost use Rattle.dj_class.specs.ClassFile.{IsValid};
 ghost use Rattle.dj_class.specs.Views.{class_of};
 ghost use Rattle.dj_natives.specs.Views.{library_view};
@@ -22,18 +22,17 @@ use crate::parts::parts_of;
 use dj_class::ClassView;
 use dj_classes::ClassTable;
 use dj_image::{BaseNames, Image, Linker, image_of};
-use dj_natives::LibClass;
+use dj_natives::Library;
 use std::alloc::Global;
 
 // The classes in the order of their names, where they can be loaded.
 fn whole_table(
     alloc: Global,
     views: &[ClassView<'_>],
-    library: &[LibClass],
+    library: &Library,
 ) -> Result<ClassTable, LoadError>
     requires valid { All (λ view. IsValid (class_of view)) views.now }
     requires described { All (λ row. All (λ m. IsDesc m.desc) row.methods) library.now }
-    requires few { length views.now + length library.now < 2 ^ 31 }
     ensures table { IfOk result (λ table. table ≡ joined (all_classes (library_view library.now) (map class_of views.now)) []) }
     ensures loadable { IfOk result (λ _. IsLoadable (all_classes (library_view library.now) (map class_of views.now))) }
     ensures refused { IfErr result (RefusesLoad (all_classes (library_view library.now) (map class_of views.now))) }
@@ -65,9 +64,9 @@ fn image_in(
 ) -> Result<Image, LoadError>
     requires valid { All (λ view. IsValid (class_of view)) views.now }
     requires coded { All (λ view. HasFaultyMethod (class_of view) → ⊥) views.now }
-    requires fits { (library : Library) × IsTableOf library (map class_of views.now) table }
+    requires fits { (library : List LibraryClass) × IsTableOf library (map class_of views.now) table }
     requires string { HasString table (prefix_of base) }
-    ensures program { (library : Library) → IsTableOf library (map class_of views.now) table → IfOk result (λ image. IsProgramIn library (map class_of views.now) (program_of image)) }
+    ensures program { (library : List LibraryClass) → IsTableOf library (map class_of views.now) table → IfOk result (λ image. IsProgramIn library (map class_of views.now) (program_of image)) }
     ensures prefix { IfOk result (λ image. image.prefix ≡ prefix_of base) }
     ensures numbered { IfOk result IsNumbered }
     ensures memory { IfErr result IsMemory }
@@ -78,17 +77,17 @@ fn image_in(
 }
 
 /// The image of the program of class files and a library, whose names stand under the base and which has the class String. No method's code is
-/// faulty. Names that classes share are told first, then classes under absent ones, then cycles.
+/// faulty. Names that classes share are told first, then classes under absent ones, then cycles. There is no memory for 2^31 classes and more.
 pub fn load(
     alloc: Global,
     views: &[ClassView<'_>],
-    library: &[LibClass],
+    library: &Library,
     base: BaseNames,
 ) -> Result<Image, LoadError>
     requires valid { All (λ view. IsValid (class_of view)) views.now }
     requires coded { All (λ view. HasFaultyMethod (class_of view) → ⊥) views.now }
     requires described { All (λ row. All (λ m. IsDesc m.desc) row.methods) library.now }
-    requires few { length views.now + length library.now < 2 ^ 31 }
+    requires few { length views.now + length library.now < 2 ^ 32 }
     requires few_members { AreFewMembers (all_classes (library_view library.now) (map class_of views.now)) }
     requires string { HasStringIn (library_view library.now) base }
     ensures program { IfOk result (λ image. IsProgramIn (library_view library.now) (map class_of views.now) (program_of image)) }

@@ -4,7 +4,7 @@ ghost use Rattle.dj_image.specs.Imaged.{typed_of};
 
 use crate::answers::{told_bool, told_class, told_classes, told_field, told_method, told_number};
 use crate::members::{class_of, field_at, field_count, method_at, resolved_field, resolved_method};
-use crate::set::image;
+use crate::set::{image, raw_image};
 use dj_image::Image;
 use std::alloc::{AllocError, Global};
 
@@ -448,5 +448,31 @@ fn asked_of_classes(rt: HostRuntime) {
                 row.1
             );
         }
+    }
+}
+
+// The clocks, which the raw library alone has.
+const CLOCKS: [ClassRow; 2] = [
+    (
+        "java/lang/System",
+        OfClass::Method("nanoTime", "()J"),
+        "java/lang/System nanoTime ()J",
+    ),
+    (
+        "java/lang/System",
+        OfClass::Method("currentTimeMillis", "()J"),
+        "java/lang/System currentTimeMillis ()J",
+    ),
+];
+
+#[test]
+fn clocks_of_the_raw_library(rt: HostRuntime) {
+    let image = raw_image(rt.alloc());
+    for row in &CLOCKS {
+        assert!(rt;
+            matches!(&image, Some(image) if is_answered(rt.alloc(), image, row)),
+            "{:?}",
+            row.1
+        );
     }
 }

@@ -146,8 +146,7 @@ fn load_views(
     if views.len() > 99 {
         return None;
     }
-    let rows = library.as_slice();
-    Some(load(alloc, views, rows, BaseNames::Plain))
+    Some(load(alloc, views, library, BaseNames::Plain))
 }
 
 /// What loading the classes of texts answers; none where there is no memory, or a text means no class file.
@@ -167,6 +166,14 @@ pub fn plain_image(alloc: Global, texts: &[&[u8]]) -> Option<Image>
     ensures { IfSome result (λ image. image.prefix ≡ []) }
 {
     match load_texts(alloc, Which::Deterministic, texts)? {
+        Ok(image) => Some(image),
+        Err(_) => None,
+    }
+}
+
+/// The image of the raw library alone.
+pub fn raw_image(alloc: Global) -> Option<Image> {
+    match load_texts(alloc, Which::Raw, &[])? {
         Ok(image) => Some(image),
         Err(_) => None,
     }

@@ -4,9 +4,12 @@ use Rattle.std.specs.Prelude.{bytes_eq, codes}
 use Rattle.std.specs.List.{list_any, list_all, AllByRecursion}
 use Rattle.std.proofs.lemmas.Bool.{ltb-false, le-leb}
 use Rattle.std.proofs.lemmas.Bool.Decides.{nat_tests}
+use Rattle.std.specs.Prelude.{Option, Some, None, is_some}
+use Rattle.dj_names.specs.declared.descriptor.Ty.{Ty}
+use Rattle.dj_names.specs.DescReading.{field_read}
 use Rattle.dj_names.specs.NameReading.{is_stop, reads_class_name}
 use Rattle.dj_names.specs.ModifiedUtf8.{unit_text, units_text}
-use Rattle.dj_names.specs.Tests.{name_byte_test, no_angle_test, unqualified_name_test, method_name_test, class_name_test, modified_utf8_test}
+use Rattle.dj_names.specs.Tests.{array_test, field_descriptor_test, array_descriptor_test, name_byte_test, no_angle_test, unqualified_name_test, method_name_test, class_name_test, modified_utf8_test}
 use Rattle.dj_names.proofs.TestLaws.{modified_utf8_test-decides}
 use Rattle.dj_pool.specs.Scan.{is_stop_byte, is_angle, is_foreign, has_method_angles, has_foreign}
 
@@ -28,6 +31,16 @@ any_more p (b ∷ text) (suc i) lt = more p b text i (any_more p text i (omega (
     more p b text i h =
         let n : suc i + 1 ≡ suc (i + 1) = omega arith in
         ap (λ (k : ℕ). list_any p (take k (b ∷ text))) n ∙ ap (λ (t : Bool). p b || t) h ∙ or_assoc (p b) (list_any p (take i text)) (p (get_or text i 0))
+
+-- ---- descriptors
+
+pub array_is_field : (text : List ℕ) → field_descriptor_test text ≡ false → false ≡ array_descriptor_test text
+unfolding field_descriptor_test array_descriptor_test
+array_is_field text none = at (field_read text) none
+  where
+    at : (ty : Option Ty) → is_some ty ≡ false → false ≡ array_test ty
+    at None e = refl
+    at (Some ty) e = absurd cc
 
 -- ---- names
 

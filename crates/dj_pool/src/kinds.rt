@@ -1,4 +1,5 @@
 ghost use Rattle.std.specs.Prelude.{◌≡◌, [], map, IfOk};
+ghost use Rattle.dj_names.specs.Tests.{field_descriptor_test, array_descriptor_test};
 ghost use Rattle.dj_pool.specs.Pool.{Utf8, Hole};
 ghost use Rattle.dj_pool.specs.Views.{constant_of};
 ghost use Rattle.dj_pool.specs.Tests.{kinds_of};
@@ -42,6 +43,19 @@ fn no_bytes() -> TextKinds
     }
 }
 
+// Whether the text is the descriptor of an array, which is a field's descriptor too.
+#[tactic(auto, using(crate::proofs::Scanned::array_is_field))]
+fn is_array(text: &[u8], field_descriptor: bool) -> bool
+    requires { field_descriptor ≡ field_descriptor_test text.now }
+    ensures { result ≡ array_descriptor_test text.now }
+{
+    if field_descriptor {
+        is_array_descriptor(text)
+    } else {
+        false
+    }
+}
+
 #[tactic(auto, using(std::proofs::lemmas::List::nil_from_length))]
 fn kinds_of_text(text: &[u8]) -> TextKinds
     ensures { result ≡ kinds_of (Utf8 text.now) }
@@ -50,13 +64,14 @@ fn kinds_of_text(text: &[u8]) -> TextKinds
         return no_bytes();
     }
     let names = names_of(text);
+    let field_descriptor = is_field_descriptor(text);
     TextKinds {
         text: true,
         class_name: names.class_name,
-        array_descriptor: is_array_descriptor(text),
+        array_descriptor: is_array(text, field_descriptor),
         unqualified_name: names.unqualified_name,
         method_name: names.method_name,
-        field_descriptor: is_field_descriptor(text),
+        field_descriptor,
         method_descriptor: is_method_descriptor(text),
     }
 }

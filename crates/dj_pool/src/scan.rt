@@ -1,4 +1,4 @@
-ghost use Rattle.std.specs.Prelude.{◌≡◌};
+ghost use Rattle.std.specs.Prelude.{◌≡◌, false, nat_eq, IsTrue};
 ghost use Rattle.dj_names.specs.Tests.{class_name_test, unqualified_name_test, method_name_test, modified_utf8_test};
 ghost use Rattle.dj_pool.specs.Scan.{is_stop_byte, is_angle, is_foreign, is_special, has_method_angles, marks_of, has_foreign};
 
@@ -17,16 +17,23 @@ pub struct Marks {
 fn is_stop_byte(byte: u8) -> bool
     ensures { result ≡ is_stop_byte byte }
 {
-    byte == b'.' || byte == b';' || byte == b'['
+    (byte == b'.') | (byte == b';') | (byte == b'[')
 }
 
 fn is_angle(byte: u8) -> bool
     ensures { result ≡ is_angle byte }
 {
-    byte == b'<' || byte == b'>'
+    (byte == b'<') | (byte == b'>')
 }
 
-// One pass that never stops early, so that it may take many bytes at once.
+// Most letters stand after all bytes that are looked for.
+fn is_plain(byte: u8) -> bool
+    ensures { IsTrue result → (is_stop_byte byte ≡ false) × (nat_eq byte 47 ≡ false) × (is_angle byte ≡ false) }
+{
+    b'[' < byte
+}
+
+// One pass.
 fn marks_of(text: &[u8]) -> Marks
     ensures { result ≡ marks_of text.now }
 {
@@ -34,9 +41,11 @@ fn marks_of(text: &[u8]) -> Marks
     let mut slash = false;
     let mut angle = false;
     for byte in text {
-        stop = stop || is_stop_byte(*byte);
-        slash = slash || *byte == b'/';
-        angle = angle || is_angle(*byte);
+        if !is_plain(*byte) {
+            stop = stop | is_stop_byte(*byte);
+            slash = slash | (*byte == b'/');
+            angle = angle | is_angle(*byte);
+        }
     }
     Marks { stop, slash, angle }
 }
@@ -110,7 +119,7 @@ pub(crate) fn names_of(text: &[u8]) -> NameKinds
 fn is_foreign(byte: u8) -> bool
     ensures { result ≡ is_foreign byte }
 {
-    byte == 0 || 127 < byte
+    (byte == 0) | (127 < byte)
 }
 
 // One pass that never stops early.
@@ -119,7 +128,7 @@ fn has_foreign(text: &[u8]) -> bool
 {
     let mut foreign = false;
     for byte in text {
-        foreign = foreign || is_foreign(*byte);
+        foreign = foreign | is_foreign(*byte);
     }
     foreign
 }

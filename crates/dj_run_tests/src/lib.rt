@@ -2,6 +2,8 @@
 #![tactic(auto)]
 
 #[cfg(test)]
+mod judging;
+#[cfg(test)]
 mod sandbox;
 #[cfg(test)]
 mod straight;

@@ -1,5 +1,5 @@
 -- The lines of the rules 17 to 19: the classes of the files and of the library, and when such lines are judged.
-use Rattle.std.proofs.Common.{◌≡◌, ℕ, suc, ◌+◌, ◌<◌, ◌≤◌, ◌^◌, ◌↔◌, List, [], ◌∷◌, ◌++◌, map, take, length, get_or, Contains, Option, Some, Result, Ok, Err, IfOk, OnOk, refl, sym, ap, ◌∙◌, subst, inl, inr, arith}
+use Rattle.std.proofs.Common.{◌≡◌, ℕ, suc, ◌+◌, ◌<◌, ◌≤◌, ◌^◌, ◌↔◌, List, [], ◌∷◌, ◌++◌, map, take, length, get_or, Contains, Some, Result, Ok, Err, IfOk, OnOk, refl, sym, ap, ◌∙◌, subst, inl, inr, arith}
 use Rattle.std.specs.Prelude.{MatchResult, is_ok}
 use Rattle.std.proofs.lemmas.Bool.{cases_lt}
 use Rattle.std.proofs.lemmas.List.{length-append, length-map, take_more, take_all, map-append}
@@ -19,18 +19,23 @@ use Rattle.dj_report.specs.Order.{IsInOrder}
 use Rattle.dj_report.proofs.Adding.{contains_map}
 use Rattle.dj_report.proofs.Sorted.{contains_first, contains_later, contains_none}
 use Rattle.dj_rules.specs.Views.{path_file_view}
-use Rattle.dj_check.specs.Malformed.{IsRefused, IsGood}
+use Rattle.dj_check.specs.Malformed.{IsRefused}
 use Rattle.dj_check.specs.Rules.{IsEarlyLine}
 use Rattle.dj_declared.specs.Files.{declared_class}
 use Rattle.dj_classes.specs.Tables.{IsShared, declared_program}
 use Rattle.dj_linking.specs.Linked.{Linked}
 use Rattle.dj_judge.specs.Lines.{IsLinkedLine}
+use Rattle.dj_loader.specs.declared.error.LoadError.{LoadError}
+use Rattle.dj_loader.specs.declared.error.LoadError.TheVariants as errors
+use Rattle.dj_loader.specs.Numbered.{RefusesCycles}
+use Rattle.dj_loader.proofs.Moved.{in_table, out_of_table, ancestor_moved}
 use Rattle.dj_sandbox.specs.Checked.{AreGoodFiles, HoldsHierarchy, IsLateLine, AreCheckViolations}
 use Rattle.dj_sandbox.specs.declared.late.Links.{Links}
 use Rattle.dj_sandbox.specs.declared.late.Links.TheVariants as links
-use Rattle.dj_sandbox.specs.Late.{HasHierarchyLine, AreReadFiles, IsDeclaredFrom, AreDeclared, HasMalformed, row_class, LinksFiles, with_library, SharesName, IsLinkOf, AreLinksOf, AreLinks}
+use Rattle.dj_sandbox.specs.Late.{HasHierarchyLine, AreReadFiles, IsDeclaredFrom, AreDeclared, HasMalformed, row_class, LinksFiles, with_library, SharesName, HasCycle, GoesRound, IsLinkOf, AreLinksOf, AreLinks}
 use Rattle.dj_sandbox.proofs.GoodFiles.{same_good}
 use Rattle.dj_sandbox.proofs.NoDoubles.{no_name_twice}
+use Rattle.dj_sandbox.proofs.NoCycles.{no_cycle}
 
 -- ---- under errors of another type
 
@@ -130,14 +135,19 @@ pub are_links : (files : List File) (declared : List Class) (told : Links) → A
 are_links files declared (links.Linked linked) are is = links_files files declared linked are is
 are_links files declared links.NotClassFile are is = absurd is
 are_links files declared links.SharedName are is = (declared, are, is)
-are_links files declared links.NoOrder are is = tt
+are_links files declared links.Cycle are is = (declared, are, is)
 
 -- by how those of a table are
 pub are_links_of : (declared : List Class) (table : Program) (told : Links) → table ≡ joined (with_library declared) [] → IsLinkOf table told → AreLinksOf declared told
 are_links_of declared table (links.Linked linked) is of = subst (λ (p : Program). linked ≡ record { program = p; prefix = [] }) is of
 are_links_of declared table links.NotClassFile is of = of
 are_links_of declared table links.SharedName is of = absurd of
-are_links_of declared table links.NoOrder is of = tt
+are_links_of declared table links.Cycle is (name, own) =
+    (name, ancestor_moved table (with_library declared) (out_of_table (with_library declared) table is) (in_table (with_library declared) table is) name own)
+
+-- what the search for cycles tells
+pub cycle_told : (table : Program) (e : LoadError) (name : Name) → RefusesCycles table e → e ≡ errors.Cycle name → HasCycle table
+cycle_told table e name told is = (name, (subst (RefusesCycles table) is told).such)
 
 -- ---- when they are judged
 
@@ -181,19 +191,28 @@ pub shared_breaks : (files : List File) → SharesName files → HoldsHierarchy 
 shared_breaks files (declared, (classes, read, are), (name, shared)) holds =
     no_name_twice files classes name holds (good_files files classes holds read) (subst (λ (cs : List Class). IsShared (with_library cs) name) are shared)
 
+pub cycle_breaks : (files : List File) → GoesRound files → HoldsHierarchy files → ⊥
+cycle_breaks files (declared, (classes, read, are), round) holds =
+    let (name, own) = subst (λ (cs : List Class). HasCycle (with_library cs)) are round in
+    no_cycle files classes holds (good_files files classes holds read) name own
+
 -- where one of the rules 1 to 6 is violated there are no lines of later rules
-pub early_alone : (files : List File) (early lines : List Violation) → AreFound files early → HasHierarchyLine early
+pub early_alone : (files : List File) (early lines : List Violation) → AreFound files early → (HoldsHierarchy files → ⊥)
     → IsInOrder lines → ((v : Violation) → Contains lines v ↔ Contains early v) → AreCheckViolations files lines
-early_alone files early lines are (v, among, small) in_order members = record {
+early_alone files early lines are broken in_order members = record {
   in_order = in_order;
   all = λ w. (
     λ m. inl (of_line files early w are ((members w).0 m)),
     λ any. elim any [
       | inl is ↦ (members w).1 ((are w).1 (inr is))
-      | inr late ↦ (let past = late.hierarchy v (of_line files early v are among) in absurd (omega (arith, small, past)))
+      | inr late ↦ absurd (broken late.hierarchy)
     ],
   );
 }
+
+-- one of the lines tells it
+pub line_breaks : (files : List File) (early : List Violation) → AreFound files early → HasHierarchyLine early → HoldsHierarchy files → ⊥
+line_breaks files early are (v, among, small) holds = (let past = holds v (of_line files early v are among) in absurd (omega (arith, small, past)))
 
 -- the lines of the class files that the bytes are
 late_line : (files : List File) (classes : List ClassFile) → HoldsHierarchy files → AreGoodFiles files classes → (v : Violation) → IsLinkedLine (declared_program deterministic_library classes) files v ↔ IsLateLine files v

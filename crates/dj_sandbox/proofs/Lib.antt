@@ -8,6 +8,7 @@ pub mod SomeLines
 pub mod GoodFiles
 pub mod LibraryDescriptors
 pub mod NoDoubles
+pub mod NoCycles
 pub mod LateLaws
 mod SomeSetLines
 mod SomeLateLines
@@ -16,3 +17,4 @@ pub mod OneJudgement
 pub mod SomeJudgement
 mod Facts
 mod SetFacts
+mod SilenceFacts

@@ -13,7 +13,6 @@ use Rattle.dj_report.specs.declared.report.Violation.{Violation}
 use Rattle.dj_report.specs.Lines.{file_line}
 use Rattle.dj_report.proofs.Sorted.{contains_first, contains_later}
 use Rattle.dj_rules.specs.Violations.{this_name}
-use Rattle.dj_check.specs.Classes.{BeginsWith}
 use Rattle.dj_check.specs.Malformed.{IsGood}
 use Rattle.dj_declared.specs.Files.{declared_class}
 use Rattle.dj_classes.specs.Tables.{name_at, IsShared}
@@ -69,13 +68,13 @@ at_either (x ∷ xs) ys (suc place) name at = elim (at_either xs ys place name a
 
 -- ---- names of the library
 
-abbrev is_of_java : Name → Bool
+abbrev pub is_of_java : Name → Bool
 is_of_java name = starts_with nat_eq name (codes "java/")
 
-abbrev library_classes : List Class
+abbrev pub library_classes : List Class
 library_classes = map library_class deterministic_library
 
-library_reserved : list_all (λ (c : Class). is_of_java c.name) library_classes ≡ true
+pub library_reserved : list_all (λ (c : Class). is_of_java c.name) library_classes ≡ true
 library_reserved = refl
 
 library_differs : all_differ library_classes ≡ true
@@ -128,13 +127,16 @@ named_twice files i k name holds lt one two =
     absurd (omega (arith, past))
 
 -- rule 4
+pub reserved_breaks : (files : List File) (file : File) (class : ClassFile) → HoldsHierarchy files → Contains files file → IsGood file.1 class → is_of_java (this_name class) ≡ true → ⊥
+reserved_breaks files file class holds among good reserved =
+    let line : Violation = file_line file.0 4 in
+    let past : 6 < 4 = holds line (inl (file, among, inr (class, good, inr (inl (inl (inr (inl reserved), refl)))))) in
+    absurd (omega (arith, past))
+
 named_reserved : (files : List File) (place k : ℕ) (name : Name) → HoldsHierarchy files → IsNamedAt files place name → name_at library_classes k ≡ Some name → ⊥
 named_reserved files place k name holds at own =
     let begins : is_of_java name ≡ true = all_named is_of_java library_classes k name library_reserved own in
-    let reserved : BeginsWith (this_name at.class) (codes "java/") = subst (λ (n : Name). is_of_java n ≡ true) (sym at.named) begins in
-    let line : Violation = file_line at.file.0 4 in
-    let past : 6 < 4 = holds line (inl (at.file, at.among, inr (at.class, at.good, inr (inl (inl (inr (inl reserved), refl)))))) in
-    absurd (omega (arith, past))
+    reserved_breaks files at.file at.class holds at.among at.good (subst (λ (n : Name). is_of_java n ≡ true) (sym at.named) begins)
 
 -- ---- names of all classes
 

@@ -12,9 +12,9 @@ use Rattle.dj_report.specs.declared.report.Violation.{Violation}
 use Rattle.dj_declared.specs.Files.{declared_class}
 use Rattle.dj_classes.specs.Tables.{IsShared, declared_program}
 use Rattle.dj_linking.specs.Linked.{Linked}
+use Rattle.dj_loader.specs.Loads.{IsOwnAncestor}
 use Rattle.dj_sandbox.specs.declared.late.Links.{Links}
 use Rattle.dj_sandbox.specs.declared.late.Links.TheVariants as links
-use Rattle.dj_sandbox.specs.Checked.{HoldsHierarchy, AreCheckViolations}
 
 -- one of the lines is of the rules 1 to 6
 abbrev pub HasHierarchyLine : List Violation → Type 0
@@ -60,28 +60,31 @@ with_library declared = declared ++ map library_class deterministic_library
 abbrev pub SharesName : List File → Type 0
 SharesName files = (declared : List Class) × AreDeclared files declared × ((name : Name) × IsShared (with_library declared) name)
 
+-- one of the classes is its own ancestor, by superclasses and listed interfaces together
+abbrev pub HasCycle : List Class → Type 0
+HasCycle classes = (name : Name) × IsOwnAncestor classes name
+
+-- one of those of the files and of the library is
+abbrev pub GoesRound : List File → Type 0
+GoesRound files = (declared : List Class) × AreDeclared files declared × HasCycle (with_library declared)
+
 -- how classes in order are linked
 abbrev pub IsLinkOf : List Class → Links → Type 0
 IsLinkOf table (links.Linked linked) = linked ≡ record { program = table; prefix = [] }
 IsLinkOf table links.NotClassFile = ⊥
 IsLinkOf table links.SharedName = ⊥
-IsLinkOf table links.NoOrder = ⊤
+IsLinkOf table links.Cycle = HasCycle table
 
 -- how these classes are linked
 abbrev pub AreLinksOf : List Class → Links → Type 0
 AreLinksOf declared (links.Linked linked) = linked ≡ record { program = joined (with_library declared) []; prefix = [] }
 AreLinksOf declared links.NotClassFile = ⊥
 AreLinksOf declared links.SharedName = (name : Name) × IsShared (with_library declared) name
-AreLinksOf declared links.NoOrder = ⊤
+AreLinksOf declared links.Cycle = HasCycle (with_library declared)
 
 -- how those of the files are
 abbrev pub AreLinks : List File → Links → Type 0
 AreLinks files (links.Linked linked) = LinksFiles files linked
 AreLinks files links.NotClassFile = HasMalformed files
 AreLinks files links.SharedName = SharesName files
-AreLinks files links.NoOrder = ⊤
-
--- the violations, where one of the rules 1 to 6 is violated; or none of them is
-abbrev pub AreEarlyAlone : List File → Option (List Violation) → Type 0
-AreEarlyAlone files None = HoldsHierarchy files
-AreEarlyAlone files (Some violations) = AreCheckViolations files violations
+AreLinks files links.Cycle = GoesRound files

@@ -4,7 +4,7 @@ ghost use Rattle.dj_report.specs.Text.{report_status};
 ghost use Rattle.dj_rules.specs.Views.{path_file_view};
 ghost use Rattle.dj_sandbox.specs.Checked.{HoldsHierarchy, AreCheckViolations};
 ghost use Rattle.dj_sandbox.specs.Judging.{check_stages};
-ghost use Rattle.dj_sandbox.specs.Late.{AreEarlyAlone, HasHierarchyLine, LinksFiles};
+ghost use Rattle.dj_sandbox.specs.Late.{HasHierarchyLine, LinksFiles};
 ghost use Rattle.dj_sandbox.specs.Limits.{most_files};
 ghost use Rattle.dj_sandbox.specs.Statuses.{IsAmong, check_statuses};
 
@@ -32,28 +32,14 @@ fn breaks_hierarchy(lines: &[Violation]) -> bool
     false
 }
 
-// The violations of files that are not linked, where one of the rules 1 to 6 is violated.
-fn early_violations(alloc: Global, files: &[PathFile<'_>]) -> Result<Option<Violations>, RulesError>
-    requires { All (λ file. length file.bytes.now < 2 ^ 32) files.now }
-    ensures { IfOk result (AreEarlyAlone (map path_file_view files.now)) }
-{
-    let JudgedFiles { early, late: _ } = judge_files(alloc, files, None)?;
-    if breaks_hierarchy(&early) {
-        return Ok(Some(in_order(early)));
-    }
-    Ok(None)
-}
-
-// The violations of files of which one of the rules 1 to 6 is violated.
+// The violations of files of which one of the rules 1 to 6 is violated: none is of a later rule.
 fn broken_violations(alloc: Global, files: &[PathFile<'_>]) -> Result<Violations, RulesError>
     requires short { All (λ file. length file.bytes.now < 2 ^ 32) files.now }
     requires broken { HoldsHierarchy (map path_file_view files.now) → ⊥ }
     ensures { IfOk result (AreCheckViolations (map path_file_view files.now)) }
 {
-    match early_violations(alloc, files)? {
-        Some(violations) => Ok(violations),
-        None => unreachable!(),
-    }
+    let JudgedFiles { early, late: _ } = judge_files(alloc, files, None)?;
+    Ok(in_order(early))
 }
 
 // The violations of files that are linked.
@@ -85,7 +71,7 @@ fn check_violations(alloc: Global, files: &[PathFile<'_>]) -> Result<Violations,
         Links::Linked(linker) => linked_violations(alloc, files, &linker),
         Links::NotClassFile => broken_violations(alloc, files),
         Links::SharedName => broken_violations(alloc, files),
-        Links::NoOrder => early_violations(alloc, files)?.ok_or(RulesError::Memory),
+        Links::Cycle => broken_violations(alloc, files),
     }
 }
 

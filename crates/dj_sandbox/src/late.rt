@@ -7,6 +7,7 @@ ghost use Rattle.dj_class.specs.Views.{class_of};
 ghost use Rattle.dj_model.specs.Libraries.{library_class};
 ghost use Rattle.dj_rules.specs.Views.{path_file_view};
 ghost use Rattle.dj_declared.specs.Files.{declared_class};
+ghost use Rattle.dj_classes.specs.Rows.{RiseStrictly};
 ghost use Rattle.dj_sandbox.specs.Late.{IsDeclaredFrom, AreDeclaredOrNot, IsLinkOf, AreLinksOf, AreLinks, row_class};
 ghost use Rattle.dj_sandbox.specs.Limits.{most_files};
 
@@ -14,6 +15,7 @@ use dj_class::ClassView;
 use dj_declared::{DeclaredClass, declare_file, declare_library_class};
 use dj_library::deterministic;
 use dj_linking::{BaseNames, ClassTable, Linker, TableError};
+use dj_loader::{LoadError, refuse_cycles};
 use dj_natives::LibClass;
 use dj_report::PathFile;
 use dj_rules::{FileView, RulesError, view_file};
@@ -99,58 +101,29 @@ pub enum Links {
     NotClassFile,
     /// Two classes have one name.
     SharedName,
-    /// There was no memory, or superclasses go round, or there is no order in which each interface comes after those above it.
-    NoOrder,
+    /// A class is its own ancestor, by superclasses and listed interfaces together.
+    Cycle,
 }
 
-// No chain of superclasses is longer.
-const LONGEST: u64 = 1 << 32;
-
-// Walks up from a class to one that was walked through before, and answers whether it was in this walk. A class keeps the number of its walk.
-fn meets_itself(table: &ClassTable, walks: &mut [u32], class: u32, walk: u32) -> bool {
-    let mut next = Some(class);
-    for _step in 0..LONGEST {
-        let Some(at) = next else {
-            return false;
-        };
-        if at >= table.class_count() {
-            return false;
-        }
-        let Some(seen) = walks.get_mut(at as usize) else {
-            return false;
-        };
-        if *seen != 0 {
-            return *seen == walk;
-        }
-        *seen = walk;
-        next = table.super_of(at);
-    }
-    false
-}
-
-// Whether superclasses go round. No look-up is to walk among such; each class is walked through once here.
-fn goes_round(table: &ClassTable, walks: &mut [u32]) -> bool {
-    for class in 0..table.class_count() {
-        if meets_itself(table, walks, class, class.saturating_add(1)) {
-            return true;
-        }
-    }
-    false
-}
-
-// Links classes that are in order.
-fn link_table(alloc: Global, table: ClassTable) -> Links
-    ensures { IsLinkOf table result }
+// Links classes that are in order, none of which is its own ancestor.
+fn link_acyclic(alloc: Global, table: ClassTable) -> Result<Links, RulesError>
+    ensures { IfOk result (IsLinkOf table) }
 {
-    let Ok(mut walks) = vec![in alloc; 0; table.class_count() as usize] else {
-        return Links::NoOrder;
-    };
-    if goes_round(&table, &mut walks) {
-        return Links::NoOrder;
-    }
     match Linker::of(alloc, table, BaseNames::Plain) {
-        Ok(linker) => Links::Linked(linker),
-        Err(_) => Links::NoOrder,
+        Ok(linker) => Ok(Links::Linked(linker)),
+        Err(_) => Err(RulesError::Memory),
+    }
+}
+
+// Links classes that are in order, unless one is its own ancestor: no look-up is to walk upward from such.
+fn link_table(alloc: Global, table: ClassTable) -> Result<Links, RulesError>
+    requires { RiseStrictly table }
+    ensures { IfOk result (IsLinkOf table) }
+{
+    match refuse_cycles(alloc, &table) {
+        Ok(()) => link_acyclic(alloc, table),
+        Err(LoadError::Cycle(_)) => Ok(Links::Cycle),
+        Err(_) => Err(RulesError::Memory),
     }
 }
 
@@ -162,7 +135,7 @@ fn link_classes(alloc: Global, declared: Vec<DeclaredClass>) -> Result<Links, Ru
     let mut all = declared;
     add_library(alloc, &mut all)?;
     match ClassTable::of(alloc, all) {
-        Ok(table) => Ok(link_table(alloc, table)),
+        Ok(table) => link_table(alloc, table),
         Err(TableError::Duplicate(_)) => Ok(Links::SharedName),
         Err(TableError::Memory) => Err(RulesError::Memory),
     }

@@ -1,14 +1,16 @@
 -- Kinds by plain values: what is kept of pools, and what instructions do with it.
-use Rattle.std.proofs.Common.{◌≡◌, ℕ, List, [], ◌∷◌, ◌++◌, map, replicate, Option, Some, None, codes, pos, refl}
+use Rattle.std.proofs.Common.{◌≡◌, ℕ, List, [], ◌∷◌, ◌++◌, map, length, replicate, Option, Some, None, codes, pos, refl, ap, arith}
 use Rattle.std.specs.Option.{option_map}
+use Rattle.std.proofs.lemmas.Option.{same_Some}
 use Rattle.dj_names.specs.declared.descriptor.Kind.{Kind}
 use Rattle.dj_names.specs.declared.descriptor.Kind.TheVariants.{Int, Long, Ref}
 use Rattle.dj_names.specs.DescReading.{dims_read, name_read, class_read, of_read, type_read, params_read, field_read, return_read, method_read, desc_read}
 use Rattle.dj_names.specs.NameReading.{reads_class_name}
+use Rattle.dj_ops.specs.declared.frames.Form.TheVariants as forms
 use Rattle.dj_ops.specs.declared.instruction.Instr.{Instr}
 use Rattle.dj_ops.specs.declared.instruction.Instr.TheVariants as instrs
 use Rattle.dj_pool.specs.Pool.{Constant, Utf8, Integer, Float, Long as LongConstant, Double, Class, Text, Field, Method, InterfaceMethod, NameAndType, Hole}
-use Rattle.dj_model.specs.Kinds.{Signature, Kinds}
+use Rattle.dj_model.specs.Kinds.{Signature, Kinds, Entries, Placed, Map, Read, form_entries, frames_after}
 use Rattle.dj_model.specs.Opcodes.{instruction_of, simple}
 use Rattle.dj_model.specs.Program.{Code}
 use Rattle.dj_model.specs.Shape.{after}
@@ -86,3 +88,45 @@ constants_and_members : of_pool [] (instrs.Literal 18 11) ∷ of_pool [] (instrs
     ∷ Some (Ref ∷ []) ∷ Some (Ref ∷ []) ∷ Some (Ref ∷ []) ∷ Some (Int ∷ []) ∷ None ∷ []
 unfolding after instruction_of named_by desc_in dims_read name_read class_read of_read type_read params_read field_read return_read method_read desc_read reads_class_name
 constants_and_members = refl
+
+-- ---- frames
+
+abbrev ref_and_long : List (Option Kind)
+ref_and_long = Some Ref ∷ Some Long ∷ []
+
+abbrev locals_told : Entries → List (Option Kind)
+locals_told e = e.locals
+
+-- the local variables that a frame tells which cuts so many of them
+abbrev chopped : List (Option Kind) → ℕ → Option (List (Option Kind))
+chopped before n = option_map locals_told (form_entries (room_for 4) before (forms.Chop n))
+
+-- a long is cut as one, though it takes two slots; and no more are cut than there are
+chop : map (chopped ref_and_long) (1 ∷ 2 ∷ 3 ∷ []) ++ map (chopped (Some Long ∷ Some Int ∷ Some Long ∷ [])) (1 ∷ 2 ∷ 3 ∷ [])
+    ≡ Some (Some Ref ∷ []) ∷ Some [] ∷ None ∷ Some (Some Long ∷ Some Int ∷ []) ∷ Some (Some Long ∷ []) ∷ Some [] ∷ []
+chop = refl
+
+long_cut_as_two : chopped ref_and_long 1 ≡ Some [] → ⊥
+long_cut_as_two e = let same : Some Ref ∷ [] ≡ [] = same_Some (Some Ref ∷ []) [] e in absurd cc
+
+long_not_cut : chopped ref_and_long 1 ≡ Some ref_and_long → ⊥
+long_not_cut e = let same : 1 ≡ 2 = ap length (same_Some (Some Ref ∷ []) ref_and_long e) in omega (arith, same)
+
+abbrev placed_in : Map → List Placed
+placed_in (Read frames) = frames
+placed_in other = []
+
+abbrev locals_placed : Placed → List (Option Kind)
+locals_placed frame = frame.kinds.locals
+
+-- and so in slots: the reference alone is left, and the local variables after it are without values
+chop_in_slots : map locals_placed (placed_in (frames_after (room_for 4) ref_and_long (record { at = 3; form = forms.Chop 1 } ∷ [])))
+    ≡ (Some Ref ∷ None ∷ None ∷ None ∷ []) ∷ []
+unfolding frames_after
+chop_in_slots = refl
+
+-- after it another frame counts from what is left
+chop_then_chop : map locals_placed (placed_in (frames_after (room_for 4) ref_and_long (record { at = 3; form = forms.Chop 1 } ∷ record { at = 4; form = forms.Chop 1 } ∷ [])))
+    ≡ (Some Ref ∷ None ∷ None ∷ None ∷ []) ∷ (None ∷ None ∷ None ∷ None ∷ []) ∷ []
+unfolding frames_after
+chop_then_chop = refl

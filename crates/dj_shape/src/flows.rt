@@ -61,6 +61,9 @@ pub fn flows(state: &KindState, told: &Telling<'_>) -> bool
 pub fn flows_to(state: &KindState, frames: &Frames, number: u64) -> bool
     ensures { Decides result (FlowsTo state.now.kinds (told_at frames.now number)) }
 {
+    if !frames.may_tell(number) {
+        return true;
+    }
     match frames.at(number) {
         None => true,
         Some(told) => flows(state, &told),

@@ -71,7 +71,7 @@ fn mark(marked: &mut [bool], number: u64)
 }
 
 impl Frames {
-    ghost use Rattle.std.specs.Prelude.{◌≡◌, ℕ, ◌∷◌, ◌++◌, [], None, Some, IfOk, MatchOption};
+    ghost use Rattle.std.specs.Prelude.{◌≡◌, ℕ, false, ◌∷◌, ◌++◌, [], None, Some, IfOk, MatchOption};
     ghost use Rattle.dj_shape.specs.Arena.{IsAt, IsIn, slots_at};
     ghost use Rattle.dj_shape.specs.Told.{Grows, IsKept, told_at, told_by, told_in};
 
@@ -86,11 +86,18 @@ impl Frames {
         })
     }
 
+    /// Whether there may be a frame at the instruction of this number. Most have none.
+    pub fn may_tell(&self, number: u64) -> bool
+        ensures { result ≡ false → told_at self.now number ≡ None }
+    {
+        is_marked(&self.marked, number)
+    }
+
     /// What the frame at the instruction of this number tells, if there is one.
     pub fn at(&self, number: u64) -> Option<Telling<'_>>
         ensures { MatchOption result (told_at self.now number ≡ None) (λ telling. told_at self.now number ≡ Some (told_by telling)) }
     {
-        if is_marked(&self.marked, number) {
+        if self.may_tell(number) {
             self.look_up(number)
         } else {
             None

@@ -65,6 +65,9 @@ impl Pass {
         ensures same { self.new.handlers ≡ self.old.handlers }
         ensures met { IfOk result (λ stands. MeetsFrame stands (told_at method.now.frames number) number self.old self.new) }
     {
+        if !method.frames.may_tell(u64::from(number)) {
+            return Ok(self.going);
+        }
         let Some(told) = method.frames.at(u64::from(number)) else {
             return Ok(self.going);
         };

@@ -18,7 +18,7 @@ use Rattle.dj_declared.specs.Files.{desc_in}
 use Rattle.dj_classes.specs.Tables.{name_at}
 use Rattle.dj_types.specs.declared.types.MemberOf.{MemberOf}
 use Rattle.dj_types.specs.Typed.{Typed, texts_of, place_of_text, text_number, text_of_type, type_number, type_at, flags_at, super_at, interfaces_at, has_references, component_at, is_subtype_at, string_at, chars_at, stop_at, is_array_of, AreArrays}
-use Rattle.dj_types.specs.Members.{all_methods, all_fields, methods_before, fields_before, resolved_method, resolved_field, selected, method_number, IsFieldCount, IsNthMethod, IsNthField, IsMethodThere, IsFieldThere}
+use Rattle.dj_types.specs.Members.{all_methods, all_fields, methods_before, fields_before, field_count_at, resolved_method, resolved_field, selected, method_number, IsNthMethod, IsNthField, IsMethodThere, IsFieldThere}
 
 -- ---- a program
 
@@ -328,18 +328,10 @@ not_named_otherwise told is name =
 
 -- ---- fields of objects
 
--- with those of the superclass, and without static ones
-field_counts : IsFieldCount typed 0 1 × IsFieldCount typed 1 2 × IsFieldCount typed 3 0
+-- with those of the superclass, and without static ones; arrays have none, whatever their elements are
+field_counts : map (field_count_at typed) (0 ∷ 1 ∷ 2 ∷ 3 ∷ 4 ∷ 8 ∷ 11 ∷ []) ≡ 1 ∷ 2 ∷ 0 ∷ 0 ∷ 0 ∷ 0 ∷ 0 ∷ []
 unfolding most_classes chain_of field_count
-field_counts = (refl, refl, refl)
-
-not_without_inherited : IsFieldCount typed 1 1 → ⊥
-unfolding most_classes chain_of field_count
-not_without_inherited told = other_number 1 2 refl told
-
-none_without_class : IsFieldCount typed 6 0 → ⊥
-unfolding most_classes chain_of field_count
-none_without_class told = none-some 0 (sym told)
+field_counts = refl
 
 -- ---- resolution and selection
 

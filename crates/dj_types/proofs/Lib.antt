@@ -9,3 +9,4 @@ pub mod Homes
 pub mod Sums
 pub mod FieldSums
 mod Facts
+mod CountFacts

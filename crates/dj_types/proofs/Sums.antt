@@ -1,13 +1,15 @@
 -- Instance fields of classes, by names and by numbers.
-use Rattle.std.proofs.Common.{◌≡◌, ℕ, ◌+◌, ◌-◌, ◌<◌, ◌≤◌, Bool, true, false, not, cond, List, [], ◌∷◌, length, get_or, Option, Some, IfSome, refl, sym, ap, ◌∙◌, subst, arith}
+use Rattle.std.proofs.Common.{◌≡◌, ℕ, ◌+◌, ◌-◌, ◌<◌, ◌≤◌, Bool, true, false, not, cond, List, [], ◌∷◌, length, get_or, Option, Some, IfSome, inl, inr, refl, sym, ap, ◌∙◌, subst, arith}
 use Rattle.std.specs.Prelude.{slice_get, unwrap_or}
 use Rattle.std.specs.Option.{option_map}
-use Rattle.std.proofs.lemmas.List.{get_or_read}
+use Rattle.std.proofs.lemmas.Bool.{cases_lt}
+use Rattle.std.proofs.lemmas.List.{get_or_read, get_or_past}
+use Rattle.std.proofs.lemmas.Option.{slice_get_past}
 use Rattle.dj_names.specs.declared.descriptor.Desc.{Desc}
 use Rattle.dj_names.specs.Types.{Name}
 use Rattle.dj_model.specs.Program.{Program, Class, Field, class_at, fields_of, is_named, is_static}
 use Rattle.dj_model.specs.Linking.{FoundField, chain, superclasses, count_fields, fields_before, own_field_count, fields_in, field_count, own_place, place_of}
-use Rattle.dj_classes.specs.Tables.{class_numbers, name_at, super_number, fields_at, field_there}
+use Rattle.dj_classes.specs.Tables.{class_numbers, name_of, name_at, super_number, fields_at, field_there}
 use Rattle.dj_classes.specs.declared.place.Place.{Place}
 use Rattle.dj_classes.proofs.Numbered.{class_at-at}
 use Rattle.dj_linking.specs.Linked.{class_name}
@@ -34,14 +36,20 @@ count_by_name : (program : Program) (class : ℕ) → DoNamesDiffer program → 
 unfolding field_count
 count_by_name program class differ lt = fields_in_numbers program (chain program (class_name program class)) ∙ ap (fields_of_numbers program) (numbers_of_class program class differ lt)
 
-pub field_count_told : (program : Program) (sums : List ℕ) (class count : ℕ) → AreSums program sums → DoNamesDiffer program → class < length program → count ≡ get_or sums class count
-    → Some count ≡ option_map (field_count program) (name_at program class)
-field_count_told program sums class count are differ lt read =
-    let class_is : (c : Class) × (slice_get program class ≡ Some c) = some_there program class lt in
-    let named : name_at program class ≡ Some class_is.0.name = rw class_is.1 refl in
-    let long = are.long in
-    ap Some (get_or_read sums class count (omega (arith, long, lt)) read 0 ∙ are.each class lt ∙ sym (count_by_name program class differ lt)
-    ∙ ap (λ (o : Option Name). field_count program (unwrap_or o [])) named) ∙ ap (option_map (field_count program)) (sym named)
+-- an array has none
+abbrev count_of_name : Program → Option Name → ℕ
+count_of_name program name = unwrap_or (option_map (field_count program) name) 0
+
+pub field_count_told : (program : Program) (sums : List ℕ) (class : ℕ) → AreSums program sums → DoNamesDiffer program → get_or sums class 0 ≡ count_of_name program (name_at program class)
+field_count_told program sums class are differ = elim (cases_lt class (length program)) [
+  | inl lt ↦
+      let class_is : (c : Class) × (slice_get program class ≡ Some c) = some_there program class lt in
+      let named : name_at program class ≡ Some class_is.0.name = rw class_is.1 refl in
+      are.each class lt ∙ sym (count_by_name program class differ lt) ∙ ap (λ (o : Option Name). field_count program (unwrap_or o [])) named ∙ sym (ap (count_of_name program) named)
+  | inr past ↦
+      let long = are.long in
+      get_or_past sums class 0 (omega (arith, long, past)) ∙ sym (ap (λ (o : Option Class). count_of_name program (option_map name_of o)) (slice_get_past program class past))
+]
 
 -- ---- the place of a field
 

@@ -1,5 +1,5 @@
 -- Fields and methods by numbers: their places in the order of classes and of the members that each declares.
-use Rattle.std.specs.Prelude.{◌≡◌, ℕ, suc, ◌+◌, ◌<◌, ◌&&◌, List, [], ◌∷◌, map, take, length, Option, Some, None, nat_lt, if◌then◌else◌, slice_get, option_and_then}
+use Rattle.std.specs.Prelude.{◌≡◌, ℕ, suc, ◌+◌, ◌<◌, ◌&&◌, List, [], ◌∷◌, map, take, length, Option, Some, None, nat_lt, if◌then◌else◌, slice_get, option_and_then, unwrap_or}
 use Rattle.std.specs.Option.{option_map}
 use Rattle.std.specs.List.{flat_map}
 use Rattle.dj_names.specs.Types.{Name, same_name}
@@ -63,9 +63,9 @@ found_method_number program found = option_and_then (method_number (all_methods 
 abbrev pub found_field_number : Program → Option FoundField → Option ℕ
 found_field_number program found = option_and_then (field_number (all_fields program)) found
 
--- the instance fields of a class, inherited ones included
-abbrev pub IsFieldCount : Typed → ℕ → ℕ → Type 0
-IsFieldCount typed class count = Some count ≡ option_map (field_count typed.program) (name_at typed.program class)
+-- how many instance fields a class has, inherited ones included; an array has none
+abbrev pub field_count_at : Typed → ℕ → ℕ
+field_count_at typed class = unwrap_or (option_map (field_count typed.program) (name_at typed.program class)) 0
 
 abbrev pub number_of_method : MethodId → ℕ
 number_of_method id = id.number

@@ -1,4 +1,4 @@
-ghost use Rattle.std.specs.Prelude.{◌≡◌, ◌+◌, ◌^◌, ◌<◌, ◌↔◌, length, IfOk, IsTrue};
+ghost use Rattle.std.specs.Prelude.{◌≡◌, ◌+◌, ◌^◌, ◌<◌, ◌↔◌, length, get_or, IfOk, IsTrue};
 ghost use Rattle.dj_declared.specs.Members.{IsDescriptor};
 ghost use Rattle.dj_types.specs.Members.{all_methods, all_fields, methods_in, fields_in};
 ghost use Rattle.dj_types.specs.Numbered.{counts_of, AreCounted, AreMemberClasses, AreMembers, IsBegun, IsStartOf};
@@ -115,6 +115,16 @@ pub fn place_at(starts: &[u32], classes: &[u32], number: u32) -> Place
     Place {
         class,
         member: number - starts[class as usize],
+    }
+}
+
+/// The count of a class; an array has none.
+pub fn count_at(counts: &[u32], class: u32) -> u32
+    ensures { result ≡ get_or counts.now class 0 }
+{
+    match counts.get(class as usize) {
+        Some(count) => *count,
+        None => 0,
     }
 }
 

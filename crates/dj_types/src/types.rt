@@ -7,11 +7,11 @@ ghost use Rattle.dj_classes.specs.Tables.{class_number, methods_at, fields_at, m
 ghost use Rattle.dj_linking.specs.Linked.{prefix_of};
 ghost use Rattle.dj_types.specs.Typed.{texts_of, types_of, type_at, text_number, flags_at, super_at, interfaces_at, component_at, is_subtype_at, string_at, chars_at, stop_at, ArePlain, AreArrays};
 ghost use Rattle.dj_types.specs.Shapes.{IsElement, shape_type};
-ghost use Rattle.dj_types.specs.Members.{all_methods, all_fields, resolved_method, resolved_field, selected, found_method_number, found_field_number, IsMethodThere, IsFieldThere, IsNthMethod, IsNthField, IsFieldCount, IsMethodPlace, IsFieldPlace, native_at, number_of_method, number_of_field, methods_before, fields_before};
+ghost use Rattle.dj_types.specs.Members.{all_methods, all_fields, field_count_at, resolved_method, resolved_field, selected, found_method_number, found_field_number, IsMethodThere, IsFieldThere, IsNthMethod, IsNthField, IsMethodPlace, IsFieldPlace, native_at, number_of_method, number_of_field, methods_before, fields_before};
 
 use crate::arrays::{Arrays, check_names, number_in};
 use crate::error::TypesError;
-use crate::members::{Members, is_descriptor, place_at};
+use crate::members::{Members, count_at, is_descriptor, place_at};
 use crate::shapes::{Element, Shape, is_subtype};
 use dj_classes::Place;
 use dj_linking::{BaseNames, Linker};
@@ -345,13 +345,13 @@ impl Types {
         }
     }
 
-    /// The number of instance fields of a class, inherited ones included.
+    /// The number of instance fields of a class, inherited ones included; 0 of an array.
     pub fn field_count(&self, class: u32) -> u32
-        requires { class < length self.now.program }
-        ensures { IsFieldCount self.now class result }
+        requires { class < length (types_of self.now) }
+        ensures { result ≡ field_count_at self.now class }
     {
         self.linker.classes().names_differ();
-        self.members.field_sums[class as usize]
+        count_at(&self.members.field_sums, class)
     }
 
     /// The method at a place among those that a class declares, or none past the last.

@@ -1,23 +1,23 @@
-use Rattle.std.proofs.Common.{Some, sym, ap, ◌∙◌, arith}
-use Rattle.std.proofs.lemmas.Option.{slice_get-get_or}
+use Rattle.std.proofs.Common.{◌≡◌, ℕ, length, List, Bool, subst, arith}
+use Rattle.std.proofs.lemmas.Result.{IfOk-weaker}
 use Rattle.dj_class.specs.Views.{class_of}
-use Rattle.dj_check.proofs.Judging.{one_text_more, all_texts, all_numbered}
+use Rattle.dj_check.specs.Judged.{AreOwnTexts}
+use Rattle.dj_check.specs.Prints.{AreDistinct}
+use Rattle.dj_check.proofs.OwnTexts.{own_texts, own_numbered}
 use Rattle.dj_check.proofs.judged.judge_texts.Goals as goal
 
-pub loop-index-preserved : goal.loop-index-preserved
-loop-index-preserved c =
-    one_text_more c.loop-index.indexes c.judge_index.new.indexes c.in_ok-marks.marks.items c.args.view.now.pool c.loop-index.texts.items c.push.new.self.items c.loop-index.index c.index.result.now c.in_ok-text.text c.in_ok-push.ensures.items
-    (slice_get-get_or c.in_ok-marks.marks.items c.loop-index.index c.index.result.now (let lt = c.loop-index-test.true in let end = c.len-index-end.ensures in omega (arith, lt, end)) ∙ ap Some (sym c.index.ensures)) c.in_ok-text.ensures c.loop-index.invariant
-
-pub returns-clause-texts : goal.returns-clause-texts
-returns-clause-texts c =
+pub returns-then-branch-clause-texts : goal.returns-then-branch-clause-texts
+returns-then-branch-clause-texts c =
     let many = c.in_ok-marks.ensures.count in
-    let len = c.len-index-end.ensures in
-    let past = c.loop-index-test.false in
-    all_texts c.loop-index.indexes c.in_ok-marks.marks.items c.args.view.now.pool c.loop-index.texts.items c.loop-index.index (omega (arith, many, len, past)) c.loop-index.invariant
+    let len = c.len.ensures in
+    IfOk-weaker c.judge_own_texts.result _ _ (λ texts own. own_texts c.args.view.now.pool c.len.result texts.items (omega (arith, many, len)) own) c.judge_own_texts.ensures
 
-pub returns-clause-numbered : goal.returns-clause-numbered
-returns-clause-numbered c =
-    let len = c.len-index-end.ensures in
-    let past = c.loop-index-test.false in
-    all_numbered (class_of c.args.view.now) c.loop-index.indexes c.in_ok-marks.marks.items c.loop-index.texts.items c.loop-index.index (omega (arith, len, past)) c.in_ok-marks.ensures c.loop-index.invariant
+pub returns-then-branch-clause-numbered : goal.returns-then-branch-clause-numbered
+returns-then-branch-clause-numbered c =
+    let marks = c.in_ok-marks.marks.items in
+    let pool = c.args.view.now.pool in
+    let len = c.len.ensures in
+    let whole : c.len.result ≡ length marks = omega (arith, len) in
+    let distinct = subst (λ (ms : List Bool). AreDistinct pool ms) c.deref.ensures.value (c.in_ok-are_distinct.ensures c.if-branch.true) in
+    IfOk-weaker c.judge_own_texts.result _ _
+    (λ texts own. own_numbered (class_of c.args.view.now) marks texts.items c.in_ok-marks.ensures distinct (subst (λ (n : ℕ). AreOwnTexts pool n texts.items) whole own)) c.judge_own_texts.ensures

@@ -3,4 +3,4 @@ use Rattle.dj_declared.specs.Rows.{AreNumbered}
 use Rattle.dj_declared.proofs.file.file_texts.Goals as goal
 
 pub returns : goal.returns
-returns c = subst (λ (texts : List (List ℕ)). AreNumbered c.args.pool.now c.in_ok-places.places.items texts) (sym c.shrink.ensures) c.in_ok-places.ensures
+returns c = subst (λ (texts : List (List ℕ)). AreNumbered c.args.view.now.pool c.in_ok-places.places.items texts) (sym c.shrink.ensures) c.in_ok-places.ensures

@@ -1,4 +1,4 @@
-use Rattle.std.proofs.Common.{◌+◌, List, get_or, map, take, sym, subst}
+use Rattle.std.proofs.Common.{◌+◌, List, map, take, sym, subst}
 use Rattle.dj_model.specs.Program.{Class}
 use Rattle.dj_rules.specs.Views.{path_file_view}
 use Rattle.dj_sandbox.specs.Late.{IsDeclaredFrom, AreDeclared}

@@ -1,4 +1,4 @@
-use Rattle.std.proofs.Common.{List, Option, map, subst}
+use Rattle.std.proofs.Common.{Option, map, subst}
 use Rattle.std.specs.Option.{option_map}
 use Rattle.std.specs.Global.{Vec}
 use Rattle.dj_edge.proofs.Lists.{ok_so}

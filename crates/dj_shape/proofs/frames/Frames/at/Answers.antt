@@ -1,9 +1,4 @@
-use Rattle.std.proofs.Common.{◌∙◌, Bool, true, List, get_or, ap, sym}
-use Rattle.dj_shape.proofs.Places.{told_none}
 use Rattle.dj_shape.proofs.frames.Frames.at.Goals as goal
 
-pub returns-else-is_marked : goal.returns-else-is_marked
-returns-else-is_marked c =
-    let frames = c.args.self.now in
-    let look = ap (λ (l : List Bool). get_or l c.args.number true) (sym c.deref.ensures.value) ∙ sym c.is_marked.ensures in
-    told_none frames c.args.number (frames.marks c.args.number (look ∙ c.if-is_marked.false))
+pub returns-else-may_tell : goal.returns-else-may_tell
+returns-else-may_tell c = c.may_tell.ensures c.if-may_tell.false

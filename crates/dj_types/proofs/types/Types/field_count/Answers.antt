@@ -1,4 +1,4 @@
-use Rattle.std.proofs.Common.{ap, subst, ◌∙◌}
+use Rattle.std.proofs.Common.{ℕ, List, get_or, ap, subst, ◌∙◌}
 use Rattle.dj_model.specs.Program.{Program}
 use Rattle.dj_linking.proofs.Resolution.{DoNamesDiffer}
 use Rattle.dj_types.specs.Typed.{Typed}
@@ -11,4 +11,5 @@ returns c =
     let program : Typed → Program = λ t. t.program in
     let members = subst (λ (typed : Typed). AreMembers typed.program c.self.inside.members) c.self.view_is c.self.invariant.members_are in
     let differ = subst DoNamesDiffer (c.classes.ensures ∙ ap program c.self.view_is) c.names_differ.ensures in
-    field_count_told c.args.self.now.program c.self.inside.members.field_sums.items c.args.class c.index.result.now members.sums differ c.requires c.index.ensures
+    c.count_at.ensures ∙ ap (λ (sums : List ℕ). get_or sums c.args.class 0) c.deref.ensures.value
+    ∙ field_count_told c.args.self.now.program c.self.inside.members.field_sums.items c.args.class members.sums differ

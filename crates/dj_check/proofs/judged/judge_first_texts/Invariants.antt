@@ -1,0 +1,6 @@
+use Rattle.dj_check.specs.Judged.{AreFirstTexts}
+use Rattle.dj_check.proofs.judged.judge_first_texts.Given as goal
+
+-- the texts so far
+abbrev pub invariant-loop-index : goal.invariant-loop-index
+invariant-loop-index l = AreFirstTexts l.indexes l.marks l.index l.view.pool l.texts.items

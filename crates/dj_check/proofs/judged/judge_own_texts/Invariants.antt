@@ -1,0 +1,6 @@
+use Rattle.dj_check.specs.Judged.{AreOwnTexts}
+use Rattle.dj_check.proofs.judged.judge_own_texts.Given as goal
+
+-- the texts so far
+abbrev pub invariant-loop-index : goal.invariant-loop-index
+invariant-loop-index l = AreOwnTexts l.pool l.index l.texts.items

@@ -1,0 +1,40 @@
+-- What an instruction on values does to the frames.
+use Rattle.std.specs.Prelude.{◌≡◌, ◌≤◌, ⊤, ℕ, List, length, Option, Some, None}
+use Rattle.dj_names.specs.declared.run.Value.{Value}
+use Rattle.dj_model.specs.Instructions.{Instruction}
+use Rattle.dj_model.specs.State as model
+use Rattle.dj_model.specs.Values.{Values, left, on_values}
+use Rattle.dj_stack.specs.Frames.{StackFrame, SameFrames, top_locals, top_number, top_operands, top_room}
+use Rattle.dj_effects.specs.declared.way.Way.{Way}
+use Rattle.dj_effects.specs.declared.way.Way.TheVariants as ways
+
+abbrev pub way_view : Way → model.Way
+way_view ways.Next = model.Next
+way_view (ways.To number) = model.To number
+way_view (ways.Raise raised) = model.Raise raised
+way_view (ways.Back v) = model.Back v
+
+-- the operands that an effect tells: where something is raised, those before it
+abbrev pub told_operands : List StackFrame → List StackFrame → Way → List Value
+told_operands old new (ways.Raise raised) = top_operands old
+told_operands old new way = top_operands new
+
+-- the effect that the new frames and the answer tell
+abbrev pub told : List StackFrame → List StackFrame → Option Way → Option Values
+told old new None = None
+told old new (Some way) = Some (left (top_locals new) (told_operands old new way) (way_view way))
+
+-- the top frame's locals and operands are as the instruction leaves them, and the answer is how the run goes on; none where the instruction has no effect
+pub record Does (i : Instruction) (old new : List StackFrame) (way : Option Way) : Type 0 where
+  pub effect : on_values i (top_locals old) (top_operands old) ≡ told old new way
+  pub frames : SameFrames old new
+  pub number : top_number new ≡ top_number old
+
+-- ---- what is left has room
+
+abbrev pub FitsIn : ℕ → Option Values → Type 0
+FitsIn room None = ⊤
+FitsIn room (Some v) = length v.operands ≤ room
+
+abbrev pub Fits : Instruction → List StackFrame → Type 0
+Fits i frames = FitsIn (top_room frames) (on_values i (top_locals frames) (top_operands frames))
