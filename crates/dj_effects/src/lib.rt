@@ -21,4 +21,5 @@ pub use locals::{increment, load, nop, push, store};
 pub use moves::move_operands;
 pub use numbers::{compute, convert};
 pub use plain::plain_action;
+pub use top::{is_of_kind, pop};
 pub use way::{Flow, Way};

@@ -1,0 +1,28 @@
+use Rattle.std.proofs.Common.{◌≡◌, ◌∷◌, refl, ap, ◌∙◌}
+use Rattle.dj_names.specs.declared.run.Value.{Value}
+use Rattle.dj_names.specs.declared.run.Value.TheVariants as values
+use Rattle.dj_stack.specs.Frames.{top_operands}
+use Rattle.dj_effects.proofs.Frames.{both_same}
+use Rattle.dj_members.proofs.ObjectFacts.{casts, casts_not}
+use Rattle.dj_members.proofs.objects.check_cast.Goals as goal
+
+pub returns-then-is_instance : goal.returns-then-is_instance
+returns-then-is_instance g c =
+    let all : top_operands c.args.frames.now ≡ values.Ref c.in-Some-Ref.r ∷ top_operands c.pop.new.frames =
+    c.in-Some-Ref.ensures.top ∙ ap (λ (v : Value). v ∷ top_operands c.pop.new.frames) c.in-Some-Ref.field-0-is in
+    record {
+      effect = casts _ c.args.heap.now.heap (top_operands c.args.frames.now) (top_operands c.pop.new.frames) (top_operands c.push_value.new.self) c.in-Some-Ref.r all c.if-is_instance.ensures
+          c.push_value.ensures.operands;
+      limit = refl;
+      frames = both_same _ _ _ c.in-Some-Ref.ensures.rest c.push_value.ensures.rest;
+    }
+
+pub returns-else-is_instance : goal.returns-else-is_instance
+returns-else-is_instance g c =
+    let all : top_operands c.args.frames.now ≡ values.Ref c.in-Some-Ref.r ∷ top_operands c.pop.new.frames =
+    c.in-Some-Ref.ensures.top ∙ ap (λ (v : Value). v ∷ top_operands c.pop.new.frames) c.in-Some-Ref.field-0-is in
+    record {
+      effect = casts_not _ c.args.heap.now.heap (top_operands c.args.frames.now) (top_operands c.pop.new.frames) c.in-Some-Ref.r all c.if-is_instance.ensures;
+      limit = refl;
+      frames = both_same _ _ _ c.in-Some-Ref.ensures.rest c.push_value.ensures.rest;
+    }
