@@ -31,7 +31,7 @@ from link_rule_cases import (
     of_class,
     one,
 )
-from rule_cases import A_CLASS, AN_INTERFACE, FINAL, NULL, POP, RETURN, ZERO, case, method
+from rule_cases import A_CLASS, AN_INTERFACE, FINAL, NULL, POP, RETURN, ZERO, case, found, method
 
 # 18 UNRESOLVED: members that aren't there.
 
@@ -652,3 +652,16 @@ def linked_set():
 
 
 case("17-18-linked", linked_set())
+
+
+# The same where a member's name is long, so that members are found by the numbers of their texts.
+
+
+def with_long_name(files):
+    """The same set, and a class of its own with a method of so long a name."""
+    return files | {"c/zz/Long.class": class_file("zz/Long", declared("m" * 201 + "()V", flags=PUBLIC), flags=A_CLASS | ABSTRACT)}
+
+
+for name, (files, told) in list(found.items()):
+    if name.startswith("rule-18"):
+        found[name + "-numbered"] = (with_long_name(files), told)

@@ -13,7 +13,7 @@ ghost use Rattle.dj_classes.specs.declared.error.TableError.TheVariants.{Duplica
 use crate::error::TableError;
 use crate::numbers::Numbers;
 use crate::rows;
-use dj_declared::DeclaredClass;
+use dj_declared::{DeclaredClass, MemberTexts};
 use dj_names::{Name, NativeId};
 use std::alloc::Global;
 use std::marker::Model;
@@ -225,6 +225,15 @@ impl ClassTable {
         ensures { IfSome (slice_get (methods_at self.now class) member) (λ m. Describes result.now m.desc) }
     {
         self.rows[class as usize].method_desc(member)
+    }
+
+    /// The members of a class, and the texts that name them, each once.
+    pub fn member_texts(&self, class: u32) -> MemberTexts<'_>
+        requires { class < length self.now }
+        ensures methods { result.methods ≡ methods_at self.now class }
+        ensures fields { result.fields ≡ fields_at self.now class }
+    {
+        self.rows[class as usize].member_texts()
     }
 
     /// Whether a method, by its place among those of its class, has code, or a library answers it.

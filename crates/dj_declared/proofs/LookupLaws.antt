@@ -13,6 +13,8 @@ use Rattle.dj_declared.specs.Files.{desc_in}
 use Rattle.dj_declared.specs.Members.{IsDescriptor, method_place, field_place, method_flags, field_flags, has_method_named}
 use Rattle.dj_declared.specs.Texts.{Numbers, number_in, text_in, LeadBack}
 use Rattle.dj_declared.specs.Rows.{row_method, row_field, IsSound, is_row, first_row, place_named}
+use Rattle.dj_declared.specs.Named.{IsNamedBy}
+use Rattle.dj_declared.proofs.TextLaws.{number_within}
 use Rattle.dj_declared.proofs.DescTests.{same_name_is, same_name_itself, same_texts, same_descriptors, descriptor_read}
 
 abbrev later : ℕ → ℕ
@@ -227,3 +229,13 @@ flags_of_method numbers rows place flags e =
 pub flags_of_field : (numbers : Numbers) (rows : List MemberRow) (place flags : ℕ) → Some flags ≡ option_map (λ (row : MemberRow). row.flags) (slice_get rows place) → Some flags ≡ option_map field_flags (slice_get (map (row_field numbers) rows) place)
 flags_of_field numbers rows place flags e =
     e ∙ flags_by (row_field numbers) field_flags (λ row. refl) (slice_get rows place) ∙ ap (option_map field_flags) (sym (slice_get-map (row_field numbers) rows place))
+
+-- ---- the numbers of a row
+
+pub named_by : (numbers : Numbers) (row : MemberRow) → IsSound numbers row → IsNamedBy numbers (text_in numbers row.name) (desc_in (text_in numbers row.desc)) row.name row.desc
+named_by numbers row sound = record {
+  name_within = number_within numbers (text_in numbers row.name) row.name sound.name;
+  name_is = refl;
+  desc_within = number_within numbers (text_in numbers row.desc) row.desc sound.desc;
+  spelled = descriptor_read (text_in numbers row.desc) sound.described;
+}

@@ -4,3 +4,4 @@ pub mod Texts
 pub mod Rows
 pub mod Tables
 pub mod Lists
+pub mod Named

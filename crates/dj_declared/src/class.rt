@@ -15,6 +15,7 @@ use crate::file::file_members;
 use crate::heads::{class_name, class_name_if, copied_name};
 use crate::library::library_members;
 use crate::listed::{ListedNames, class_names, copied_names};
+use crate::named::MemberTexts;
 use crate::tables::ClassMembers;
 use dj_class::ClassView;
 use dj_names::{Name, NativeId};
@@ -239,6 +240,16 @@ impl DeclaredClass {
         ensures { IfSome (slice_get self.now.fields place) (λ f. Describes result.now f.desc) }
     {
         self.members.field_desc(place)
+    }
+
+    /// The members, and the texts that name them, each once.
+    pub fn member_texts(&self) -> MemberTexts<'_>
+        ensures methods { result.methods ≡ self.now.methods }
+        ensures fields { result.fields ≡ self.now.fields }
+    {
+        MemberTexts {
+            members: &self.members,
+        }
     }
 
     /// How many of the fields are instance fields.

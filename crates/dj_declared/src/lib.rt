@@ -8,10 +8,12 @@ mod heads;
 mod library;
 mod listed;
 mod members;
+mod named;
 mod spelling;
 mod tables;
 mod texts;
 
 pub use class::{DeclaredClass, declare_file, declare_library_class};
 pub use error::DeclareError;
+pub use named::MemberTexts;
 pub use spelling::spell_type;

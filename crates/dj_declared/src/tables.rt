@@ -25,6 +25,7 @@ impl ClassMembers {
     ghost use Rattle.dj_model.specs.Linking.{count_fields, fields_before};
     ghost use Rattle.dj_declared.specs.Files.{desc_in};
     ghost use Rattle.dj_declared.specs.Members.{IsDescriptor, method_flags, method_name, method_has_body, method_native, field_flags, field_name, has_method_named, method_place, field_place};
+    ghost use Rattle.dj_declared.specs.Named.{IsNamedBy};
     ghost use Rattle.dj_declared.specs.Tables.{methods_of, fields_of};
 
     /// The place of the first method with this name and this descriptor.
@@ -106,6 +107,24 @@ impl ClassMembers {
         ensures { IfSome (slice_get (methods_of self.now) place) (λ m. Describes result.now m.desc) }
     {
         self.texts.text(self.methods.row(place).desc)
+    }
+
+    /// The numbers of the name and the descriptor of the method at a place.
+    pub(crate) fn method_texts(&self, place: u32) -> (u16, u16)
+        requires { place < length (methods_of self.now) }
+        ensures { IfSome (slice_get (methods_of self.now) place) (λ m. IsNamedBy self.now.texts m.name m.desc result.0 result.1) }
+    {
+        let row = self.methods.row(place);
+        (row.name, row.desc)
+    }
+
+    /// The numbers of the name and the descriptor of the field at a place.
+    pub(crate) fn field_texts(&self, place: u32) -> (u16, u16)
+        requires { place < length (fields_of self.now) }
+        ensures { IfSome (slice_get (fields_of self.now) place) (λ f. IsNamedBy self.now.texts f.name f.desc result.0 result.1) }
+    {
+        let row = self.fields.row(place);
+        (row.name, row.desc)
     }
 
     /// Whether the method at a place has code, or a library answers it.

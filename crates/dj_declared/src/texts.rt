@@ -172,6 +172,21 @@ impl TextTable {
         text_at(&self.bytes, &self.ends, number as usize)
     }
 
+    /// How many texts there are.
+    pub(crate) fn count(&self) -> usize
+        ensures { result ≡ length self.now }
+    {
+        self.ends.len()
+    }
+
+    /// The text at a place.
+    pub(crate) fn at(&self, place: usize) -> &[u8]
+        requires { place < length self.now }
+        ensures { result.now ≡ text_in self.now place }
+    {
+        text_at(&self.bytes, &self.ends, place)
+    }
+
     // The number of the last text, if it is this one; none where this one comes after it.
     fn last_number(&self, text: &[u8]) -> Result<Option<u16>, DeclareError>
         ensures told { IfOk result (λ found. IfSome found (λ number. number_in self.now text.now ≡ Some number)) }

@@ -3,3 +3,4 @@ pub mod Kept
 pub mod Sizes
 pub mod Replacing
 mod HeapFacts
+mod ObjectFacts

@@ -23,6 +23,7 @@ pub mod Values
 pub mod Counts
 pub mod Indexes
 pub mod Named
+pub mod NameNumbers
 pub mod MemberOperands
 pub mod Making
 pub mod Settled
@@ -41,3 +42,5 @@ pub mod FitFacts
 pub mod ShapeFacts
 pub mod TableFacts
 pub mod KeyFacts
+mod HomeFacts
+mod GatheredFacts

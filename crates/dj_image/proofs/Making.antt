@@ -8,7 +8,7 @@ use Rattle.std.proofs.lemmas.List.{take_all, take_more, map-append}
 use Rattle.std.proofs.lemmas.List.Elements.{Contains-append_right}
 use Rattle.dj_names.specs.declared.descriptor.Base.TheVariants as bases
 use Rattle.dj_names.specs.declared.descriptor.Ty.{Ty}
-use Rattle.dj_names.specs.Types.{Name, same_name, base_array}
+use Rattle.dj_names.specs.Types.{Name, same_name, base_array, component_type}
 use Rattle.dj_names.specs.Descriptors.{type_text}
 use Rattle.dj_pool.specs.Pool.{Constant, IsPool, text_at}
 use Rattle.dj_declared.specs.Files.{name_in}
@@ -31,7 +31,7 @@ use Rattle.dj_image.specs.Indexed.{Holds, text_class, text_array, text_place, ke
 use Rattle.dj_image.specs.Operands.{units_number}
 use Rattle.dj_image.specs.Parts.{FitClasses}
 use Rattle.dj_image.specs.Rows.{IsRow, known_types, wholes_of}
-use Rattle.dj_image.specs.Tables.{imaged_of, IsOperandTable, IsNamedTable, IsMadeTable, field_operand_of, AreOperandTables, AreNamedTables, AreMadeTables, AreConstantTables}
+use Rattle.dj_image.specs.Tables.{imaged_of, AreClosed, IsOperandTable, IsNamedTable, IsMadeTable, field_operand_of, AreOperandTables, AreNamedTables, AreMadeTables, AreConstantTables}
 use Rattle.dj_image.specs.Texts as numbered
 use Rattle.dj_image.specs.Texts.{HasPool, RiseStrictly}
 use Rattle.dj_image.specs.Uses.{SameMembers, used_types}
@@ -196,6 +196,18 @@ chars_numbered program prefix parts arrays rows =
     ) in
     place_found (texts_of (record { program = program; prefix = prefix; arrays = arrays })) (type_text chars)
     (Contains-append_right (map name_of program) (map type_text arrays) (type_text chars) (member_map type_text arrays chars ((rows chars).1 row)))
+
+-- what the elements of an array of arrays are has a row too
+pub rows_closed : (wholes arrays : List Ty) → ((ty : Ty) → Contains arrays ty ↔ IsRow wholes ty) → AreClosed arrays
+rows_closed wholes arrays rows ty there deep =
+    let row : IsRow wholes ty = (rows ty).0 there in
+    let few = row.2.few in
+    let within = row.2.within in
+    (rows (component_type ty)).1 (
+      row.0,
+      row.1,
+      record { array = omega (arith, deep); few = omega (arith, few); within = omega (arith, within); same = row.2.same },
+    )
 
 -- the tables of classes, which were lent
 pub of_classes : (types : Typed) (lent parts : List ClassParts) (lent_texts texts : List (List ℕ)) (tables : Tables) → lent ≡ parts → lent_texts ≡ texts

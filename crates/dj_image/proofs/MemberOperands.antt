@@ -1,5 +1,5 @@
 -- What constants are as operands, by what is kept of texts, is what the program tells.
-use Rattle.std.proofs.Common.{◌≡◌, ℕ, suc, ◌+◌, ◌<◌, ◌≤◌, Bool, true, false, cond, List, [], ◌∷◌, map, length, Option, Some, None, IsSomeAnd, IsTrue, get_or, option_and_then, unwrap_or, refl, sym, ap, subst, ◌∙◌, arith, Bor}
+use Rattle.std.proofs.Common.{◌≡◌, ℕ, suc, ◌+◌, ◌<◌, ◌≤◌, Bool, true, false, cond, List, [], ◌∷◌, map, length, Option, Some, None, IsSomeAnd, IsTrue, get_or, option_and_then, unwrap_or, refl, sym, ap, subst, ◌∙◌, arith}
 use Rattle.std.specs.Prelude.{nat_eq, nat_le, if◌then◌else◌}
 use Rattle.std.specs.Option.{option_map}
 use Rattle.std.specs.List.{list_all}
@@ -209,10 +209,6 @@ field_names pool class names is = names_described pool IsFieldDescriptor field_d
 
 pub method_names : (pool : List Constant) (class names : ℕ) → IsLinked pool (Method class names) → IsDescribed (name_and_type_at pool names)
 method_names pool class names is = names_described pool IsMethodDescriptor method_described (option_and_then names_of (constant_at pool names)) is.1
-
--- texts as they are lent
-pub lent_pair : (found : Option (Bor (List ℕ) × Bor (List ℕ))) (name desc : Bor (List ℕ)) (o : Option (List ℕ × List ℕ)) → found ≡ Some (name, desc) → option_map (λ x. (x.0.now, x.1.now)) found ≡ o → Some (name.now, desc.now) ≡ o
-lent_pair found name desc o is e = sym (ap (option_map (λ (x : Bor (List ℕ) × Bor (List ℕ)). (x.0.now, x.1.now))) is) ∙ e
 
 -- ---- operands
 

@@ -1,5 +1,5 @@
 -- What is told of classes and arrays by their numbers, as types.
-use Rattle.std.proofs.Common.{◌≡◌, ℕ, zero, suc, ◌+◌, ◌-◌, ◌<◌, ◌≤◌, ◌&&◌, Bool, true, false, cond, List, [], ◌∷◌, ◌++◌, map, length, Option, Some, None, unwrap_or, option_and_then, refl, sym, ap, subst, ◌∙◌, arith, IsTrue, IfSome}
+use Rattle.std.proofs.Common.{◌≡◌, ℕ, zero, suc, ◌+◌, ◌-◌, ◌<◌, ◌≤◌, ◌&&◌, Bool, true, false, cond, List, [], ◌∷◌, ◌++◌, map, length, Option, Some, None, unwrap_or, option_and_then, refl, sym, ap, subst, ◌∙◌, arith, inl, inr, Contains, IsTrue, IfSome}
 use Rattle.std.specs.Prelude.{if◌then◌else◌, nat_eq, nat_le, slice_get}
 use Rattle.std.specs.Option.{option_map}
 use Rattle.std.proofs.lemmas.Bool.{and_parts, both_ways, ne_eqb, eq-eqb, false≢true}
@@ -19,11 +19,13 @@ use Rattle.dj_model.specs.Types.{Prefix, string_name}
 use Rattle.dj_classes.specs.Tables.{name_of, name_at, class_number}
 use Rattle.dj_classes.proofs.Numbered.{class_at-at, class_number-none, class_number-within, name_at-number}
 use Rattle.dj_classes.proofs.Orders.{names_from_same, same_from_names}
-use Rattle.dj_natives.specs.Numbered.{IsNumberOf, superclass_type, holds_references, component_of, is_number, TellsStop}
+use Rattle.dj_natives.specs.Numbered as numbered
+use Rattle.dj_natives.specs.Numbered.{IsNumberOf, superclass_type, holds_references, component_of, is_number, TellsStop, ArePlain, HasNumber, HaveComponents}
 use Rattle.dj_types.specs.Typed.{Typed, texts_of, types_of, type_at, place_of_text, text_number, text_of_type, type_number, begins_array, is_known_of, AreArrays, has_references, super_at, component_at, string_at, chars_at, stop_under, stop_at}
 use Rattle.dj_types.proofs.Numbers.{number_of_class, number_of_text, number_of_none}
 use Rattle.dj_types.proofs.Told.{types_among, known_at}
 use Rattle.dj_image.specs.Numbering.{AreSettled}
+use Rattle.dj_image.proofs.Members.{member_first, member_later, member_none, member_cases}
 use Rattle.dj_image.proofs.RowFacts.{type_once}
 
 -- ---- what stands at a number
@@ -121,6 +123,15 @@ known_of : (program : Program) (arrays : List Ty) → AreArrays program arrays �
 known_of program arrays are j ty e =
     let parts = and_parts (nat_le 1 ty.dims) (nat_le ty.dims 255 && is_known_of program ty.of) (known_at program arrays are.each j ty e) in
     (and_parts (nat_le ty.dims 255) (is_known_of program ty.of) parts.1).1
+
+same_begins : (name : Name) → numbered.begins_array name ≡ begins_array name
+same_begins [] = refl
+same_begins (b ∷ more) = refl
+
+got_listed : (arrays : List Ty) (j : ℕ) (ty : Ty) → slice_get arrays j ≡ Some ty → Contains arrays ty
+got_listed [] j ty e = absurd (none-some ty e)
+got_listed (a ∷ arrays) zero ty e = subst (Contains (a ∷ arrays)) (same_Some a ty e) (member_first a arrays)
+got_listed (a ∷ arrays) (suc j) ty e = member_later a arrays ty (got_listed arrays j ty e)
 
 module _ (typed : Typed) (settled : AreSettled typed) where
   there : (class : ℕ) → class < length (types_of typed) → (ty : Ty) × (slice_get (types_of typed) class ≡ Some ty) × Stands typed.program typed.arrays class ty
@@ -248,6 +259,48 @@ module _ (typed : Typed) (settled : AreSettled typed) where
       let found = there class lt in
       subst (λ (ty : Ty). IsNumberOf (types_of typed) (component_of ty) (component_number (has_references ty) ty)) (sym (type_is class found.0 found.1))
       (component_at_is found.0 (known_there class found.0 found.2))
+
+  plain_there : (class : ℕ) (ty : Ty) → Stands typed.program typed.arrays class ty → ty.dims ≡ 0 → numbered.begins_array (class_name ty) ≡ false
+  plain_there class ty (AClass name named is) none =
+      ap (λ (t : Ty). numbered.begins_array (class_name t)) is ∙ same_begins name ∙ settled.plain class name named
+  plain_there class ty (AnArray j number array) none =
+      let some = some_dims typed.program typed.arrays settled.arrays j ty array in absurd (omega (arith, some, none))
+
+  pub names_plain : ArePlain (types_of typed)
+  names_plain class lt =
+      let found = there class lt in
+      subst (λ (ty : Ty). ty.dims ≡ 0 → numbered.begins_array (class_name ty) ≡ false) (sym (type_is class found.0 found.1)) (plain_there class found.0 found.2)
+
+  listed_there : (arrays : List Ty) (ty : Ty) → Contains arrays ty → (j : ℕ) × (slice_get arrays j ≡ Some ty)
+  listed_there [] ty listed = absurd (member_none ty listed)
+  listed_there (a ∷ arrays) ty listed = elim (member_cases a arrays ty listed) [
+    | inl is ↦ (0, ap Some is)
+    | inr later ↦ let found = listed_there arrays ty later in (suc found.0, found.1)
+  ]
+
+  element_there : (dims : ℕ) (of : Of) (j : ℕ) → slice_get typed.arrays j ≡ Some (record { dims = dims; of = of }) → IsTrue (is_known_of typed.program of)
+      → has_references (record { dims = dims; of = of }) ≡ true → HasNumber (types_of typed) (record { dims = dims - 1; of = of })
+  element_there zero (ofs.Base base) j at known e = absurd cc
+  element_there zero (ofs.Class name) j at known e = absurd cc
+  element_there (suc zero) (ofs.Base base) j at known e = absurd cc
+  element_there (suc zero) (ofs.Class name) j at known e = by (class_number typed.program name) refl where
+    by : (o : Option ℕ) → class_number typed.program name ≡ o → HasNumber (types_of typed) (class_type name)
+    by None none = absurd (false≢true (rw none at known))
+    by (Some k) is = record { number = k; at = class_there typed.program typed.arrays k name (name_at-number typed.program name k is) }
+  element_there (suc (suc n)) of j at known e =
+      let ty : Ty = record { dims = suc (suc n); of = of } in
+      let found = listed_there typed.arrays (component_type ty) (settled.closed ty (got_listed typed.arrays j ty at) (omega arith)) in
+      record { number = length typed.program + found.0; at = array_there typed.program typed.arrays found.0 (component_type ty) found.1 }
+
+  components_there : (class : ℕ) (ty : Ty) → Stands typed.program typed.arrays class ty → holds_references ty ≡ true → HasNumber (types_of typed) (component_type ty)
+  components_there class ty (AClass name named is) e = let none : false ≡ true = sym (ap holds_references is) ∙ e in absurd (false≢true none)
+  components_there class ty (AnArray j number array) e =
+      element_there ty.dims ty.of j array (known_of typed.program typed.arrays settled.arrays j ty array) (sym (same_test ty.dims ty.of) ∙ e)
+
+  pub have_numbers : HaveComponents (types_of typed)
+  have_numbers class lt =
+      let found = there class lt in
+      subst (λ (ty : Ty). holds_references ty ≡ true → HasNumber (types_of typed) (component_type ty)) (sym (type_is class found.0 found.1)) (components_there class found.0 found.2)
 
   -- ---- String, arrays of chars, and what stops a run
 

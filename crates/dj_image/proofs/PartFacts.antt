@@ -1,11 +1,12 @@
 -- Tables of what constants name and make, descriptors by index, and classes and arrays that are settled, by plain values.
-use Rattle.std.proofs.Common.{◌≡◌, ℕ, zero, suc, ◌<◌, List, [], ◌∷◌, Some, None, Less, Equal, Greater, false, slice_get, refl, sym, ap, ◌∙◌, codes, arith}
+use Rattle.std.proofs.Common.{◌≡◌, ℕ, zero, suc, ◌<◌, List, [], ◌∷◌, Some, None, Less, Equal, Greater, false, slice_get, refl, sym, ap, ◌∙◌, codes, arith, inl, inr}
 use Rattle.std.specs.List.Sorted.{IsStrictlySortedBy}
 use Rattle.std.proofs.lemmas.Bool.{false≢true, true≢false}
 use Rattle.std.proofs.lemmas.Option.{none-some, same_Some}
 use Rattle.dj_names.specs.declared.descriptor.Base.TheVariants as bases
 use Rattle.dj_names.specs.declared.descriptor.Desc.{Desc}
 use Rattle.dj_names.specs.declared.descriptor.Desc.TheVariants as descs
+use Rattle.dj_names.specs.declared.descriptor.Ty.{Ty}
 use Rattle.dj_names.specs.DescReading.{dims_read, name_read, class_read, of_read, type_read, params_read, field_read, return_read, method_read, desc_read}
 use Rattle.dj_names.specs.Descriptors.{desc_text}
 use Rattle.dj_names.specs.NameReading.{reads_class_name}
@@ -21,9 +22,10 @@ use Rattle.dj_image.specs.Sources.{class_of_source}
 use Rattle.dj_image.specs.Imaged.{Imaged}
 use Rattle.dj_image.specs.Operands.{named_class, made_class}
 use Rattle.dj_image.specs.Parts.{IsDescAt, FitClasses}
-use Rattle.dj_image.specs.Tables.{IsNamedTable, IsMadeTable}
+use Rattle.dj_image.specs.Tables.{AreClosed, IsNamedTable, IsMadeTable}
 use Rattle.dj_image.specs.Texts.{RiseStrictly}
 use Rattle.dj_image.specs.Numbering.{AreSettled}
+use Rattle.dj_image.proofs.Members.{member_first, member_none, member_cases}
 use Rattle.dj_image.proofs.TypeFacts.{other_text, a_arrays, b_arrays}
 
 abbrev class_of : Name → programs.Class
@@ -126,8 +128,14 @@ one_plain : (k : ℕ) (name : Name) → name_at one k ≡ Some name → begins_a
 one_plain zero name at = ap begins_array (sym (same_Some (codes "A") name at))
 one_plain (suc k) name at = absurd (none-some name at)
 
+one_closed : AreClosed (a_arrays 1 ∷ [])
+one_closed ty there deep = elim (member_cases (a_arrays 1) [] ty there) [
+  | inl is ↦ let dims : 1 ≡ ty.dims = ap (λ (t : Ty). t.dims) is in absurd (omega (arith, deep, dims))
+  | inr later ↦ absurd (member_none ty later)
+]
+
 settled : AreSettled (typed one)
-settled = record { differ = one_number; plain = one_plain; arrays = record { each = refl; rise = refl } }
+settled = record { differ = one_number; plain = one_plain; arrays = record { each = refl; rise = refl }; closed = one_closed }
 
 -- not where two classes have one name, where a name begins as a descriptor does, and where the class of an array isn't there
 one_name : AreSettled (typed (class_of (codes "A") ∷ class_of (codes "A") ∷ [])) → ⊥
@@ -138,6 +146,13 @@ one_name settled =
 
 not_plain : AreSettled (typed (class_of (codes "A") ∷ class_of (codes "[B") ∷ [])) → ⊥
 not_plain settled = true≢false (settled.plain 1 (codes "[B") refl)
+
+-- and not where an array of arrays has a number and what it holds has none
+not_closed : AreClosed (a_arrays 2 ∷ []) → ⊥
+not_closed closed = elim (member_cases (a_arrays 2) [] (a_arrays 1) (closed (a_arrays 2) (member_first (a_arrays 2) []) (omega arith))) [
+  | inl is ↦ let dims : 2 ≡ 1 = ap (λ (t : Ty). t.dims) is in omega (arith, dims)
+  | inr later ↦ member_none (a_arrays 1) later
+]
 
 not_there : AreSettled (record (typed one) { arrays = b_arrays 1 ∷ [] }) → ⊥
 not_there settled = false≢true settled.arrays.each

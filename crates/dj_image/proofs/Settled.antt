@@ -4,6 +4,7 @@ use Rattle.std.specs.List.{list_all}
 use Rattle.dj_names.specs.declared.descriptor.Ty.{Ty}
 use Rattle.dj_types.specs.Typed.{Typed, is_array_of, arrays_rise}
 use Rattle.dj_image.specs.Numbering.{AreSettled}
+use Rattle.dj_image.specs.Tables.{AreClosed}
 use Rattle.dj_image.proofs.BareTyped as laws
 use Rattle.dj_image.proofs.Standing.{IsLike, moved, name_at_like, class_number_like}
 
@@ -16,4 +17,5 @@ settled_like a b like is =
       differ = λ k name at. class_number_like like name ∙ is.differ k name (sym (name_at_like like k) ∙ at);
       plain = λ k name at. is.plain k name (sym (name_at_like like k) ∙ at);
       arrays = record { each = each ∙ is.arrays.each; rise = subst (λ (xs : List Ty). IsTrue (arrays_rise xs)) (sym arrays) is.arrays.rise };
+      closed = subst AreClosed (sym arrays) is.closed;
     }

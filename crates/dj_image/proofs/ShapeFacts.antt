@@ -1,23 +1,28 @@
 -- What rule 19, SHAPE, is judged by of methods by their numbers, by plain values.
-use Rattle.std.proofs.Common.{◌≡◌, ℕ, [], ◌∷◌, Option, Some, None, refl, sym, ap, ◌∙◌, subst, codes, arith}
-use Rattle.std.proofs.lemmas.Option.{none-some}
+use Rattle.std.proofs.Common.{◌≡◌, ℕ, List, [], ◌∷◌, Option, Some, None, get_or, refl, sym, ap, ◌∙◌, subst, codes, arith}
+use Rattle.std.specs.Prelude.{slice_get, option_and_then}
+use Rattle.std.specs.Option.{option_map}
+use Rattle.std.proofs.lemmas.Option.{none-some, same_Some}
 use Rattle.dj_names.specs.declared.descriptor.Desc.TheVariants as described_as
 use Rattle.dj_ops.specs.declared.instruction.Instr.TheVariants as instrs
 use Rattle.dj_model.specs.Kinds.{Signature, call_signature}
 use Rattle.dj_model.specs.Linking.{FoundMethod}
 use Rattle.dj_model.specs.Program as programs
 use Rattle.dj_model.specs.Program.{Abstract, Runs}
+use Rattle.dj_classes.specs.declared.place.Place.{Place}
 use Rattle.dj_declared.specs.Files.{no_code}
 use Rattle.dj_program.specs.Codes.{CodeParts, code_in}
 use Rattle.dj_program.specs.Views.{parts_of}
+use Rattle.dj_program.specs.declared.code.MethodCode.{MethodCode}
 use Rattle.dj_shape.specs.Kept.{KeptKinds}
 use Rattle.dj_shape.specs.Pools.{call_at, ArePoolKinds}
 use Rattle.dj_types.specs.Members.{all_methods}
+use Rattle.dj_image.specs.declared.parts.ClassParts.{ClassParts}
 use Rattle.dj_image.specs.declared.shaped.ShapeParts.{ShapeParts}
 use Rattle.dj_image.specs.Sources.{class_of_source}
 use Rattle.dj_image.specs.Imaged.{Imaged}
 use Rattle.dj_image.specs.Parts.{IsDescAt}
-use Rattle.dj_image.specs.Shaped.{AreShapeParts, AreShapePartsAt}
+use Rattle.dj_image.specs.Shaped.{AreShapeParts, AreShapePartsAt, KeptShape, shape_lent, shape_of, shape_in, shape_kept}
 use Rattle.dj_image.proofs.FitFacts.{method, bare, abstract_a, pool, kinds, described, kinds_of_pool}
 
 -- ---- a class with an abstract method and one with code
@@ -117,3 +122,33 @@ none_of_abstract other code there runs = let e : Abstract ≡ Runs code = ap bod
 parts_left_out : AreShapePartsAt image 1 None → ⊥
 unfolding all_methods class_of_source
 parts_left_out none = none found (code_in pool parts) refl refl
+
+-- ---- what is kept at a place: of two classes, the second with an abstract method and one with code
+
+abbrev at : ℕ → ℕ → Place
+at class member = record { class = class; member = member }
+
+module _ (p q : ClassParts) (code : MethodCode) (p_codes : p.codes.items ≡ None ∷ []) (q_codes : q.codes.items ≡ None ∷ Some code ∷ []) (q_descs : q.descs.items ≡ 5 ∷ 6 ∷ []) where
+  abbrev kept : ℕ → KeptShape
+  kept desc = record { kinds = q.kinds; desc = desc; code = code }
+
+  abbrev member : ClassParts → ℕ → List (Option MethodCode) → Option KeptShape
+  member parts k codes = option_map (shape_of parts k) (option_and_then (λ (code : Option MethodCode). code) (slice_get codes k))
+
+  kept_second : shape_kept (p ∷ q ∷ []) (at 1 1) ≡ Some (kept 6)
+  kept_second = ap (member q 1) q_codes ∙ ap (λ (descs : List ℕ). Some (kept (get_or descs 1 0))) q_descs
+
+  -- none of a method without code, of a method past the last one, and of a class past the last one
+  kept_none : (shape_kept (p ∷ q ∷ []) (at 0 0) ≡ None) × (shape_kept (p ∷ q ∷ []) (at 1 0) ≡ None) × (shape_kept (p ∷ q ∷ []) (at 1 2) ≡ None) × (shape_kept (p ∷ q ∷ []) (at 2 0) ≡ None)
+  kept_none = (ap (member p 0) p_codes, ap (member q 0) q_codes, ap (member q 2) q_codes, refl)
+
+  second_left_out : shape_in 1 q ≡ None → ⊥
+  second_left_out e = none-some (kept 6) (sym e ∙ kept_second)
+
+  desc_of_first : shape_in 1 q ≡ Some (kept 5) → ⊥
+  desc_of_first e =
+      let other : 6 ≡ 5 = ap (λ (k : KeptShape). k.desc) (same_Some (kept 6) (kept 5) (sym kept_second ∙ e)) in
+      omega (arith, other)
+
+lent : (s : ShapeParts) → shape_lent s ≡ record { kinds = s.kinds.now; desc = s.desc; code = s.code.now }
+lent s = refl

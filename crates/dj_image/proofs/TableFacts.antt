@@ -1,5 +1,6 @@
 -- The tables of what constants are of all classes, by plain values.
-use Rattle.std.proofs.Common.{◌≡◌, ℕ, zero, suc, ◌<◌, List, [], ◌∷◌, map, length, Option, Some, None, refl, sym, ap, ◌∙◌, subst, codes, pos, arith, slice_get}
+use Rattle.std.proofs.Common.{◌≡◌, ℕ, zero, suc, ◌<◌, List, [], ◌∷◌, map, length, Option, Some, None, refl, sym, ap, ◌∙◌, subst, codes, pos, arith, slice_get, inl, inr}
+use Rattle.dj_names.specs.declared.descriptor.Ty.{Ty}
 use Rattle.std.specs.Global.{Vec}
 use Rattle.std.proofs.lemmas.Bool.{false≢true}
 use Rattle.std.proofs.lemmas.Option.{none-some, same_Some}
@@ -21,6 +22,7 @@ use Rattle.dj_image.specs.Operands.{named_operand, named_class, made_class}
 use Rattle.dj_image.specs.Parts.{sources_of}
 use Rattle.dj_image.specs.Tables.{imaged_of, IsOperandTable, IsNamedTable, IsMadeTable, AreOperandTables, AreNamedTables, AreMadeTables, field_operand_of, AreConstantTables, AreTables}
 use Rattle.dj_image.proofs.FitFacts.{bare, bare_parts, bare_fits}
+use Rattle.dj_image.proofs.Members.{member_none, member_cases}
 
 -- ---- the tables of one class, of an int alone and of nothing
 
@@ -200,6 +202,10 @@ module _ (codes : Vec (Option MethodCode)) (descs : Vec ℕ) (values : Vec (Opti
     constants_are = (u_is ∙ sym (ap (map (field_operand_of (imaged_of string_alone (own ∷ []) []) [])) no_values), tt);
     string = refl;
     chars = refl;
+    closed = λ ty there deep. elim (member_cases (base_array bases.Char) [] ty there) [
+      | inl is ↦ let dims : 1 ≡ ty.dims = ap (λ (t : Ty). t.dims) is in absurd (omega (arith, deep, dims))
+      | inr later ↦ absurd (member_none ty later)
+    ];
   }
 
   -- not without the class String, without arrays of chars, or where a class has no parts

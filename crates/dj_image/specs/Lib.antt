@@ -11,6 +11,7 @@ pub mod Rows
 pub mod Texts
 pub mod Indexed
 pub mod Homes
+pub mod NameNumbers
 pub mod Gathered
 pub mod Shaped
 pub mod Numbering

@@ -1,7 +1,9 @@
 -- The code's own: what an image keeps of constants.
-use Rattle.std.specs.Prelude.{◌≡◌, ℕ, ◌+◌, ◌<◌, ⊤, List, [], ◌∷◌, map, length, Option, Some, slice_get, is_some, IsTrue}
+use Rattle.std.specs.Prelude.{◌≡◌, ℕ, ◌+◌, ◌<◌, ◌≤◌, ⊤, Contains, List, [], ◌∷◌, map, length, Option, Some, slice_get, is_some, IsTrue}
 use Rattle.std.specs.Global.{Vec}
 use Rattle.std.specs.Option.{option_map}
+use Rattle.dj_names.specs.declared.descriptor.Ty.{Ty}
+use Rattle.dj_names.specs.Types.{component_type}
 use Rattle.dj_pool.specs.Pool.{Constant}
 use Rattle.dj_program.specs.Naming.{named_at}
 use Rattle.dj_types.specs.Typed.{Typed, chars_at}
@@ -55,6 +57,10 @@ AreConstantTables imaged [] [] = ⊤
 AreConstantTables imaged (p ∷ parts) (kept ∷ tables) = (kept.items ≡ map (field_operand_of imaged p.pool) p.values.items) × AreConstantTables imaged parts tables
 AreConstantTables imaged parts tables = ⊥
 
+-- what the elements of an array of arrays are has a number too
+abbrev pub AreClosed : List Ty → Type 0
+AreClosed arrays = (ty : Ty) → Contains arrays ty → 2 ≤ ty.dims → Contains arrays (component_type ty)
+
 pub record AreTables (types : Typed) (parts : List ClassParts) (texts : List (List ℕ)) (operands : List (Vec Operand)) (named made : List (Vec (Option ℕ))) (constants : List (Vec Operand)) : Type 0 where
   pub fit : FitClasses types.program parts
   pub operands_are : AreOperandTables (imaged_of types parts texts) parts operands
@@ -63,3 +69,4 @@ pub record AreTables (types : Typed) (parts : List ClassParts) (texts : List (Li
   pub constants_are : AreConstantTables (imaged_of types parts texts) parts constants
   pub string : HasString types.program types.prefix
   pub chars : IsTrue (is_some (chars_at types))
+  pub closed : AreClosed types.arrays

@@ -7,6 +7,7 @@ mod image;
 mod indexed;
 mod lent_type;
 mod make;
+mod name_numbers;
 mod numbered;
 mod operand;
 mod operands;

@@ -4,7 +4,7 @@ ghost use Rattle.dj_classes.specs.Tables.{class_number};
 ghost use Rattle.dj_types.specs.Typed.{AreArrays, chars_at};
 ghost use Rattle.dj_image.specs.Imaged.{IsNumbered};
 ghost use Rattle.dj_image.specs.Parts.{sources_of, FitClasses, AreFew, HasString};
-ghost use Rattle.dj_image.specs.Tables.{imaged_of};
+ghost use Rattle.dj_image.specs.Tables.{imaged_of, AreClosed};
 ghost use Rattle.dj_image.specs.Texts.{RiseStrictly};
 
 use crate::arrays::arrays_of;
@@ -55,6 +55,7 @@ fn image_from(
     requires fit { FitClasses types.program parts.items }
     requires string { HasString types.program types.prefix }
     requires chars { IsTrue (is_some (chars_at types)) }
+    requires closed { AreClosed types.arrays }
     ensures { IfOk result (λ image. image ≡ imaged_of types parts.items texts.items) }
 {
     let tables = tables_of(alloc, &types, &texts, object, &parts)?;

@@ -5,8 +5,9 @@ use crate::image::Image;
 use dj_natives::Classes;
 
 impl Image {
-    // A law of the classes and the arrays that have numbers.
-    fn are_settled(&self)
+    /// A law: each class has one number, no class's name begins as an array's descriptor does, and the arrays that have numbers are of base types
+    /// and of classes that are there, with all that are elements of others.
+    pub fn are_settled(&self)
         ensures { AreSettled (typed_of self.now) }
     {
         self.types.are_arrays();
@@ -57,5 +58,13 @@ impl Classes for Image {
     fn stop(&self) -> Option<u32> {
         self.are_settled();
         Image::stop(self)
+    }
+
+    fn are_plain(&self) {
+        self.are_settled();
+    }
+
+    fn have_components(&self) {
+        self.are_settled();
     }
 }

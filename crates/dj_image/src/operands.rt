@@ -1,19 +1,22 @@
 ghost use Rattle.std.specs.Prelude.{◌≡◌, ℕ, ◌+◌, length, IfOk, option_and_then};
 ghost use Rattle.std.specs.Option.{option_map};
 ghost use Rattle.dj_pool.specs.Pool.{IsPool, IsLinked, name_and_type_at};
-ghost use Rattle.dj_declared.specs.Members.{IsDescriptor};
 ghost use Rattle.dj_types.specs.Members.{number_of_method, number_of_field, found_method_number, found_field_number, resolved_method, resolved_field};
+ghost use Rattle.dj_types.specs.Named.{IsDirectoryOf, IsNumbered};
 ghost use Rattle.dj_image.specs.Homes.{kept_home, IsHome, AreHomes, IsDescribed, method_told, field_told, constant_operand, operand_at};
 ghost use Rattle.dj_image.specs.Indexed.{Holds};
+ghost use Rattle.dj_image.specs.NameNumbers.{AreNumbersBy};
 ghost use Rattle.dj_image.specs.Operands.{class_operand, text_operand, method_operand, field_operand};
 ghost use Rattle.dj_image.specs.Owned.{constant_of_owned};
 
 use crate::error::ImageError;
 use crate::indexed::{index_count, is_array, number_at};
+use crate::name_numbers::{member_name, name_numbers};
 use crate::operand::Operand;
 use crate::owned::{OwnedEntry, OwnedPool};
 use crate::taken::class_operand;
-use dj_types::{FieldId, MethodId, Types};
+use dj_directory::Directory;
+use dj_types::{FieldId, MemberName, MethodId, Types};
 use std::alloc::Global;
 
 // ---- members
@@ -35,38 +38,68 @@ fn home_of(
     }
 }
 
-fn method_in(types: &Types, home: Option<u32>, name: &[u8], desc: &[u8]) -> Option<MethodId>
+fn method_in(
+    types: &Types,
+    directory: Option<&Directory<'_>>,
+    home: Option<u32>,
+    named: MemberName<'_>,
+) -> Option<MethodId>
+    requires same { IsDirectoryOf types.now.program directory }
     requires there { IsHome types.now home }
-    requires described { IsDescriptor desc.now }
-    ensures { option_map number_of_method result ≡ option_and_then (λ (k : ℕ). found_method_number types.now.program (resolved_method types.now k name.now desc.now)) home }
+    requires named { IsNumbered directory named }
+    ensures { option_map number_of_method result ≡ option_and_then (λ (k : ℕ). found_method_number types.now.program (resolved_method types.now k named.entry.name.now named.entry.desc.now)) home }
 {
-    types.resolve_described_method(home?, name, desc)
+    types.resolve_named_method(directory, home?, named)
 }
 
-fn method_of(types: &Types, pool: &OwnedPool, home: Option<u32>, names: u16) -> Option<MethodId>
+fn method_of(
+    types: &Types,
+    directory: Option<&Directory<'_>>,
+    pool: &OwnedPool,
+    numbers: &[Option<u32>],
+    home: Option<u32>,
+    names: u16,
+) -> Option<MethodId>
+    requires same { IsDirectoryOf types.now.program directory }
+    requires numbers { AreNumbersBy directory pool.now numbers.now }
     requires there { IsHome types.now home }
     requires described { IsDescribed (name_and_type_at pool.now names) }
     ensures { option_map number_of_method result ≡ method_told types.now home (name_and_type_at pool.now names) }
 {
-    let (name, desc) = pool.name_and_type(names)?;
-    method_in(types, home, name, desc)
+    let named = member_name(pool, numbers, names)?;
+    method_in(types, directory, home, named)
 }
 
-fn field_in(types: &Types, home: Option<u32>, name: &[u8], desc: &[u8]) -> Option<FieldId>
+fn field_in(
+    types: &Types,
+    directory: Option<&Directory<'_>>,
+    home: Option<u32>,
+    named: MemberName<'_>,
+) -> Option<FieldId>
+    requires same { IsDirectoryOf types.now.program directory }
     requires there { IsHome types.now home }
-    requires described { IsDescriptor desc.now }
-    ensures { option_map number_of_field result ≡ option_and_then (λ (k : ℕ). found_field_number types.now.program (resolved_field types.now k name.now desc.now)) home }
+    requires named { IsNumbered directory named }
+    ensures { option_map number_of_field result ≡ option_and_then (λ (k : ℕ). found_field_number types.now.program (resolved_field types.now k named.entry.name.now named.entry.desc.now)) home }
 {
-    types.resolve_described_field(home?, name, desc)
+    types.resolve_named_field(directory, home?, named)
 }
 
-fn field_of(types: &Types, pool: &OwnedPool, home: Option<u32>, names: u16) -> Option<FieldId>
+fn field_of(
+    types: &Types,
+    directory: Option<&Directory<'_>>,
+    pool: &OwnedPool,
+    numbers: &[Option<u32>],
+    home: Option<u32>,
+    names: u16,
+) -> Option<FieldId>
+    requires same { IsDirectoryOf types.now.program directory }
+    requires numbers { AreNumbersBy directory pool.now numbers.now }
     requires there { IsHome types.now home }
     requires described { IsDescribed (name_and_type_at pool.now names) }
     ensures { option_map number_of_field result ≡ field_told types.now home (name_and_type_at pool.now names) }
 {
-    let (name, desc) = pool.name_and_type(names)?;
-    field_in(types, home, name, desc)
+    let named = member_name(pool, numbers, names)?;
+    field_in(types, directory, home, named)
 }
 
 // ---- operands
@@ -103,12 +136,16 @@ fn field_operand(field: Option<FieldId>) -> Operand
 #[tactic(auto, using(crate::proofs::MemberOperands::field_names, crate::proofs::MemberOperands::method_names))]
 fn constant_operand(
     types: &Types,
+    directory: Option<&Directory<'_>>,
     pool: &OwnedPool,
+    numbers: &[Option<u32>],
     texts: &[Option<u32>],
     classes: &[Option<u32>],
     object: Option<u32>,
     entry: &OwnedEntry,
 ) -> Operand
+    requires same { IsDirectoryOf types.now.program directory }
+    requires numbers { AreNumbersBy directory pool.now numbers.now }
     requires linked { IsLinked pool.now (constant_of_owned entry.now) }
     requires homes { AreHomes types.now pool.now classes.now object }
     ensures { result ≡ constant_operand types.now pool.now texts.now classes.now object (constant_of_owned entry.now) }
@@ -120,15 +157,15 @@ fn constant_operand(
         OwnedEntry::Class(text) => class_operand(number_at(classes, *text)),
         OwnedEntry::Field(class, names) => {
             let home = home_of(pool, classes, object, *class);
-            field_operand(field_of(types, pool, home, *names))
+            field_operand(field_of(types, directory, pool, numbers, home, *names))
         }
         OwnedEntry::Method(class, names) => {
             let home = home_of(pool, classes, object, *class);
-            method_operand(method_of(types, pool, home, *names))
+            method_operand(method_of(types, directory, pool, numbers, home, *names))
         }
         OwnedEntry::InterfaceMethod(class, names) => {
             let home = home_of(pool, classes, object, *class);
-            method_operand(method_of(types, pool, home, *names))
+            method_operand(method_of(types, directory, pool, numbers, home, *names))
         }
         _ => Operand::Unresolved,
     }
@@ -136,18 +173,24 @@ fn constant_operand(
 
 fn operand_at(
     types: &Types,
+    directory: Option<&Directory<'_>>,
     pool: &OwnedPool,
+    numbers: &[Option<u32>],
     texts: &[Option<u32>],
     classes: &[Option<u32>],
     object: Option<u32>,
     index: u16,
 ) -> Operand
+    requires same { IsDirectoryOf types.now.program directory }
+    requires numbers { AreNumbersBy directory pool.now numbers.now }
     requires valid { IsPool pool.now }
     requires homes { AreHomes types.now pool.now classes.now object }
     ensures { result ≡ operand_at types.now pool.now texts.now classes.now object index }
 {
     match pool.entry(index) {
-        Some(entry) => constant_operand(types, pool, texts, classes, object, entry),
+        Some(entry) => constant_operand(
+            types, directory, pool, numbers, texts, classes, object, entry,
+        ),
         None => Operand::Unresolved,
     }
 }
@@ -156,19 +199,24 @@ fn operand_at(
 pub(crate) fn operand_table(
     alloc: Global,
     types: &Types,
+    directory: Option<&Directory<'_>>,
     pool: &OwnedPool,
     texts: &[Option<u32>],
     classes: &[Option<u32>],
     object: Option<u32>,
 ) -> Result<Vec<Operand>, ImageError>
+    requires same { IsDirectoryOf types.now.program directory }
     requires valid { IsPool pool.now }
     requires homes { AreHomes types.now pool.now classes.now object }
     ensures { IfOk result (λ kept. Holds (operand_at types.now pool.now texts.now classes.now object) (length pool.now + 1) kept.items) }
 {
+    let numbers = name_numbers(alloc, directory, pool)?;
     let mut kept = Vec::new(alloc);
     let count = index_count(pool);
     for index in 0..count {
-        let operand = operand_at(types, pool, texts, classes, object, index);
+        let operand = operand_at(
+            types, directory, pool, &numbers, texts, classes, object, index,
+        );
         kept.push(operand)?;
     }
     Ok(kept)

@@ -1,6 +1,6 @@
 ghost use Rattle.std.specs.Prelude.{◌≡◌, option_and_then};
-ghost use Rattle.std.specs.Option.{option_map, option_copied};
-ghost use Rattle.dj_pool.specs.Pool.{constant_at, class_text_of, text_at, name_and_type_at};
+ghost use Rattle.std.specs.Option.{option_copied};
+ghost use Rattle.dj_pool.specs.Pool.{constant_at, class_text_of, text_at, names_of};
 
 use crate::owned::{OwnedEntry, OwnedPool};
 
@@ -25,17 +25,12 @@ impl OwnedPool {
         }
     }
 
-    /// The texts of the name and the descriptor at an index.
-    pub(crate) fn name_and_type(&self, index: u16) -> Option<(&[u8], &[u8])>
-        ensures { option_map (λ x. (x.0.now, x.1.now)) result ≡ name_and_type_at self.now index }
+    /// The indexes of the texts of the name and the descriptor at an index.
+    pub(crate) fn names(&self, index: u16) -> Option<(u16, u16)>
+        ensures { result ≡ option_and_then names_of (constant_at self.now index) }
     {
         match self.entry(index) {
-            Some(OwnedEntry::NameAndType(name, desc)) => {
-                match (self.text(*name), self.text(*desc)) {
-                    (Some(name), Some(desc)) => Some((name, desc)),
-                    _ => None,
-                }
-            }
+            Some(OwnedEntry::NameAndType(name, desc)) => Some((*name, *desc)),
             _ => None,
         }
     }

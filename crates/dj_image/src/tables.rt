@@ -2,6 +2,7 @@ ghost use Rattle.std.specs.Prelude.{◌≡◌, ℕ, ◌+◌, ◌++◌, ◌∷◌
 ghost use Rattle.dj_pool.specs.Pool.{IsPool};
 ghost use Rattle.dj_model.specs.Types.{object_name};
 ghost use Rattle.dj_classes.specs.Tables.{class_number};
+ghost use Rattle.dj_types.specs.Named.{IsDirectoryOf};
 ghost use Rattle.dj_types.specs.Typed.{AreArrays};
 ghost use Rattle.dj_image.specs.declared.parts.ClassParts.{ClassParts};
 ghost use Rattle.dj_image.specs.Gathered.{text_at_index, value_told, AreOfClass, AreOfClasses};
@@ -16,6 +17,7 @@ use crate::operand::Operand;
 use crate::operands::{operand_table, text_operand};
 use crate::owned::OwnedPool;
 use crate::parts::{ClassParts, FieldValue};
+use dj_directory::Directory;
 use dj_names::Units;
 use dj_types::Types;
 use std::alloc::Global;
@@ -84,10 +86,12 @@ fn constant_table(
 fn class_tables(
     alloc: Global,
     types: &Types,
+    directory: Option<&Directory<'_>>,
     texts: &[Units],
     object: Option<u32>,
     class: &ClassParts,
 ) -> Result<ClassTables, ImageError>
+    requires same { IsDirectoryOf types.now.program directory }
     requires arrays { AreArrays types.now.program types.now.arrays }
     requires object { object ≡ class_number types.now.program (object_name types.now.prefix) }
     requires rise { RiseStrictly texts.now }
@@ -98,7 +102,15 @@ fn class_tables(
     let classes = text_classes(alloc, types, &class.pool)?;
     let arrays = text_arrays(alloc, types, &class.pool)?;
     let places = text_places(alloc, texts, &class.pool)?;
-    let operands = operand_table(alloc, types, &class.pool, &places, &classes, object)?;
+    let operands = operand_table(
+        alloc,
+        types,
+        directory,
+        &class.pool,
+        &places,
+        &classes,
+        object,
+    )?;
     let named = named_table(alloc, &class.pool, &classes)?;
     let made = made_table(alloc, &class.pool, &arrays)?;
     let constants = constant_table(alloc, &class.pool, &places, &class.values)?;
@@ -123,6 +135,36 @@ fn add_tables(tables: &mut Tables, class: ClassTables) -> Result<(), ImageError>
     Ok(())
 }
 
+// The tables of classes. The directory, where there is one, is that of the classes.
+fn tables_by(
+    alloc: Global,
+    types: &Types,
+    directory: Option<&Directory<'_>>,
+    texts: &[Units],
+    object: Option<u32>,
+    parts: &[ClassParts],
+) -> Result<Tables, ImageError>
+    requires same { IsDirectoryOf types.now.program directory }
+    requires arrays { AreArrays types.now.program types.now.arrays }
+    requires object { object ≡ class_number types.now.program (object_name types.now.prefix) }
+    requires rise { RiseStrictly texts.now }
+    requires few { length texts.now < 2 ^ 32 }
+    requires fit { FitClasses types.now.program parts.now }
+    ensures { IfOk result (AreOfClasses (imaged_of types.now parts.now texts.now) parts.now) }
+{
+    let mut tables = Tables {
+        operands: Vec::new(alloc),
+        named: Vec::new(alloc),
+        made: Vec::new(alloc),
+        constants: Vec::new(alloc),
+    };
+    for class in parts {
+        let made = class_tables(alloc, types, directory, texts, object, class)?;
+        add_tables(&mut tables, made)?;
+    }
+    Ok(tables)
+}
+
 /// The tables of classes.
 pub(crate) fn tables_of(
     alloc: Global,
@@ -138,15 +180,9 @@ pub(crate) fn tables_of(
     requires fit { FitClasses types.now.program parts.now }
     ensures { IfOk result (AreOfClasses (imaged_of types.now parts.now texts.now) parts.now) }
 {
-    let mut tables = Tables {
-        operands: Vec::new(alloc),
-        named: Vec::new(alloc),
-        made: Vec::new(alloc),
-        constants: Vec::new(alloc),
-    };
-    for class in parts {
-        let made = class_tables(alloc, types, texts, object, class)?;
-        add_tables(&mut tables, made)?;
+    let directory = types.linker().directory(alloc)?;
+    match &directory {
+        Some(directory) => tables_by(alloc, types, Some(directory), texts, object, parts),
+        None => tables_by(alloc, types, None, texts, object, parts),
     }
-    Ok(tables)
 }

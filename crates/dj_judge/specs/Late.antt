@@ -11,6 +11,7 @@ use Rattle.dj_model.specs.Program.{Program}
 use Rattle.dj_check.specs.Marks.{MarksOf}
 use Rattle.dj_check.specs.Methods.{MethodViolates}
 use Rattle.dj_link.specs.declared.known.Known.{Known}
+use Rattle.dj_link.specs.Constants.{IsDirectoryOf}
 use Rattle.dj_link.specs.Known.{IsKnown, AreUnmakeable}
 use Rattle.dj_link.specs.Lines.{MethodLinkViolates, IsFileLinkLine}
 use Rattle.dj_shape.specs.declared.judge.ShapeFault.{ShapeFault}
@@ -38,6 +39,7 @@ HasLent (Some lent) program = lent.linker.now.program ≡ program
 
 pub record AreLent (lent : Lent) : Type 0 where
   pub plain : lent.linker.now.prefix ≡ []
+  pub same : IsDirectoryOf lent.linker.now.program lent.directory
   pub unmakeable : AreUnmakeable lent.linker.now.program lent.unmakeable.now
 
 abbrev pub IsReady : Option Lent → Type 0

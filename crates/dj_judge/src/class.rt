@@ -24,7 +24,7 @@ use std::alloc::Global;
 // The marks of the methods of a class file where classes are lent. What its constants name, and what stands above it, is looked up once.
 fn judge_linked(
     alloc: Global,
-    lent: Lent<'_>,
+    lent: Lent<'_, '_>,
     view: &ClassView<'_>,
     texts: &[JudgedText],
 ) -> Result<Option<Marks>, RulesError>
@@ -34,7 +34,7 @@ fn judge_linked(
     ensures { IfOk result (AreJudgedMethods (class_of view.now) (HasLent (Some lent.entry)) texts.now) }
 {
     let table = lent.linker.classes();
-    let kept = judge_constants(alloc, lent.linker, &view.pool)?;
+    let kept = judge_constants(alloc, lent.linker, lent.directory, &view.pool)?;
     let above = classes_above(alloc, table, class_name(view))?;
     let known = Known {
         table,
@@ -48,7 +48,7 @@ fn judge_linked(
 // The marks of the methods of a class file.
 fn judge_members(
     alloc: Global,
-    lent: Option<Lent<'_>>,
+    lent: Option<Lent<'_, '_>>,
     view: &ClassView<'_>,
     texts: &[JudgedText],
 ) -> Result<Option<Marks>, RulesError>
@@ -90,7 +90,7 @@ fn add_lines(
 pub fn judge_class<'a>(
     alloc: Global,
     found: &mut JudgedFiles,
-    lent: Option<Lent<'_>>,
+    lent: Option<Lent<'_, '_>>,
     path: &str,
     view: &ClassView<'a>,
 ) -> Result<Option<GoodFile<'a>>, RulesError>

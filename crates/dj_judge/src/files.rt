@@ -1,5 +1,6 @@
 ghost use Rattle.std.specs.Prelude.{◌≡◌, ◌<◌, ◌^◌, [], length, map, All, Some, IfOk, OnOk};
 ghost use Rattle.dj_linking.specs.Linked.{Linked};
+ghost use Rattle.dj_link.specs.Constants.{IsDirectoryOf};
 ghost use Rattle.dj_model.specs.Program.{Program};
 ghost use Rattle.dj_report.specs.Lines.{Adds};
 ghost use Rattle.dj_rules.specs.Views.{path_file_view};
@@ -14,6 +15,7 @@ use crate::kept::{Kept, keep_file};
 use crate::lent::Lent;
 use crate::views::judge_file;
 use dj_check::{GoodFile, add_duplicate_lines, add_hierarchy_lines};
+use dj_directory::Directory;
 use dj_link::unmakeable_classes;
 use dj_linking::Linker;
 use dj_report::{PathFile, Violation, Violations, add_in_order, in_order};
@@ -33,7 +35,7 @@ pub struct JudgedFiles {
 fn judge_in_order<'a>(
     alloc: Global,
     found: &mut JudgedFiles,
-    lent: Option<Lent<'_>>,
+    lent: Option<Lent<'_, '_>>,
     file: &PathFile<'a>,
 ) -> Result<Option<GoodFile<'a>>, RulesError>
     requires lent { IsReady lent }
@@ -55,7 +57,7 @@ fn judge_in_order<'a>(
 fn judge_all<'a>(
     alloc: Global,
     found: &mut JudgedFiles,
-    lent: Option<Lent<'_>>,
+    lent: Option<Lent<'_, '_>>,
     files: &[PathFile<'a>],
 ) -> Result<Kept<'a>, RulesError>
     requires lent { IsReady lent }
@@ -80,7 +82,7 @@ fn judge_all<'a>(
 fn judge_lent(
     alloc: Global,
     files: &[PathFile<'_>],
-    lent: Option<Lent<'_>>,
+    lent: Option<Lent<'_, '_>>,
 ) -> Result<JudgedFiles, RulesError>
     requires lent { IsReady lent }
     requires short { All (λ file. length file.bytes.now < 2 ^ 32) files.now }
@@ -98,6 +100,46 @@ fn judge_lent(
     Ok(found)
 }
 
+// Judges files whose classes are linked by the rules 1 to 19. The directory, where there is one, is that of the linked classes.
+fn judge_linked_by(
+    alloc: Global,
+    files: &[PathFile<'_>],
+    linker: &Linker,
+    directory: Option<&Directory<'_>>,
+) -> Result<JudgedFiles, RulesError>
+    requires short { All (λ file. length file.bytes.now < 2 ^ 32) files.now }
+    requires plain { linker.now.prefix ≡ [] }
+    requires same { IsDirectoryOf linker.now.program directory }
+    ensures early { IfOk result (λ judged. Adds (IsEarlyLine (map path_file_view files.now)) [] judged.early.items) }
+    ensures late { IfOk result (λ judged. Adds (IsLinkedLine linker.now.program (map path_file_view files.now)) [] judged.late.items) }
+{
+    let unmakeable = unmakeable_classes(alloc, linker.classes())?;
+    let lent = Lent {
+        linker,
+        directory,
+        unmakeable: &unmakeable,
+    };
+    judge_lent(alloc, files, Some(lent))
+}
+
+// Judges files whose classes are linked by the rules 1 to 19.
+fn judge_linked(
+    alloc: Global,
+    files: &[PathFile<'_>],
+    linker: &Linker,
+) -> Result<JudgedFiles, RulesError>
+    requires short { All (λ file. length file.bytes.now < 2 ^ 32) files.now }
+    requires plain { linker.now.prefix ≡ [] }
+    ensures early { IfOk result (λ judged. Adds (IsEarlyLine (map path_file_view files.now)) [] judged.early.items) }
+    ensures late { IfOk result (λ judged. Adds (IsLinkedLine linker.now.program (map path_file_view files.now)) [] judged.late.items) }
+{
+    let directory = linker.directory(alloc)?;
+    match &directory {
+        Some(directory) => judge_linked_by(alloc, files, linker, Some(directory)),
+        None => judge_linked_by(alloc, files, linker, None),
+    }
+}
+
 /// Judges files by the rules 1 to 16, and, where their classes are linked, by the rules 17 to 19 too. Each file is read once.
 pub fn judge_files(
     alloc: Global,
@@ -113,12 +155,7 @@ pub fn judge_files(
     let Some(linker) = linker else {
         return judge_lent(alloc, files, None);
     };
-    let unmakeable = unmakeable_classes(alloc, linker.classes())?;
-    let lent = Lent {
-        linker,
-        unmakeable: &unmakeable,
-    };
-    judge_lent(alloc, files, Some(lent))
+    judge_linked(alloc, files, linker)
 }
 
 /// All violations of the rules 1 to 16, in order, each once.

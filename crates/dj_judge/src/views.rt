@@ -21,7 +21,7 @@ const MALFORMED: u8 = 1;
 fn judge_class_file<'a>(
     alloc: Global,
     found: &mut JudgedFiles,
-    lent: Option<Lent<'_>>,
+    lent: Option<Lent<'_, '_>>,
     file: &PathFile<'_>,
     class: &ClassView<'a>,
 ) -> Result<Option<GoodFile<'a>>, RulesError>
@@ -43,7 +43,7 @@ fn judge_class_file<'a>(
 fn judge_view<'a>(
     alloc: Global,
     found: &mut JudgedFiles,
-    lent: Option<Lent<'_>>,
+    lent: Option<Lent<'_, '_>>,
     file: &PathFile<'_>,
     view: &FileView<'a>,
 ) -> Result<Option<GoodFile<'a>>, RulesError>
@@ -64,7 +64,7 @@ fn judge_view<'a>(
 pub fn judge_file<'a>(
     alloc: Global,
     found: &mut JudgedFiles,
-    lent: Option<Lent<'_>>,
+    lent: Option<Lent<'_, '_>>,
     file: &PathFile<'a>,
 ) -> Result<Option<GoodFile<'a>>, RulesError>
     requires lent { IsReady lent }

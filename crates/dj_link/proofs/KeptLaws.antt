@@ -9,7 +9,8 @@ use Rattle.dj_pool.specs.Pool.{Constant, text_at, IsLinked, IsPool}
 use Rattle.dj_pool.specs.Views.{constant_of}
 use Rattle.dj_model.specs.Program.{Program}
 use Rattle.dj_link.specs.Judged.{judged, AreJudged}
-use Rattle.dj_link.specs.Constants.{text_class, AreSeen}
+use Rattle.dj_directory.specs.Numberings.{Numbering}
+use Rattle.dj_link.specs.Constants.{text_class, AreSeen, AreNumbersSeen}
 use Rattle.dj_link.specs.declared.named.NamedClass.{NamedClass}
 use Rattle.dj_link.specs.declared.named.NamedConstant.{NamedConstant}
 use Rattle.dj_link.proofs.PoolLinks.{linked}
@@ -29,6 +30,14 @@ none_seen program pool n count = record {
   all = length-replicate n no_class ∙ count;
   each = λ index class e. absurd (none_at n index class e);
 }
+
+none_there : (n i : ℕ) (number : Option ℕ) → slice_get (replicate n None) i ≡ Some (Some number) → ⊥
+none_there zero i number e = absurd cc
+none_there (suc n) zero number e = absurd cc
+none_there (suc n) (suc i) number e = none_there n i number e
+
+pub no_numbers : (directory : Numbering) (pool : List Constant) (n : ℕ) → AreNumbersSeen directory pool (replicate n None)
+no_numbers directory pool n = record { each = λ index number e. absurd (none_there n index number e) }
 
 set_at : {A : Type 0} (xs : List A) (i j : ℕ) (y z : A) → slice_get (set xs i y) j ≡ Some z → ((j ≡ i) × (y ≡ z)) ⊎ (slice_get xs j ≡ Some z)
 set_at [] i j y z e = inr e

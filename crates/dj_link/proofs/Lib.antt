@@ -12,3 +12,4 @@ pub mod FileLaws
 mod Rows
 mod RowFacts
 mod LineFacts
+pub mod NameNumbers

@@ -1,11 +1,16 @@
 -- The code's own: how a constant's class is read from its text, and how its member is looked up by a number.
-use Rattle.std.specs.Prelude.{◌≡◌, ℕ, suc, ◌+◌, Bool, List, [], ◌∷◌, length, Option, Some, None, nat_eq, if◌then◌else◌, slice_get}
+use Rattle.std.specs.Prelude.{◌≡◌, ⊤, ℕ, suc, ◌+◌, Bool, List, [], ◌∷◌, length, Option, Some, None, nat_eq, if◌then◌else◌, option_and_then, slice_get}
 use Rattle.std.specs.Option.{option_map}
+use Rattle.std.specs.Borrow.{Bor}
 use Rattle.dj_names.specs.Types.{Name}
 use Rattle.dj_pool.specs.Pool.{Constant, Field, Method, InterfaceMethod, text_at}
 use Rattle.dj_model.specs.Program.{Program}
 use Rattle.dj_declared.specs.Files.{type_in}
+use Rattle.dj_declared.specs.Members.{IsDescriptor}
+use Rattle.dj_directory.specs.Numberings.{Numbering, number_of}
 use Rattle.dj_linking.specs.Linked.{Linked, resolved_method, resolved_field}
+use Rattle.dj_linking.specs.Numbered.{AreNumbersOf}
+use Rattle.dj_link.specs.declared.name_numbers.MemberName.{MemberName}
 use Rattle.dj_link.specs.Named.{is_static_field, is_static_method}
 use Rattle.dj_link.specs.Judged.{judged_class}
 use Rattle.dj_link.specs.declared.named.NamedClass.{NamedClass}
@@ -23,6 +28,29 @@ text_class program text = judged_class program (type_in text)
 pub record AreSeen (program : Program) (pool : List Constant) (seen : List (Option NamedClass)) : Type 0 where
   pub all : length seen ≡ length pool + 1
   pub each : (index : ℕ) (class : NamedClass) → slice_get seen index ≡ Some (Some class) → Some class ≡ option_map (text_class program) (text_at pool index)
+
+-- the number of the text of an index, where there is a text that has one
+abbrev pub number_at : Numbering → List Constant → ℕ → Option ℕ
+number_at directory pool index = option_and_then (number_of directory) (text_at pool index)
+
+-- what was seen of texts, by their indexes: what stands there is the number of the text
+pub record AreNumbersSeen (directory : Numbering) (pool : List Constant) (seen : List (Option (Option ℕ))) : Type 0 where
+  pub each : (index : ℕ) (number : Option ℕ) → slice_get seen index ≡ Some (Some number) → number ≡ number_at directory pool index
+
+-- the same, where there is a directory
+abbrev pub AreNumbersSeenBy : Option (Bor Numbering) → List Constant → List (Option (Option ℕ)) → Type 0
+AreNumbersSeenBy None pool seen = ⊤
+AreNumbersSeenBy (Some directory) pool seen = AreNumbersSeen directory.now pool seen
+
+-- the numbers are those of the texts, of which the second is a descriptor; without a directory texts have none
+abbrev pub IsNumbered : Option (Bor Numbering) → MemberName → Type 0
+IsNumbered None named = IsDescriptor named.desc.now
+IsNumbered (Some directory) named = AreNumbersOf directory.now named.name_number named.desc_number named.name.now named.desc.now
+
+-- the directory, where there is one, is of these classes
+abbrev pub IsDirectoryOf : Program → Option (Bor Numbering) → Type 0
+IsDirectoryOf program None = ⊤
+IsDirectoryOf program (Some directory) = directory.now.program ≡ program
 
 -- whether what a constant names in the class of a number is static
 abbrev pub static_at : Linked → Constant → ℕ → Name → List ℕ → Option Bool

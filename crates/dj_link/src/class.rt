@@ -9,6 +9,7 @@ ghost use Rattle.dj_check.specs.Malformed.{IsFaulty, IsRefused};
 ghost use Rattle.dj_check.specs.Rules.{IsMemberLine};
 ghost use Rattle.dj_link.specs.Lines.{MethodLinkViolates, IsFileLinkLine};
 ghost use Rattle.dj_link.specs.Known.{AreUnmakeable};
+ghost use Rattle.dj_link.specs.Constants.{IsDirectoryOf};
 
 use crate::above::classes_above;
 use crate::constants::judge_constants;
@@ -17,6 +18,7 @@ use crate::known::Known;
 use crate::methods::add_method_marks;
 use dj_check::{Mark, add_mark_lines, judge_texts};
 use dj_class::ClassView;
+use dj_directory::Directory;
 use dj_linking::Linker;
 use dj_report::{PathFile, Violation, add_in_order};
 use dj_rules::{FileView, view_file};
@@ -34,18 +36,20 @@ fn add_class_lines(
     alloc: Global,
     found: &mut Vec<Violation>,
     linker: &Linker,
+    directory: Option<&Directory<'_>>,
     unmakeable: &[bool],
     path: &str,
     view: &ClassView<'_>,
 ) -> Result<(), LinkError>
     requires plain { linker.now.prefix ≡ [] }
+    requires same { IsDirectoryOf linker.now.program directory }
     requires unmakeable { AreUnmakeable linker.now.program unmakeable.now }
     requires valid { IsValid (class_of view.now) }
     requires whole { IsFaulty (class_of view.now) → ⊥ }
     ensures { OnOk result (Adds (IsMemberLine (MethodLinkViolates linker.now.program (class_of view.now)) (class_of view.now).methods path.now (class_of view.now)) found.old.items found.new.items) }
 {
     let texts = judge_texts(alloc, view)?;
-    let kept = judge_constants(alloc, linker, &view.pool)?;
+    let kept = judge_constants(alloc, linker, directory, &view.pool)?;
     let above = classes_above(alloc, linker.classes(), own_name(view))?;
     let known = Known {
         table: linker.classes(),
@@ -64,11 +68,13 @@ fn add_view_lines(
     alloc: Global,
     found: &mut Vec<Violation>,
     linker: &Linker,
+    directory: Option<&Directory<'_>>,
     unmakeable: &[bool],
     file: &PathFile<'_>,
     view: &FileView<'_>,
 ) -> Result<(), LinkError>
     requires plain { linker.now.prefix ≡ [] }
+    requires same { IsDirectoryOf linker.now.program directory }
     requires unmakeable { AreUnmakeable linker.now.program unmakeable.now }
     requires view { IsViewOf file.now.bytes.now view.now }
     requires whole { IsRefused file.now.bytes.now → ⊥ }
@@ -76,7 +82,9 @@ fn add_view_lines(
 {
     match view {
         FileView::Class(class) => {
-            add_class_lines(alloc, found, linker, unmakeable, file.path, class)
+            add_class_lines(
+                alloc, found, linker, directory, unmakeable, file.path, class,
+            )
         }
         FileView::Malformed => unreachable!(),
     }
@@ -87,10 +95,12 @@ pub fn add_file_lines(
     alloc: Global,
     found: &mut Vec<Violation>,
     linker: &Linker,
+    directory: Option<&Directory<'_>>,
     unmakeable: &[bool],
     file: &PathFile<'_>,
 ) -> Result<(), LinkError>
     requires plain { linker.now.prefix ≡ [] }
+    requires same { IsDirectoryOf linker.now.program directory }
     requires unmakeable { AreUnmakeable linker.now.program unmakeable.now }
     requires short { length file.now.bytes.now < 2 ^ 32 }
     requires whole { IsRefused file.now.bytes.now → ⊥ }
@@ -98,7 +108,9 @@ pub fn add_file_lines(
 {
     let view = view_file(alloc, file.bytes)?;
     let mut lines = Vec::new(alloc);
-    add_view_lines(alloc, &mut lines, linker, unmakeable, file, &view)?;
+    add_view_lines(
+        alloc, &mut lines, linker, directory, unmakeable, file, &view,
+    )?;
     add_in_order(found, lines)?;
     Ok(())
 }

@@ -4,16 +4,17 @@ ghost use Rattle.dj_pool.specs.Pool.{IsPool, IsClassText, IsLinked, NamesText, t
 ghost use Rattle.dj_pool.specs.Views.{constant_of};
 ghost use Rattle.dj_model.specs.Types.{object_name};
 ghost use Rattle.dj_classes.specs.Tables.{class_number};
-ghost use Rattle.dj_declared.specs.Members.{IsDescriptor};
-ghost use Rattle.dj_check.specs.Classes.{class_text_index, names_at};
+ghost use Rattle.dj_check.specs.Classes.{class_text_index};
 ghost use Rattle.dj_link.specs.Named.{named_type, named_member};
 ghost use Rattle.dj_link.specs.Judged.{tag_of, judged_class, judged_member, judged, AreJudged};
-ghost use Rattle.dj_link.specs.Constants.{text_class, static_in, AreSeen};
+ghost use Rattle.dj_link.specs.Constants.{text_class, static_in, AreSeen, AreNumbersSeenBy, IsDirectoryOf, IsNumbered};
 
 use crate::class_text::{class_text, is_of_library, object_name};
 use crate::error::LinkError;
+use crate::name_numbers::{MemberName, member_name, unseen_numbers};
 use crate::named::{NamedClass, NamedConstant, NamedMember, Tag};
 use crate::statics::is_static_at;
+use dj_directory::Directory;
 use dj_linking::Linker;
 use dj_pool::{Entry, Pool};
 use std::alloc::Global;
@@ -113,18 +114,6 @@ fn class_of(
 
 // ---- members
 
-// The name and the descriptor of the member that a constant names.
-fn names_of<'p>(pool: &Pool<'p>, entry: Entry<'_>) -> Option<(&'p [u8], &'p [u8])>
-    ensures { option_map (λ x. (x.0.now, x.1.now)) result ≡ names_at pool.now (constant_of entry.entry) }
-{
-    match entry {
-        Entry::Field(_, names) => pool.name_and_type(names),
-        Entry::Method(_, names) => pool.name_and_type(names),
-        Entry::InterfaceMethod(_, names) => pool.name_and_type(names),
-        _ => None,
-    }
-}
-
 // The number of the class in which members of a class are looked for: those of an array are Object's.
 fn member_class(object: Option<u32>, class: NamedClass) -> Option<u32>
     ensures { result ≡ if nat_eq class.dims 0 then class.number else object }
@@ -139,38 +128,44 @@ fn member_class(object: Option<u32>, class: NamedClass) -> Option<u32>
 // Whether what a constant names in the class of a number is static, where there is such a class.
 fn is_static_in(
     linker: &Linker,
+    directory: Option<&Directory<'_>>,
     entry: Entry<'_>,
     class: Option<u32>,
-    name: &[u8],
-    desc: &[u8],
+    named: MemberName<'_>,
 ) -> Option<bool>
+    requires same { IsDirectoryOf linker.now.program directory }
     requires there { IfSome class (λ number. number < length linker.now.program) }
-    requires described { IsDescriptor desc.now }
-    ensures { result ≡ static_in linker.now (constant_of entry.entry) class name.now desc.now }
+    requires named { IsNumbered directory named }
+    ensures { result ≡ static_in linker.now (constant_of entry.entry) class named.entry.name.now named.entry.desc.now }
 {
-    is_static_at(linker, entry, class?, name, desc)
+    is_static_at(linker, directory, entry, class?, named)
 }
 
 // The member that a constant names, where its class is this one.
 fn member_of(
     linker: &Linker,
+    directory: Option<&Directory<'_>>,
     pool: &Pool<'_>,
+    numbers: &mut [Option<Option<u32>>],
     object: Option<u32>,
     entry: Entry<'_>,
     class: Option<NamedClass>,
 ) -> Option<NamedMember>
     requires plain { linker.now.prefix ≡ [] }
+    requires same { IsDirectoryOf linker.now.program directory }
+    requires numbers { AreNumbersSeenBy directory pool.now numbers.old }
     requires object { object ≡ class_number linker.now.program (object_name []) }
     requires linked { IsLinked pool.now (constant_of entry) }
     requires class { class ≡ option_map (judged_class linker.now.program) (named_type pool.now (constant_of entry)) }
-    ensures { result ≡ option_map (judged_member linker.now.program (constant_of entry.entry)) (named_member pool.now (constant_of entry.entry)) }
+    ensures numbers { AreNumbersSeenBy directory.entry pool.now numbers.new }
+    ensures member { result ≡ option_map (judged_member linker.now.program (constant_of entry.entry)) (named_member pool.now (constant_of entry.entry)) }
 {
     let class = class?;
-    let (name, desc) = names_of(pool, entry)?;
+    let named = member_name(directory, pool, numbers, entry)?;
     Some(NamedMember {
-        is_static: is_static_in(linker, entry, member_class(object, class), name, desc),
-        is_constructor: name == b"<init>".as_slice(),
-        is_initialiser: name == b"<clinit>".as_slice(),
+        is_static: is_static_in(linker, directory, entry, member_class(object, class), named),
+        is_constructor: named.name == b"<init>".as_slice(),
+        is_initialiser: named.name == b"<clinit>".as_slice(),
     })
 }
 
@@ -179,21 +174,26 @@ fn member_of(
 // What a constant names.
 fn judge_constant(
     linker: &Linker,
+    directory: Option<&Directory<'_>>,
     pool: &Pool<'_>,
     object: Option<u32>,
     seen: &mut [Option<NamedClass>],
+    numbers: &mut [Option<Option<u32>>],
     entry: Entry<'_>,
 ) -> NamedConstant
     requires plain { linker.now.prefix ≡ [] }
+    requires same { IsDirectoryOf linker.now.program directory }
+    requires numbers { AreNumbersSeenBy directory pool.now numbers.old }
     requires object { object ≡ class_number linker.now.program (object_name []) }
     requires valid { IsPool pool.now }
     requires linked { IsLinked pool.now (constant_of entry) }
     requires seen { AreSeen linker.now.program pool.now seen.old }
     ensures seen { AreSeen linker.now.program pool.now seen.new }
+    ensures numbers { AreNumbersSeenBy directory.entry pool.now numbers.new }
     ensures constant { result ≡ judged linker.now.program pool.now (constant_of entry.entry) }
 {
     let class = class_of(linker, pool, seen, entry);
-    let member = member_of(linker, pool, object, entry, class);
+    let member = member_of(linker, directory, pool, numbers, object, entry, class);
     NamedConstant {
         tag: tag_of(entry),
         class,
@@ -201,22 +201,33 @@ fn judge_constant(
     }
 }
 
-/// What each constant of a pool names, by its index. Each text of a class is looked at once.
+/// What each constant of a pool names, by its index. Each text is looked at once.
 pub fn judge_constants(
     alloc: Global,
     linker: &Linker,
+    directory: Option<&Directory<'_>>,
     pool: &Pool<'_>,
 ) -> Result<Vec<Option<NamedConstant>>, LinkError>
     requires plain { linker.now.prefix ≡ [] }
+    requires same { IsDirectoryOf linker.now.program directory }
     requires valid { IsPool pool.now }
     ensures { IfOk result (λ kept. AreJudged linker.now.program pool.now kept.items) }
 {
     let object = linker.classes().class_named(object_name());
     let entries = pool.as_slice();
     let mut seen = vec![in alloc; None; entries.len() + 1]?;
+    let mut numbers = unseen_numbers(alloc, directory, entries.len() + 1)?;
     let mut kept = vec![in alloc; None]?;
     for entry in entries {
-        let constant = judge_constant(linker, pool, object, &mut seen, *entry);
+        let constant = judge_constant(
+            linker,
+            directory,
+            pool,
+            object,
+            &mut seen,
+            &mut numbers,
+            *entry,
+        );
         kept.push(Some(constant))?;
     }
     Ok(kept)

@@ -3,13 +3,36 @@ ghost use Rattle.dj_report.specs.Lines.{Adds, AreExactly};
 ghost use Rattle.dj_rules.specs.Views.{path_file_view};
 ghost use Rattle.dj_check.specs.Malformed.{IsRefused};
 ghost use Rattle.dj_link.specs.Lines.{IsLinkLine};
+ghost use Rattle.dj_link.specs.Constants.{IsDirectoryOf};
 
 use crate::class::add_file_lines;
 use crate::classes::unmakeable_classes;
 use crate::error::LinkError;
+use dj_directory::Directory;
 use dj_linking::Linker;
 use dj_report::{PathFile, Violation, Violations, in_order};
 use std::alloc::Global;
+
+// Appends all lines of the rules 17 and 18. No file violates rule 1. The directory, where there is one, is that of the linked classes.
+fn add_lines_by(
+    alloc: Global,
+    found: &mut Vec<Violation>,
+    linker: &Linker,
+    directory: Option<&Directory<'_>>,
+    files: &[PathFile<'_>],
+) -> Result<(), LinkError>
+    requires plain { linker.now.prefix ≡ [] }
+    requires same { IsDirectoryOf linker.now.program directory }
+    requires short { All (λ file. length file.bytes.now < 2 ^ 32) files.now }
+    requires whole { All (λ file. IsRefused file.bytes.now → ⊥) files.now }
+    ensures { OnOk result (Adds (IsLinkLine linker.now.program (map path_file_view files.now)) found.old.items found.new.items) }
+{
+    let unmakeable = unmakeable_classes(alloc, linker.classes())?;
+    for file in files {
+        add_file_lines(alloc, found, linker, directory, &unmakeable, file)?;
+    }
+    Ok(())
+}
 
 /// Appends all lines of the rules 17 and 18. No file violates rule 1.
 pub fn add_link_lines(
@@ -23,11 +46,11 @@ pub fn add_link_lines(
     requires whole { All (λ file. IsRefused file.bytes.now → ⊥) files.now }
     ensures { OnOk result (Adds (IsLinkLine linker.now.program (map path_file_view files.now)) found.old.items found.new.items) }
 {
-    let unmakeable = unmakeable_classes(alloc, linker.classes())?;
-    for file in files {
-        add_file_lines(alloc, found, linker, &unmakeable, file)?;
+    let directory = linker.directory(alloc)?;
+    match &directory {
+        Some(directory) => add_lines_by(alloc, found, linker, Some(directory), files),
+        None => add_lines_by(alloc, found, linker, None, files),
     }
-    Ok(())
 }
 
 /// All violations of the rules 17 and 18, in order, each once. No file violates rule 1.

@@ -13,6 +13,7 @@ mod judge;
 mod kept;
 mod known;
 mod methods;
+mod name_numbers;
 mod named;
 mod passes;
 mod statics;

@@ -13,5 +13,7 @@ pub mod Selections
 pub mod Specials
 pub mod Subclasses
 pub mod Walks
+pub mod Numbered
+pub mod Unnumbered
 mod LinkedFacts
 mod ListedFacts

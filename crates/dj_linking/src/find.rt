@@ -15,7 +15,8 @@ pub const PRIVATE: u16 = 0x0002;
 /// JVMS table 4.6-A.
 pub const STATIC: u16 = 0x0008;
 
-const INTERFACE: u16 = 0x0200;
+/// JVMS table 4.1-A.
+pub const INTERFACE: u16 = 0x0200;
 
 /// No program has as many classes.
 pub const MOST_CLASSES: u64 = 4_294_967_296;

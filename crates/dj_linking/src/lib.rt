@@ -4,10 +4,13 @@
 mod above;
 mod ancestors;
 mod chains;
+mod costly;
+mod described;
 mod downward;
 mod empty;
 mod fields;
 mod find;
+mod find_numbered;
 mod linker;
 mod methods;
 mod numbers;
@@ -16,5 +19,6 @@ mod select;
 mod special;
 mod words;
 
+pub use described::{resolve_field_of, resolve_method_of};
 pub use dj_classes::{ClassTable, Place, TableError};
 pub use linker::{BaseNames, Linker};

@@ -1,4 +1,4 @@
-ghost use Rattle.std.specs.Prelude.{◌≡◌, ◌<◌, length, Some, IfOk, IfSome};
+ghost use Rattle.std.specs.Prelude.{◌≡◌, ℕ, List, ◌<◌, length, Some, IfOk, IfSome};
 ghost use Rattle.std.specs.Option.{option_map};
 ghost use Rattle.dj_names.specs.declared.descriptor.Ty.{Ty};
 ghost use Rattle.dj_classes.specs.Tables.{class_number, methods_at, method_there, field_there};
@@ -7,18 +7,23 @@ ghost use Rattle.dj_model.specs.Types.{object_name};
 ghost use Rattle.dj_model.specs.Linking.{FoundMethod, is_subclass, member_class, select, special_method};
 ghost use Rattle.dj_declared.specs.Files.{desc_in};
 ghost use Rattle.dj_linking.specs.Numbers.{IsNamed, TellsMethod};
+ghost use Rattle.dj_linking.specs.Numbered.{AreTexts};
 ghost use Rattle.dj_linking.specs.Linked.{Linked, prefix_of, class_name, resolved_method, resolved_field};
 
 use crate::above::interfaces_above;
 use crate::ancestors::is_above;
 use crate::chains::Chains;
+use crate::costly::are_costly;
 use crate::downward::downward;
 use crate::fields::field_chains;
 use crate::find::{field_up, method_first, plain_method_up};
+use crate::find_numbered;
 use crate::methods::method_chains;
 use crate::select::selected_method;
 use crate::special::{instance_method_above, is_superclass};
 use dj_classes::{ClassTable, Place, TableError};
+use dj_directory::Directory;
+use dj_names::NoMemory;
 use std::alloc::Global;
 use std::marker::Model;
 
@@ -101,6 +106,17 @@ impl Linker {
         self.base
     }
 
+    /// The members by the numbers of their texts, where a search by the texts themselves could take long.
+    pub fn directory(&self, alloc: Global) -> Result<Option<Directory<'_>>, NoMemory>
+        ensures { IfOk result (λ directory. IfSome directory (λ d. d.program ≡ self.now.program)) }
+    {
+        if are_costly(&self.table, &self.above) {
+            Ok(Some(Directory::of(alloc, &self.table)?))
+        } else {
+            Ok(None)
+        }
+    }
+
     /// The method to which a name and a descriptor resolve in a class (JVMS 5.4.3.3 and 5.4.3.4).
     pub fn resolve_method(&self, class: u32, name: &[u8], desc: &[u8]) -> Option<Place>
         requires there { class < length self.now.program }
@@ -122,6 +138,48 @@ impl Linker {
     {
         self.table.names_differ();
         field_up(&self.table, &self.above, &self.fields, class, name, desc)
+    }
+
+    /// The method to which the name and the descriptor of these numbers of a directory resolve in a class (JVMS 5.4.3.3 and 5.4.3.4).
+    pub fn resolve_numbered_method(
+        &self,
+        directory: &Directory<'_>,
+        class: u32,
+        name: u32,
+        desc: u32,
+    ) -> Option<Place>
+        requires same { directory.now.program ≡ self.now.program }
+        requires there { class < length self.now.program }
+        ensures { (n d : List ℕ) → AreTexts directory.now name desc n d → option_map (method_there self.now.program) result ≡ option_map Some (resolved_method self.now class n d) }
+    {
+        self.table.names_differ();
+        match find_numbered::method_first(directory, self.object, class, name, desc) {
+            Some(place) => Some(place),
+            None => find_numbered::plain_method_up(
+                directory,
+                &self.above,
+                &self.methods,
+                class,
+                name,
+                desc,
+            ),
+        }
+    }
+
+    /// The field to which the name and the descriptor of these numbers of a directory resolve in a class (JVMS 5.4.3.2).
+    pub fn resolve_numbered_field(
+        &self,
+        directory: &Directory<'_>,
+        class: u32,
+        name: u32,
+        desc: u32,
+    ) -> Option<Place>
+        requires same { directory.now.program ≡ self.now.program }
+        requires there { class < length self.now.program }
+        ensures { (n d : List ℕ) → AreTexts directory.now name desc n d → option_map (field_there self.now.program) result ≡ option_map Some (resolved_field self.now class n d) }
+    {
+        self.table.names_differ();
+        find_numbered::field_up(directory, &self.above, &self.fields, class, name, desc)
     }
 
     /// Whether a class is the other one, or has it above it (JVMS 4.10.1.2).

@@ -19,3 +19,4 @@ pub mod RefusalFacts
 pub mod FiledFacts
 pub mod LibraryFacts
 pub mod PartingFacts
+mod FilledFacts

@@ -33,7 +33,7 @@ use Rattle.dj_loader.specs.Loads.{methods_of, fields_of, AreFewMembers, above_na
 use Rattle.dj_loader.specs.Parting.{IsTableOf, ArePartsOf}
 use Rattle.dj_loader.proofs.Lists.{member_first, member_none, member_cases}
 
-other_name : (x y : Name) → same_name x y ≡ false → x ≡ y → ⊥
+pub other_name : (x y : Name) → same_name x y ≡ false → x ≡ y → ⊥
 other_name x y differ e = not_both (same_name x y) (same_from_names x y e) differ
 
 -- ---- tables of a library's classes, which stand under nothing
@@ -139,6 +139,12 @@ too_many_fields n le few =
     ap length (append-nil (replicate n field)) ∙ length-replicate n field in
     omega (arith, le, few.fields, all)
 
+all_few_fields : (n : ℕ) → n < 2 ^ 32 → AreFewMembers (record (class a) { fields = replicate n field } ∷ [])
+all_few_fields n lt =
+    let all : length (flat_map fields_of (record (class a) { fields = replicate n field } ∷ [])) ≡ n =
+    ap length (append-nil (replicate n field)) ∙ length-replicate n field in
+    record { methods = lit< tt; fields = omega (arith, lt, all) }
+
 -- ---- the parts of a class that a file defines
 
 abbrev method : ℕ → ℕ → MemberInfo
@@ -228,6 +234,12 @@ first_bare p bare = record { many = refl; each = each } where
 value_of_bare : (p : ClassParts) → p.values.items ≡ None ∷ [] → AreFirstParts (class a ∷ []) [] (None ∷ []) 1 (p ∷ []) → ⊥
 value_of_bare p is are =
     let e : 1 ≡ 0 = ap length (sym is ∙ (are.each 0 p refl).values) in
+    omega (arith, e)
+
+-- and as many as the members of its own class, which are more than those of the first one
+second_of_first : (m : LibraryMethod) (p q : ClassParts) → q.codes.items ≡ [] → AreFirstParts (class a ∷ library_class (record (row b) { methods = m ∷ [] }) ∷ []) [] (None ∷ None ∷ []) 2 (p ∷ q ∷ []) → ⊥
+second_of_first m p q is are =
+    let e : 0 ≡ 1 = ap length (sym is ∙ (are.each 1 q refl).codes) in
     omega (arith, e)
 
 parts_of_none : (library : Library) (files : List ClassFile) → ArePartsOf library files [] []

@@ -230,3 +230,10 @@ too_many n le few =
     let all : length (flat_map methods_of (many n ∷ [])) ≡ n =
     ap length (append-nil (many n).methods) ∙ length-replicate n (record { flags = 1025; name = codes "m"; desc = descs.Method [] None; body = Abstract }) in
     omega (arith, le, few.methods, all)
+
+-- and each number below that is few
+all_few : (n : ℕ) → n < 2 ^ 32 → AreFewMembers (many n ∷ [])
+all_few n lt =
+    let all : length (flat_map methods_of (many n ∷ [])) ≡ n =
+    ap length (append-nil (many n).methods) ∙ length-replicate n (record { flags = 1025; name = codes "m"; desc = descs.Method [] None; body = Abstract }) in
+    record { methods = omega (arith, lt, all); fields = lit< tt }

@@ -4,7 +4,7 @@ use crate::answers::{told_body, told_class, told_method, told_number, told_opera
 use crate::members::{
     Member, caught_class, class_of, named_class, operand_of, own_method, selected_method,
 };
-use crate::set::image;
+use crate::set::{image, numbered_image};
 use dj_image::{Image, MethodId};
 use std::alloc::Global;
 
@@ -214,6 +214,42 @@ const NAMED: [MethodRow; 24] = [
 
 const TABLES: [&[MethodRow]; 3] = [&SELECTED, &BODIES, &NAMED];
 
+// What constants name by long texts.
+const LOW: Member = ("l/Low", "all", "(Ljava/lang/Object;)V");
+
+const NUMBERED: [MethodRow; 6] = [
+    (
+        LOW,
+        OfMethod::Operand(3),
+        "Method l/Long aLongNameoooooooooooooooooooooooooooooooooooooooooo\
+        ooooooooooooooooooooooooooooooooooooooooooooooooooo\
+        ooooooooooooooooooooooooooooooooooooooooooooooooooo\
+        ooooooooooooooooooooooooooooooooooooooooooooooooooo ()V",
+    ),
+    (
+        LOW,
+        OfMethod::Operand(4),
+        "Method l/Long aLongNameoooooooooooooooooooooooooooooooooooooooooo\
+        ooooooooooooooooooooooooooooooooooooooooooooooooooo\
+        ooooooooooooooooooooooooooooooooooooooooooooooooooo\
+        ooooooooooooooooooooooooooooooooooooooooooooooooooo ()V",
+    ),
+    (LOW, OfMethod::Operand(5), "Unresolved"),
+    (LOW, OfMethod::Operand(6), "Unresolved"),
+    (LOW, OfMethod::Operand(7), "Unresolved"),
+    (
+        LOW,
+        OfMethod::Operand(8),
+        "Field l/Long aLongNameoooooooooooooooooooooooooooooooooooooooooo\
+        ooooooooooooooooooooooooooooooooooooooooooooooooooo\
+        ooooooooooooooooooooooooooooooooooooooooooooooooooo\
+        ooooooooooooooooooooooooooooooooooooooooooooooooooo I",
+    ),
+];
+
+// With long texts members are looked up by numbers, and the others are found as before.
+const NUMBERED_TABLES: [&[MethodRow]; 4] = [&SELECTED, &BODIES, &NAMED, &NUMBERED];
+
 fn told_selected(alloc: Global, image: &Image, method: MethodId, receiver: &str) -> Option<String>
     requires { HasMethod image.now method }
 {
@@ -252,6 +288,21 @@ fn is_answered(alloc: Global, image: &Image, row: &MethodRow) -> bool {
             None => false,
         },
         None => false,
+    }
+}
+
+#[test]
+fn asked_with_numbers(rt: HostRuntime) {
+    let image = numbered_image(rt.alloc());
+    for table in &NUMBERED_TABLES {
+        for row in *table {
+            assert!(rt;
+                matches!(&image, Some(image) if is_answered(rt.alloc(), image, row)),
+                "{:?} {:?}",
+                row.0,
+                row.1
+            );
+        }
     }
 }
 

@@ -239,6 +239,55 @@ pub const IMAGE: [&[u8]; 7] = [
         .end\n",
 ];
 
+/// A class with a field and a method of a long name, and a class below it that names them, and a name that differs in the last byte.
+pub const LONG_NAMED: [&[u8]; 2] = [
+    b".class 421 l/Long\n\
+        .super java/lang/Object\n\
+        .field 9 aLongNameoooooooooooooooooooooooooooooooooooooooooo\
+        ooooooooooooooooooooooooooooooooooooooooooooooooooo\
+        ooooooooooooooooooooooooooooooooooooooooooooooooooo\
+        ooooooooooooooooooooooooooooooooooooooooooooooooooo I\n\
+        .abstract 401 aLongNameoooooooooooooooooooooooooooooooooooooooooo\
+        ooooooooooooooooooooooooooooooooooooooooooooooooooo\
+        ooooooooooooooooooooooooooooooooooooooooooooooooooo\
+        ooooooooooooooooooooooooooooooooooooooooooooooooooo ()V\n",
+    b".class 421 l/Low\n\
+        .super l/Long\n\
+        .method 9 all (Ljava/lang/Object;)V\n\
+        .stack 9\n\
+        .locals 1\n\
+        aload_0\n\
+        checkcast l/Low\n\
+        astore_0\n\
+        invokevirtual l/Low aLongNameoooooooooooooooooooooooooooooooooooooooooo\
+        ooooooooooooooooooooooooooooooooooooooooooooooooooo\
+        ooooooooooooooooooooooooooooooooooooooooooooooooooo\
+        ooooooooooooooooooooooooooooooooooooooooooooooooooo ()V\n\
+        invokevirtual l/Long aLongNameoooooooooooooooooooooooooooooooooooooooooo\
+        ooooooooooooooooooooooooooooooooooooooooooooooooooo\
+        ooooooooooooooooooooooooooooooooooooooooooooooooooo\
+        ooooooooooooooooooooooooooooooooooooooooooooooooooo ()V\n\
+        invokevirtual [I aLongNameoooooooooooooooooooooooooooooooooooooooooo\
+        ooooooooooooooooooooooooooooooooooooooooooooooooooo\
+        ooooooooooooooooooooooooooooooooooooooooooooooooooo\
+        ooooooooooooooooooooooooooooooooooooooooooooooooooo ()V\n\
+        invokevirtual l/Low aLongNameoooooooooooooooooooooooooooooooooooooooooo\
+        ooooooooooooooooooooooooooooooooooooooooooooooooooo\
+        ooooooooooooooooooooooooooooooooooooooooooooooooooo\
+        ooooooooooooooooooooooooooooooooooooooooooooooooooo (I)V\n\
+        invokevirtual l/Low aLongNameoooooooooooooooooooooooooooooooooooooooooo\
+        ooooooooooooooooooooooooooooooooooooooooooooooooooo\
+        ooooooooooooooooooooooooooooooooooooooooooooooooooo\
+        oooooooooooooooooooooooooooooooooooooooooooooooooox ()V\n\
+        getstatic l/Low aLongNameoooooooooooooooooooooooooooooooooooooooooo\
+        ooooooooooooooooooooooooooooooooooooooooooooooooooo\
+        ooooooooooooooooooooooooooooooooooooooooooooooooooo\
+        ooooooooooooooooooooooooooooooooooooooooooooooooooo I\n\
+        pop\n\
+        return\n\
+        .end\n",
+];
+
 // The class A with a method that takes an array of bytes and returns it.
 pub const RETURNING: &[u8] = b".class 21 A\n\
     .super java/lang/Object\n\

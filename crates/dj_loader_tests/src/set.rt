@@ -5,7 +5,7 @@ ghost use Rattle.dj_class.specs.Views.{class_of};
 ghost use Rattle.dj_check.specs.Malformed.{IsFaultyMethod, HasFaultyMethod};
 ghost use Rattle.dj_loader_tests.specs.Sets.{IsSmallLibrary, IsSound};
 
-use crate::programs::IMAGE;
+use crate::programs::{IMAGE, LONG_NAMED};
 use dj_asm::assemble;
 use dj_check::{MethodCode, RulesError, code_of_method};
 use dj_class::{ClassView, MemberView, read_class};
@@ -182,4 +182,22 @@ pub fn raw_image(alloc: Global) -> Option<Image> {
 /// The image of a program.
 pub fn image(alloc: Global) -> Option<Image> {
     plain_image(alloc, &IMAGE)
+}
+
+// The texts of a program, and of classes that have members of long names.
+fn numbered_texts(alloc: Global) -> Option<Vec<&'static [u8]>> {
+    let mut texts = Vec::new(alloc);
+    for text in &IMAGE {
+        texts.push(*text).ok()?;
+    }
+    for text in &LONG_NAMED {
+        texts.push(*text).ok()?;
+    }
+    Some(texts)
+}
+
+/// The image of the program, and of classes that have members of long names.
+pub fn numbered_image(alloc: Global) -> Option<Image> {
+    let texts = numbered_texts(alloc)?;
+    plain_image(alloc, &texts)
 }

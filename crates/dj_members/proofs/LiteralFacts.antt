@@ -12,7 +12,7 @@ use Rattle.dj_names.specs.Heaps.{Heap, Text, next_number, text_size, with_new}
 use Rattle.dj_model.specs.State.{Next}
 use Rattle.dj_heap.specs.Heaps.{LimitedHeap, Makes, Refuses}
 use Rattle.dj_heap.specs.declared.errors.HeapError.TheVariants as errors
-use Rattle.dj_members.specs.Literals.{literal_flows, object_of, object_told, push_text_by, pushed}
+use Rattle.dj_members.specs.Literals.{KeptBy, kept_by, kept_or_made_by, literal_flows, object_of, object_told, push_text_by, pushed}
 
 zeros : (n text : ℕ) → ◌≡◌ {A = ℕ} (get_or (replicate n 0) text 0) 0
 zeros zero text = refl
@@ -94,3 +94,30 @@ pushes_none h class text used size units made operands none cause =
     else literal_flows (with_new h.heap (Text class units)) (made ++ (text, next_number h.heap) ∷ []) (values.Ref (next_number h.heap) ∷ operands) (Ok Next)) past
     ∙ (ap (λ (used : ℕ). literal_flows h.heap made operands (Err (outcomes.HeapFull used (text_size units)))) (sym cause.0)
     ∙ ap (λ (size : ℕ). literal_flows h.heap made operands (Err (outcomes.HeapFull used size))) (sym cause.1)))
+
+-- ---- what is kept
+
+abbrev kept_as : ℕ → Heap ℕ → List (ℕ × ℕ) → KeptBy
+kept_as r heap made = record { object = r; heap = heap; literals = made }
+
+pub kept_there : (limit : Option ℕ) (class text r : ℕ) (units : List ℕ) (heap : Heap ℕ) (made : List (ℕ × ℕ)) → Some r ≡ object_of made text
+    → kept_by limit class text units heap made ≡ Some (record { object = r; heap = heap; literals = made })
+kept_there limit class text r units heap made there = ap (kept_or_made_by limit class text units heap made) (sym there)
+
+pub kept_new : (old new : LimitedHeap) (class text r : ℕ) (units : List ℕ) (made now : List (ℕ × ℕ))
+    → None ≡ object_of made text → Makes old new (Text class units) r → now ≡ made ++ (text, r) ∷ []
+    → kept_by (Some old.limit) class text units old.heap made ≡ Some (record { object = r; heap = new.heap; literals = now })
+kept_new old new class text r units made now none m kept =
+    let fits : nat_lt old.limit (old.heap.used + text_size units) ≡ false = le-ltb old.limit (old.heap.used + text_size units) m.fits in
+    ap (kept_or_made_by (Some old.limit) class text units old.heap made) (sym none)
+    ∙ (ap (λ (b : Bool). if b then None else Some (kept_as (next_number old.heap) (with_new old.heap (Text class units)) (made ++ (text, next_number old.heap) ∷ []))) fits
+    ∙ (ap (λ (h : LimitedHeap). Some (kept_as (next_number old.heap) h.heap (made ++ (text, next_number old.heap) ∷ []))) (sym m.heap)
+    ∙ (ap (λ (r : ℕ). Some (kept_as r new.heap (made ++ (text, r) ∷ []))) (sym m.number)
+    ∙ ap (λ (now : List (ℕ × ℕ)). Some (kept_as r new.heap now)) (sym kept))))
+
+pub kept_none : (h : LimitedHeap) (class text used size : ℕ) (units : List ℕ) (made : List (ℕ × ℕ))
+    → None ≡ object_of made text → Refuses h (text_size units) (errors.Full used size) → kept_by (Some h.limit) class text units h.heap made ≡ None
+kept_none h class text used size units made none cause =
+    let past : nat_lt h.limit (h.heap.used + text_size units) ≡ true = lt-ltb h.limit (h.heap.used + text_size units) cause.2 in
+    ap (kept_or_made_by (Some h.limit) class text units h.heap made) (sym none)
+    ∙ ap (λ (b : Bool). if b then None else Some (kept_as (next_number h.heap) (with_new h.heap (Text class units)) (made ++ (text, next_number h.heap) ∷ []))) past

@@ -26,7 +26,8 @@ use Rattle.dj_names.specs.Types.{class_type, base_array}
 use Rattle.dj_members.specs.Fields.{get_field_by, put_field_by, holder_by, holder_told}
 use Rattle.dj_members.specs.Objects.{HasObject, check_cast_by, instance_of_by, new_by, throw_by}
 use Rattle.dj_members.specs.Statics.{DoesOnStatics, leaves, get_static_by, put_static_by}
-use Rattle.dj_members.specs.Literals.{AreTexts, object_of, object_told, literals_map, push_text_by, literal_flows, OnLiterals, LiteralTable, DoesOnLiterals}
+use Rattle.dj_members.specs.declared.literals.Kept.TheVariants as keeps
+use Rattle.dj_members.specs.Literals.{AreTexts, IsFull, kept_by, object_of, object_told, literals_map, push_text_by, literal_flows, OnLiterals, LiteralTable, DoesOnLiterals}
 
 -- the class 2 and those below it have the field, which are those of even numbers
 abbrev even : ℕ → Bool
@@ -210,6 +211,19 @@ kept_told = record {
 
 abbrev literals_told : OnLiterals → List (ℕ × ℕ)
 literals_told e = e.literals
+
+-- and by itself
+kept_by_itself : kept_by (Some 100) 9 1 (66 ∷ []) (heap 5).heap ((1, 2) ∷ []) ≡ Some (record { object = 2; heap = (heap 5).heap; literals = (1, 2) ∷ [] })
+kept_by_itself = refl
+
+not_kept : kept_by (Some 100) 9 1 (66 ∷ []) (heap 5).heap [] ≡ None
+not_kept = refl
+
+is_full : IsFull (66 ∷ []) (heap 5) (heap 5) (table []) (table []) (keeps.HeapFull 80 24)
+is_full = (refl, refl, refl, refl)
+
+not_so_full : IsFull (66 ∷ []) (heap 5) (heap 5) (table []) (table []) (keeps.HeapFull 80 16) → ⊥
+not_so_full full = let size : 16 ≡ 24 = full.1 in omega (arith, size)
 
 -- a literal is made once
 anew_apart : literal_flows (heap 5).heap ((1, 2) ∷ []) (values.Ref 2 ∷ []) (Ok Next) ≡ literal_flows (heap 5).heap ((1, 2) ∷ (1, 4) ∷ []) (values.Ref 2 ∷ []) (Ok Next) → ⊥

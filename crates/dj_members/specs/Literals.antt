@@ -8,12 +8,15 @@ use Rattle.dj_names.specs.declared.run.Outcome.{Outcome}
 use Rattle.dj_names.specs.declared.run.Outcome.TheVariants as outcomes
 use Rattle.dj_names.specs.Heaps.{Heap, Text, heap_map, next_number, text_size, with_new}
 use Rattle.dj_model.specs.State as model
+use Rattle.dj_model.specs.Members as members
 use Rattle.dj_model.specs.State.{Literal, Next, Part, Effect}
 use Rattle.dj_model.specs.Effects.{flow_of}
 use Rattle.dj_natives.specs.Numbered.{type_at}
 use Rattle.dj_model.specs.Arrays.{passes_limit}
 use Rattle.dj_heap.specs.Heaps.{LimitedHeap}
 use Rattle.dj_stack.specs.Frames.{StackFrame, SameButOperands, top_operands}
+use Rattle.dj_members.specs.declared.literals.Kept as kept
+use Rattle.dj_members.specs.declared.literals.Kept.TheVariants as variants
 use Rattle.dj_effects.specs.declared.way.Flow.{Flow}
 use Rattle.dj_effects.specs.DoesOnHeap.{flow_view, told_beside}
 
@@ -79,3 +82,45 @@ pub record DoesOnLiterals (effect_of : Heap ℕ → List (ℕ × ℕ) → List V
   pub limit : after.limit ≡ before.limit
   pub count : now.count ≡ literals.count
   pub frames : SameButOperands old new
+
+-- ---- a literal's object by itself
+
+-- the object of a literal, and the heap and the literals with it
+pub record KeptBy : Type 0 where
+  pub object : ℕ
+  pub heap : Heap ℕ
+  pub literals : List (ℕ × ℕ)
+
+abbrev pub kept_or_made_by : Option ℕ → ℕ → ℕ → List ℕ → Heap ℕ → List (ℕ × ℕ) → Option ℕ → Option KeptBy
+kept_or_made_by limit class text units heap literals (Some r) = Some (record { object = r; heap = heap; literals = literals })
+kept_or_made_by limit class text units heap literals None =
+    if passes_limit limit (heap.used + text_size units) then None
+    else Some (record {
+      object = next_number heap;
+      heap = with_new heap (Text class units);
+      literals = literals ++ (text, next_number heap) ∷ [];
+    })
+
+-- a literal has one text object, of the class, which is made when it is first asked for; none where it doesn't fit
+abbrev pub kept_by : Option ℕ → ℕ → ℕ → List ℕ → Heap ℕ → List (ℕ × ℕ) → Option KeptBy
+kept_by limit class text units heap literals = kept_or_made_by limit class text units heap literals (object_of literals text)
+
+-- in the model
+abbrev pub kept_map : List Ty → List (List ℕ) → KeptBy → members.Kept
+kept_map types texts k = record { object = k.object; heap = heap_map (type_at types) k.heap; literals = literals_map texts k.literals }
+
+abbrev pub kept_told : LimitedHeap → LiteralTable → kept.Kept → Option KeptBy
+kept_told after now (variants.Object r) = Some (record { object = r; heap = after.heap; literals = now.made })
+kept_told after now (variants.HeapFull used size) = None
+
+-- where it doesn't fit so many bytes are told, and nothing has changed
+abbrev pub IsFull : List ℕ → LimitedHeap → LimitedHeap → LiteralTable → LiteralTable → kept.Kept → Type 0
+IsFull units before after literals now (variants.Object r) = ⊤
+IsFull units before after literals now (variants.HeapFull used size) = (used ≡ before.heap.used) × (size ≡ text_size units) × (after ≡ before) × (now ≡ literals)
+
+-- the heap and the literals are as they are with the object, where it is told
+pub record Keeps (class text : ℕ) (units : List ℕ) (before after : LimitedHeap) (literals now : LiteralTable) (told : kept.Kept) : Type 0 where
+  pub effect : kept_by (Some before.limit) class text units before.heap literals.made ≡ kept_told after now told
+  pub full : IsFull units before after literals now told
+  pub limit : after.limit ≡ before.limit
+  pub count : now.count ≡ literals.count

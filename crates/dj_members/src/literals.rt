@@ -1,6 +1,6 @@
 ghost use Rattle.std.specs.Prelude.{◌≡◌, ◌<◌, ◌++◌, ◌∷◌, [], ℕ, Some, None, length, slice_index, IfOk, OnOk, OnErr};
 ghost use Rattle.dj_stack.specs.Frames.{top_operands, top_room};
-ghost use Rattle.dj_members.specs.Literals.{DoesOnLiterals, object_of, object_told, push_text_by};
+ghost use Rattle.dj_members.specs.Literals.{DoesOnLiterals, Keeps, object_of, object_told, push_text_by};
 
 use dj_effects::{Flow, Way};
 use dj_heap::{Heap, HeapError};
@@ -17,6 +17,15 @@ pub struct Literals {
     // Each literal's text and object.
     made: Vec<(u32, u32)>,
     ghost told: { (text : ℕ) → object_told (slice_index objects.items text) ≡ object_of made.items text },
+}
+
+/// What came of a text that has to have an object.
+#[derive(Clone, Copy, Debug)]
+pub enum Kept {
+    /// Its object.
+    Object(u32),
+    /// There is none yet, and it doesn't fit.
+    HeapFull { used: u64, size: u64 },
 }
 
 impl Model for Literals {
@@ -89,6 +98,31 @@ pub fn push_text(
             Ok(Flow::Goes(Way::Next))
         }
         Err(HeapError::Full { used, size }) => Ok(Flow::HeapFull { used, size }),
+        Err(HeapError::Memory) => Err(NoMemory::Memory),
+    }
+}
+
+/// The object of a text's literal. Where it isn't there yet, it is made of the text's units, of the class String, whose number is told.
+#[tactic(auto, using(crate::proofs::LiteralFacts::kept_there, crate::proofs::LiteralFacts::kept_none))]
+pub fn keep_text(
+    heap: &mut Heap,
+    literals: &mut Literals,
+    string: u32,
+    text: u32,
+    units: &[u16],
+) -> Result<Kept, NoMemory>
+    requires { text < literals.old.count }
+    ensures { IfOk result (λ kept. Keeps string text units.now heap.old heap.new literals.old literals.new kept) }
+{
+    if let Some(r) = literals.object(text) {
+        return Ok(Kept::Object(r));
+    }
+    match heap.text(string, units) {
+        Ok(r) => {
+            literals.keep(text, r)?;
+            Ok(Kept::Object(r))
+        }
+        Err(HeapError::Full { used, size }) => Ok(Kept::HeapFull { used, size }),
         Err(HeapError::Memory) => Err(NoMemory::Memory),
     }
 }

@@ -33,8 +33,8 @@ impl Statics {
         })
     }
 
-    // Gives a field other bits.
-    fn set(&mut self, place: u32, bits: u64)
+    /// Gives a field other bits.
+    pub fn set(&mut self, place: u32, bits: u64)
         requires { place < length self.old }
         ensures { self.new ≡ set self.old place bits }
     {

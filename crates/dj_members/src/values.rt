@@ -3,7 +3,7 @@ ghost use Rattle.dj_names.specs.Heaps.{field_bits, field_value};
 
 use dj_names::{Kind, Value};
 
-// The 64 bits of a value, an int with its sign.
+/// The 64 bits of a value, an int with its sign.
 pub fn field_bits(value: Value) -> u64
     ensures { result ≡ field_bits value }
 {

@@ -1,5 +1,5 @@
 -- The classes and arrays of a program by numbers.
-use Rattle.std.specs.Prelude.{◌≡◌, ℕ, zero, suc, ◌<◌, ⊤, Bool, true, false, List, [], Option, Some, None, nat_eq, nat_le, if◌then◌else◌, slice_get, unwrap_or, length}
+use Rattle.std.specs.Prelude.{◌≡◌, ℕ, zero, suc, ◌<◌, ⊤, Bool, true, false, List, [], ◌∷◌, Option, Some, None, nat_eq, nat_le, if◌then◌else◌, slice_get, unwrap_or, length}
 use Rattle.std.specs.Option.{option_map}
 use Rattle.dj_names.specs.declared.descriptor.Ty.{Ty}
 use Rattle.dj_names.specs.declared.descriptor.Of.{Of}
@@ -7,6 +7,7 @@ use Rattle.dj_names.specs.declared.descriptor.Of.TheVariants as ofs
 use Rattle.dj_names.specs.Types.{class_type, component_type}
 use Rattle.dj_model.specs.Types.{Prefix, is_stop}
 use Rattle.dj_model.specs.Program.{Program, class_at, superclass_of}
+use Rattle.dj_model.specs.Natives.{class_name}
 
 -- the class or the array of a number
 abbrev pub type_at : List Ty → ℕ → Ty
@@ -45,3 +46,23 @@ is_number (Some n) k = nat_eq n k
 -- of all numbers this one alone, where there is one, is of the class of the object that stops a run
 abbrev pub TellsStop : List Ty → Prefix → Option ℕ → Type 0
 TellsStop types prefix result = (k : ℕ) → k < length types → is_stop prefix (type_at types k) ≡ is_number result k
+
+-- ---- laws of classes and arrays that have numbers
+
+-- the text begins with a bracket, as the descriptor of an array does
+abbrev pub begins_array : List ℕ → Bool
+begins_array [] = false
+begins_array (byte ∷ more) = nat_eq byte 91
+
+-- what has no dimensions is a class, whose name doesn't begin so
+abbrev pub ArePlain : List Ty → Type 0
+ArePlain types = (k : ℕ) → k < length types → (type_at types k).dims ≡ 0 → begins_array (class_name (type_at types k)) ≡ false
+
+-- the type has a number
+pub record HasNumber (types : List Ty) (ty : Ty) : Type 0 where
+  pub number : ℕ
+  pub at : slice_get types number ≡ Some ty
+
+-- what the elements of an array of references are has a number too
+abbrev pub HaveComponents : List Ty → Type 0
+HaveComponents types = (k : ℕ) → k < length types → holds_references (type_at types k) ≡ true → HasNumber types (component_type (type_at types k))

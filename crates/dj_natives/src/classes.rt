@@ -9,7 +9,7 @@ ghost use Rattle.dj_model.specs.Natives.{class_name};
 
 /// The classes and arrays of a program, by numbers.
 pub trait Classes {
-    ghost use Rattle.dj_natives.specs.Numbered.{type_at, IsNumberOf, superclass_type, component_of, TellsStop};
+    ghost use Rattle.dj_natives.specs.Numbered.{type_at, IsNumberOf, superclass_type, component_of, TellsStop, ArePlain, HaveComponents};
 
     /// The class or the array of each number.
     ghost types: { Self → List Ty };
@@ -53,4 +53,12 @@ pub trait Classes {
     fn stop(&self) -> Option<u32>
         ensures there { IfSome result (λ class. class < length (types self.now)) }
         ensures alone { TellsStop (types self.now) (prefix self.now) result };
+
+    /// A law: no class has a name that begins as the descriptor of an array does.
+    fn are_plain(&self)
+        ensures { ArePlain (types self.now) };
+
+    /// A law: what the elements of an array of references are has a number.
+    fn have_components(&self)
+        ensures { HaveComponents (types self.now) };
 }

@@ -18,3 +18,4 @@ pub mod SomeJudgement
 mod Facts
 mod SetFacts
 mod SilenceFacts
+mod CycleFacts

@@ -55,10 +55,10 @@ typed = record {
 
 -- ---- what differs
 
-other_number : (a b : ℕ) → nat_eq a b ≡ false → Some a ≡ Some b → ⊥
+pub other_number : (a b : ℕ) → nat_eq a b ≡ false → Some a ≡ Some b → ⊥
 other_number a b differ e = false≢true (sym differ ∙ eq-eqb a b (same_Some a b e))
 
-other_name : (a b : Name) → same_name a b ≡ false → a ≡ b → ⊥
+pub other_name : (a b : Name) → same_name a b ≡ false → a ≡ b → ⊥
 other_name a b differ e = false≢true (sym differ ∙ (bytes_decides a b).1 e)
 
 -- ---- texts and types by numbers

@@ -17,6 +17,7 @@ use Rattle.dj_classes.specs.Tables.{name_of, class_number, methods_of, methods_a
 use Rattle.dj_classes.specs.declared.place.Place.{Place}
 use Rattle.dj_linking.proofs.Resolution.{DoNamesDiffer}
 use Rattle.dj_types.specs.Members.{all_methods, all_fields, methods_in, fields_in, methods_before, fields_before, method_number, field_number, found_method_number, found_field_number}
+use Rattle.dj_types.specs.Named.{IsNamedMethod, IsNamedField}
 use Rattle.dj_types.proofs.Starts.{some_there}
 
 -- ---- the first place in a list
@@ -192,6 +193,29 @@ first_method_told table program place name desc told same differ lt within named
     in
     subst (λ (p : Program). HasFirst (length (methods_at p place.class)) (methods_before p place.class) told (found_method_number p (method_there p place))) same first
 
+-- the same of the one at a place that has this name and this descriptor
+pub first_method_named : (table program : Program) (place : Place) (name : Name) (desc : Desc) (told : Option ℕ) → table ≡ program → DoNamesDiffer program → place.class < length program → place.member < length (methods_at program place.class)
+    → IsNamedMethod name desc (method_there program place) → told ≡ method_place (methods_at table place.class) name desc
+    → HasFirst (length (methods_at program place.class)) (methods_before program place.class) told (found_method_number program (method_there program place))
+first_method_named table program place name desc told same differ lt within named is =
+    let class : (c : Class) × (slice_get program place.class ≡ Some c) = some_there program place.class lt in
+    let c : Class = class.0 in
+    let methods : methods_at program place.class ≡ c.methods = ap methods_of class.1 in
+    let method : (m : Method) × (slice_get c.methods place.member ≡ Some m) = some_there c.methods place.member (subst (λ (ms : List Method). place.member < length ms) methods within) in
+    let m : Method = method.0 in
+    let found_is : method_there program place ≡ Some (record { class = c.name; method = m }) = rw (class.1, method.1) refl in
+    let names : (m.name ≡ name) × (m.desc ≡ desc) = subst (λ (o : Option FoundMethod). IsNamedMethod name desc o) found_is named in
+    let first = method_of_class program place.class place.member c m differ class.1 method.1 in
+    let inside = first.within in
+    let long = ap (λ (ms : List Method). length ms) methods in
+    record {
+      first = first.first;
+      within = omega (arith, inside, long);
+      is = is ∙ ap (λ (p : Program). method_place (methods_at p place.class) name desc) same ∙ ap (λ (ms : List Method). method_place ms name desc) methods
+          ∙ ap (λ (n : Name). method_place c.methods n desc) (sym names.0) ∙ ap (method_place c.methods m.name) (sym names.1) ∙ first.is;
+      numbered = ap (found_method_number program) found_is ∙ first.numbered;
+    }
+
 pub method_described : (methods : List Method) (member : ℕ) (desc : Name) → member < length methods → IfSome (slice_get methods member) (λ m. Describes desc m.desc) → IsDescriptor desc
 method_described methods member desc lt told =
     let method : (m : Method) × (slice_get methods member ≡ Some m) = some_there methods member lt in
@@ -277,6 +301,29 @@ first_field_told table program place name desc told same differ lt within named 
     (first_field table place name desc differ (subst (λ (p : Program). place.class < length p) (sym same) lt) (subst (λ (p : Program). place.member < length (fields_at p place.class)) (sym same) within) named described)
     in
     subst (λ (p : Program). HasFirst (length (fields_at p place.class)) (fields_before p place.class) told (found_field_number p (field_there p place))) same first
+
+-- the same of the one at a place that has this name and this descriptor
+pub first_field_named : (table program : Program) (place : Place) (name : Name) (desc : Desc) (told : Option ℕ) → table ≡ program → DoNamesDiffer program → place.class < length program → place.member < length (fields_at program place.class)
+    → IsNamedField name desc (field_there program place) → told ≡ field_place (fields_at table place.class) name desc
+    → HasFirst (length (fields_at program place.class)) (fields_before program place.class) told (found_field_number program (field_there program place))
+first_field_named table program place name desc told same differ lt within named is =
+    let class : (c : Class) × (slice_get program place.class ≡ Some c) = some_there program place.class lt in
+    let c : Class = class.0 in
+    let fields : fields_at program place.class ≡ c.fields = ap fields_of class.1 in
+    let field : (m : Field) × (slice_get c.fields place.member ≡ Some m) = some_there c.fields place.member (subst (λ (ms : List Field). place.member < length ms) fields within) in
+    let m : Field = field.0 in
+    let found_is : field_there program place ≡ Some (record { class = c.name; field = m }) = rw (class.1, field.1) refl in
+    let names : (m.name ≡ name) × (m.desc ≡ desc) = subst (λ (o : Option FoundField). IsNamedField name desc o) found_is named in
+    let first = field_of_class program place.class place.member c m differ class.1 field.1 in
+    let inside = first.within in
+    let long = ap (λ (ms : List Field). length ms) fields in
+    record {
+      first = first.first;
+      within = omega (arith, inside, long);
+      is = is ∙ ap (λ (p : Program). field_place (fields_at p place.class) name desc) same ∙ ap (λ (ms : List Field). field_place ms name desc) fields
+          ∙ ap (λ (n : Name). field_place c.fields n desc) (sym names.0) ∙ ap (field_place c.fields m.name) (sym names.1) ∙ first.is;
+      numbered = ap (found_field_number program) found_is ∙ first.numbered;
+    }
 
 pub field_described : (fields : List Field) (member : ℕ) (desc : Name) → member < length fields → IfSome (slice_get fields member) (λ g. Describes desc g.desc) → IsDescriptor desc
 field_described fields member desc lt told =

@@ -6,7 +6,9 @@ pub mod Starts
 pub mod Placed
 pub mod First
 pub mod Homes
+pub mod Resolved
 pub mod Sums
 pub mod FieldSums
 mod Facts
 mod CountFacts
+mod KeptFacts

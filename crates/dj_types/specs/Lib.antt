@@ -3,3 +3,4 @@ pub mod Members
 pub mod Shapes
 pub mod Numbered
 pub mod Kept
+pub mod Named

@@ -5,10 +5,12 @@ mod arrays;
 mod error;
 mod heights;
 mod members;
+mod named;
 mod shapes;
 mod types;
 
 pub use dj_classes::Place;
 pub use dj_linking::{BaseNames, Linker};
 pub use error::TypesError;
+pub use named::MemberName;
 pub use types::{FieldId, MemberOf, MethodId, Types};

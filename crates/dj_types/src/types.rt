@@ -2,19 +2,23 @@ ghost use Rattle.std.specs.Prelude.{◌≡◌, ◌+◌, ◌^◌, ◌<◌, length
 ghost use Rattle.std.specs.Option.{option_map};
 ghost use Rattle.dj_model.specs.Linking.{member_class, place_of};
 ghost use Rattle.dj_model.specs.Types.{string_name};
+ghost use Rattle.dj_declared.specs.Files.{desc_in};
 ghost use Rattle.dj_declared.specs.Members.{IsDescriptor};
 ghost use Rattle.dj_classes.specs.Tables.{class_number, methods_at, fields_at, method_there, field_there};
 ghost use Rattle.dj_linking.specs.Linked.{prefix_of};
 ghost use Rattle.dj_types.specs.Typed.{texts_of, types_of, type_at, text_number, flags_at, super_at, interfaces_at, component_at, is_subtype_at, string_at, chars_at, stop_at, ArePlain, AreArrays};
 ghost use Rattle.dj_types.specs.Shapes.{IsElement, shape_type};
+ghost use Rattle.dj_types.specs.Named.{IsDirectoryOf, IsNumbered, IsNumberedBy, IsNamedMethod, IsNamedField};
 ghost use Rattle.dj_types.specs.Members.{all_methods, all_fields, field_count_at, resolved_method, resolved_field, selected, found_method_number, found_field_number, IsMethodThere, IsFieldThere, IsNthMethod, IsNthField, IsMethodPlace, IsFieldPlace, native_at, number_of_method, number_of_field, methods_before, fields_before};
 
 use crate::arrays::{Arrays, check_names, number_in};
 use crate::error::TypesError;
 use crate::members::{Members, count_at, is_descriptor, place_at};
+use crate::named::{MemberName, field_in, method_in};
 use crate::shapes::{Element, Shape, is_subtype};
 use dj_classes::Place;
-use dj_linking::{BaseNames, Linker};
+use dj_directory::Directory;
+use dj_linking::{BaseNames, Linker, resolve_field_of, resolve_method_of};
 use dj_names::{NativeId, Ty};
 use std::alloc::Global;
 use std::marker::Model;
@@ -301,6 +305,30 @@ impl Types {
         }
     }
 
+    // The number of the first method of its class that has the name and the descriptor of the one at a place, by the numbers of these.
+    fn first_numbered_method(
+        &self,
+        directory: &Directory<'_>,
+        place: Place,
+        named: MemberName<'_>,
+    ) -> MethodId
+        requires same { directory.now.program ≡ self.now.program }
+        requires there { place.class < length self.now.program }
+        requires within { place.member < length (methods_at self.now.program place.class) }
+        requires named { IsNumberedBy directory.now named }
+        requires is { IsNamedMethod named.name.now (desc_in named.desc.now) (method_there self.now.program place) }
+        ensures { Some result.number ≡ found_method_number self.now.program (method_there self.now.program place) }
+    {
+        self.linker.classes().names_differ();
+        match method_in(directory, place.class, named) {
+            Some(first) => self.method_id(Place {
+                class: place.class,
+                member: first,
+            }),
+            None => unreachable!(),
+        }
+    }
+
     // The place of the field of a number.
     fn field_place(&self, field: FieldId) -> Place
         requires { field.number < length (all_fields self.now.program) }
@@ -339,6 +367,30 @@ impl Types {
         match table.field_named(class, name, desc) {
             Some(first) => self.field_id(Place {
                 class,
+                member: first,
+            }),
+            None => unreachable!(),
+        }
+    }
+
+    // The number of the first field of its class that has the name and the descriptor of the one at a place, by the numbers of these.
+    fn first_numbered_field(
+        &self,
+        directory: &Directory<'_>,
+        place: Place,
+        named: MemberName<'_>,
+    ) -> FieldId
+        requires same { directory.now.program ≡ self.now.program }
+        requires there { place.class < length self.now.program }
+        requires within { place.member < length (fields_at self.now.program place.class) }
+        requires named { IsNumberedBy directory.now named }
+        requires is { IsNamedField named.name.now (desc_in named.desc.now) (field_there self.now.program place) }
+        ensures { Some result.number ≡ found_field_number self.now.program (field_there self.now.program place) }
+    {
+        self.linker.classes().names_differ();
+        match field_in(directory, place.class, named) {
+            Some(first) => self.field_id(Place {
+                class: place.class,
                 member: first,
             }),
             None => unreachable!(),
@@ -468,6 +520,47 @@ impl Types {
         Some(self.first_method(place))
     }
 
+    // The method to which the name and the descriptor of these numbers resolve in a class or an array.
+    fn resolve_numbered_method(
+        &self,
+        directory: &Directory<'_>,
+        class: u32,
+        named: MemberName<'_>,
+    ) -> Option<MethodId>
+        requires same { directory.now.program ≡ self.now.program }
+        requires there { class < length (types_of self.now) }
+        requires named { IsNumberedBy directory.now named }
+        ensures { option_map number_of_method result ≡ found_method_number self.now.program (resolved_method self.now class named.entry.name.now named.entry.desc.now) }
+    {
+        let class = self.member_class(class)?;
+        let place = resolve_method_of(
+            &self.linker,
+            directory,
+            class,
+            named.name_number,
+            named.desc_number,
+        )?;
+        Some(self.first_numbered_method(directory, place, named))
+    }
+
+    /// The same, by the numbers of its name and its descriptor where there is a directory of the classes.
+    pub fn resolve_named_method(
+        &self,
+        directory: Option<&Directory<'_>>,
+        class: u32,
+        named: MemberName<'_>,
+    ) -> Option<MethodId>
+        requires same { IsDirectoryOf self.now.program directory }
+        requires there { class < length (types_of self.now) }
+        requires named { IsNumbered directory named }
+        ensures { option_map number_of_method result ≡ found_method_number self.now.program (resolved_method self.now class named.entry.name.now named.entry.desc.now) }
+    {
+        match directory {
+            Some(directory) => self.resolve_numbered_method(directory, class, named),
+            None => self.resolve_described_method(class, named.name, named.desc),
+        }
+    }
+
     /// The field to which a name and a descriptor resolve in a class or an array (JVMS 5.4.3.2).
     pub fn resolve_field(&self, class: u32, name: &[u8], desc: &[u8]) -> Option<FieldId>
         requires { class < length (types_of self.now) }
@@ -489,6 +582,47 @@ impl Types {
         let class = self.member_class(class)?;
         let place = self.linker.resolve_field(class, name, desc)?;
         Some(self.first_field(place))
+    }
+
+    // The field to which the name and the descriptor of these numbers resolve in a class or an array.
+    fn resolve_numbered_field(
+        &self,
+        directory: &Directory<'_>,
+        class: u32,
+        named: MemberName<'_>,
+    ) -> Option<FieldId>
+        requires same { directory.now.program ≡ self.now.program }
+        requires there { class < length (types_of self.now) }
+        requires named { IsNumberedBy directory.now named }
+        ensures { option_map number_of_field result ≡ found_field_number self.now.program (resolved_field self.now class named.entry.name.now named.entry.desc.now) }
+    {
+        let class = self.member_class(class)?;
+        let place = resolve_field_of(
+            &self.linker,
+            directory,
+            class,
+            named.name_number,
+            named.desc_number,
+        )?;
+        Some(self.first_numbered_field(directory, place, named))
+    }
+
+    /// The same, by the numbers of its name and its descriptor where there is a directory of the classes.
+    pub fn resolve_named_field(
+        &self,
+        directory: Option<&Directory<'_>>,
+        class: u32,
+        named: MemberName<'_>,
+    ) -> Option<FieldId>
+        requires same { IsDirectoryOf self.now.program directory }
+        requires there { class < length (types_of self.now) }
+        requires named { IsNumbered directory named }
+        ensures { option_map number_of_field result ≡ found_field_number self.now.program (resolved_field self.now class named.entry.name.now named.entry.desc.now) }
+    {
+        match directory {
+            Some(directory) => self.resolve_numbered_field(directory, class, named),
+            None => self.resolve_described_field(class, named.name, named.desc),
+        }
     }
 
     /// The method that is taken where a method is called on an object of a class or an array (JVMS 6.5, invokevirtual and invokeinterface).

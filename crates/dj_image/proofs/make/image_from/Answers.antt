@@ -17,4 +17,5 @@ invariant_of-result c =
       constants_are = all.constants_are;
       string = c.requires.string;
       chars = c.requires.chars;
+      closed = c.requires.closed;
     }

@@ -6,11 +6,11 @@ use Rattle.dj_image.specs.declared.parts.ClassParts.{ClassParts}
 use Rattle.dj_image.specs.Imaged.{Imaged, IsNumbered}
 use Rattle.dj_image.specs.Parts.{FitClasses, HasString, sources_of}
 use Rattle.dj_image.specs.Rows.{IsRow, wholes_of}
-use Rattle.dj_image.specs.Tables.{imaged_of}
+use Rattle.dj_image.specs.Tables.{imaged_of, AreClosed}
 use Rattle.dj_image.specs.Texts.{texts_of}
 use Rattle.dj_image.specs.Uses.{SameMembers}
 use Rattle.dj_image.proofs.Counts.{methods_count, fields_count}
-use Rattle.dj_image.proofs.Making.{have_pools, chars_numbered, image_numbered, ok_is}
+use Rattle.dj_image.proofs.Making.{have_pools, chars_numbered, rows_closed, image_numbered, ok_is}
 use Rattle.dj_image.proofs.make.image_of.Goals as goal
 
 pub arrays_of-requires : goal.arrays_of-requires
@@ -41,6 +41,14 @@ image_from-requires-clause-chars c =
     let rows : (ty : Ty) → Contains arrays ty ↔ IsRow (wholes_of program c.args.parts.items) ty =
     λ ty. subst (λ (ps : List ClassParts). Contains arrays ty ↔ IsRow (wholes_of program ps) ty) c.deref.ensures.value (c.in_ok-arrays.ensures.numbered ty) in
     subst (λ (t : Typed). IsTrue (is_some (chars_at t))) (sym c.in_ok-types.ensures) (chars_numbered program c.args.linker.prefix c.args.parts.items arrays rows)
+
+pub image_from-requires-clause-closed : goal.image_from-requires-clause-closed
+image_from-requires-clause-closed c =
+    let program = c.args.linker.program in
+    let arrays = c.in_ok-arrays.arrays.items in
+    let rows : (ty : Ty) → Contains arrays ty ↔ IsRow (wholes_of program c.args.parts.items) ty =
+    λ ty. subst (λ (ps : List ClassParts). Contains arrays ty ↔ IsRow (wholes_of program ps) ty) c.deref.ensures.value (c.in_ok-arrays.ensures.numbered ty) in
+    subst (λ (t : Typed). AreClosed t.arrays) (sym c.in_ok-types.ensures) (rows_closed (wholes_of program c.args.parts.items) arrays rows)
 
 pub returns-clause-sources : goal.returns-clause-sources
 returns-clause-sources c =

@@ -9,4 +9,4 @@ judge_constant-constant-requires-clause-linked c =
 
 pub returns : goal.returns
 returns c =
-    all_judged c.args.linker.now.program c.args.pool.now c.as_slice-entries.result.now c.loop-entry.entry-index c.loop-entry.kept.items c.as_slice-entries.ensures c.loop-entry-test.false c.loop-entry.invariant.1
+    all_judged c.args.linker.now.program c.args.pool.now c.as_slice-entries.result.now c.loop-entry.entry-index c.loop-entry.kept.items c.as_slice-entries.ensures c.loop-entry-test.false c.loop-entry.invariant.2

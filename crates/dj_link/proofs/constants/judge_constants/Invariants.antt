@@ -1,5 +1,5 @@
 use Rattle.std.proofs.Common.{◌≡◌, take}
-use Rattle.dj_link.specs.Constants.{AreSeen}
+use Rattle.dj_link.specs.Constants.{AreSeen, AreNumbersSeenBy}
 use Rattle.dj_link.proofs.KeptLaws.{all_kept}
 use Rattle.dj_link.proofs.constants.judge_constants.Given as goal
 
@@ -7,4 +7,5 @@ use Rattle.dj_link.proofs.constants.judge_constants.Given as goal
 abbrev pub invariant-loop-entry : goal.invariant-loop-entry
 invariant-loop-entry l =
     AreSeen l.linker.program l.pool l.seen.items
+    × AreNumbersSeenBy l.directory l.pool l.numbers.items
     × (l.kept.items ≡ all_kept l.linker.program l.pool (take l.entry-index l.entries))

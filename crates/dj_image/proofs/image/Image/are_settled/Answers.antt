@@ -1,5 +1,4 @@
 use Rattle.std.proofs.Common.{◌≡◌, ap, ◌∙◌, subst}
-use Rattle.dj_model.specs.Program.{Program}
 use Rattle.dj_linking.specs.Linked.{Linked}
 use Rattle.dj_linking.proofs.Resolution.{DoNamesDiffer}
 use Rattle.dj_image.proofs.Settled.{settled_like}
@@ -10,4 +9,4 @@ pub returns : goal.returns
 returns c =
     let program : c.classes.result.now ≡ c.self.inside.types.program = c.classes.ensures ∙ ap (λ (linked : Linked). linked.program) c.linker.ensures in
     settled_like _ _ (stands c.self.view_is c.self.invariant)
-    (record { differ = subst DoNamesDiffer program c.names_differ.ensures; plain = c.are_plain.ensures; arrays = c.are_arrays.ensures })
+    (record { differ = subst DoNamesDiffer program c.names_differ.ensures; plain = c.are_plain.ensures; arrays = c.are_arrays.ensures; closed = c.self.invariant.closed })

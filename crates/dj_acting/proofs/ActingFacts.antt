@@ -1,0 +1,92 @@
+-- What is told of instructions, at plain values.
+use Rattle.std.proofs.Common.{◌≡◌, ℤ, pos, List, [], ◌∷◌, map, Some, None, refl, arith, codes}
+use Rattle.dj_names.specs.declared.descriptor.Base.TheVariants as bases
+use Rattle.dj_names.specs.declared.descriptor.Desc.TheVariants as descs
+use Rattle.dj_names.specs.declared.descriptor.Kind.TheVariants as kinds
+use Rattle.dj_names.specs.declared.run.Value.{Value}
+use Rattle.dj_names.specs.declared.run.Value.TheVariants as values
+use Rattle.dj_names.specs.Types.{base_type, class_type}
+use Rattle.dj_model.specs.Types.{Member}
+use Rattle.dj_model.specs.Instructions as model
+use Rattle.dj_model.specs.Instructions.{Instruction}
+use Rattle.dj_model.specs.Values.{on_values}
+use Rattle.dj_model.specs.Effects.{effect}
+use Rattle.dj_heap.specs.Heaps.{LimitedHeap}
+use Rattle.dj_stack.specs.Frames.{StackFrame}
+use Rattle.dj_effects.specs.declared.way.Way.TheVariants as ways
+use Rattle.dj_image.specs.Imaged.{Imaged}
+use Rattle.dj_initialising.specs.Store.{Store, store}
+use Rattle.dj_acting.specs.declared.acted.Acted.TheVariants as acts
+use Rattle.dj_acting.specs.declared.uses.FieldUse.TheVariants as fields
+use Rattle.dj_acting.specs.declared.uses.ClassUse.TheVariants as classes
+use Rattle.dj_acting.specs.Acting.{Acts, HasRoom, IsActed, AreThere, Machine, machine}
+use Rattle.dj_acting.specs.Kinds.{kind_by}
+use Rattle.dj_acting.specs.Uses.{class_use_of, field_use_of}
+
+abbrev image : Imaged
+image = record { sources = []; prefix = []; arrays = []; texts = [] }
+
+abbrev heap : LimitedHeap
+heap = record { heap = record { objects = []; used = 0 }; limit = 100 }
+
+abbrev kept : Store
+kept = store heap [] (record { count = 0; made = [] })
+
+abbrev frames : List Value → List StackFrame
+frames operands = record { method = 0; number = 0; locals = []; operands = operands; room = 1 } ∷ []
+
+abbrev int : ℤ → Value
+int z = values.Int z
+
+-- ---- what is done
+
+pushed : Acts image (model.Push (int (pos 3))) (machine (frames []) kept) (machine (frames (int (pos 3) ∷ [])) kept) (acts.Goes ways.Next)
+unfolding effect on_values
+pushed = record {
+  effect = λ terms own account answers limit. refl;
+  limit = refl;
+  frames = record { count = refl; method = refl; room = refl; below = refl };
+  number = refl;
+  are = record { statics = refl; count = refl; texts = tt };
+}
+
+-- an instruction that is done is no call
+no_call : (i : Instruction) (before after : Machine) → Acts image i before after acts.Call → ⊥
+no_call i before after a = a.are
+
+-- and what is no call isn't told as one
+push_no_call : IsActed image (model.Push (int (pos 3))) (machine (frames []) kept) (machine (frames []) kept) acts.Call → ⊥
+push_no_call told = let is = told.0 in absurd cc
+
+-- ---- room
+
+abbrev field : Member
+field = record { class = class_type (codes "A"); name = codes "x"; desc = descs.Field (base_type bases.Int) }
+
+room : HasRoom (model.GetStatic field) (frames [])
+room = omega arith
+
+no_room : HasRoom (model.GetStatic field) (frames (int (pos 1) ∷ [])) → ⊥
+no_room less = omega (arith, less)
+
+-- null is there, and no other reference where there is no object
+there : AreThere heap.heap (values.Ref 0 ∷ int (pos 4) ∷ [])
+there = (omega arith, (tt, tt))
+
+not_there : AreThere heap.heap (values.Ref 1 ∷ []) → ⊥
+not_there are = let le = are.0 in omega (arith, le)
+
+-- ---- kinds and uses
+
+letters : map (λ text. kind_by text) (codes "I" ∷ codes "Z" ∷ codes "J" ∷ codes "D" ∷ codes "[J" ∷ codes "LJ;" ∷ [])
+    ≡ Some kinds.Int ∷ Some kinds.Int ∷ Some kinds.Long ∷ None ∷ Some kinds.Ref ∷ Some kinds.Ref ∷ []
+letters = refl
+
+not_by_elements : kind_by (codes "[J") ≡ Some kinds.Long → ⊥
+not_by_elements e = absurd cc
+
+field_uses : map (λ op. field_use_of op) (177 ∷ 178 ∷ 179 ∷ 180 ∷ 181 ∷ 182 ∷ []) ≡ fields.Neither ∷ fields.GetStatic ∷ fields.PutStatic ∷ fields.Get ∷ fields.Put ∷ fields.Neither ∷ []
+field_uses = refl
+
+class_uses : map (λ op. class_use_of op) (187 ∷ 189 ∷ 192 ∷ 193 ∷ 190 ∷ []) ≡ classes.New ∷ classes.NewArray ∷ classes.Cast ∷ classes.Instance ∷ classes.Other ∷ []
+class_uses = refl

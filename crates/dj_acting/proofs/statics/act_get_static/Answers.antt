@@ -1,0 +1,20 @@
+use Rattle.std.proofs.Common.{sym, subst}
+use Rattle.dj_acting.specs.Acting.{ActsOnStatics}
+use Rattle.dj_acting.proofs.StaticPlaces.{has_place, place_within, get_static_none, got_static}
+use Rattle.dj_acting.proofs.statics.act_get_static.Goals as goal
+
+pub place-requires : goal.place-requires
+place-requires c = has_place _ c.args.places.now c.args.field.number c.requires.places c.requires.there
+
+pub get_static-requires-clause-known : goal.get_static-requires-clause-known
+get_static-requires-clause-known c = place_within c.args.image.now c.args.places.now c.requires.places c.args.field.number c.place.result c.place.ensures c.args.statics.now c.requires.counted c.requires.found
+
+pub returns-in_default : goal.returns-in_default
+returns-in_default c = λ member found is.
+    get_static_none c.args.image.now c.args.field.number member found is c.field.result c.field.ensures c.in_default.ensures c.args.frames.now c.args.statics.now
+
+pub returns : goal.returns
+returns c = λ member found is.
+    subst (ActsOnStatics c.args.image.now _ c.args.frames.now c.get_static.new.frames c.args.statics.now c.args.statics.now) (sym c.way_acted.ensures)
+    (got_static c.args.image.now c.args.places.now c.requires.places c.args.field.number c.place.result c.place.ensures member found is c.field.result c.field.ensures
+    c.args.frames.now c.get_static.new.frames c.args.statics.now c.in-Some.kind c.get_static.result c.in-Some.ensures c.get_static.ensures)

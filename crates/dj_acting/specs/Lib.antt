@@ -1,0 +1,9 @@
+pub mod Acting
+pub mod Flows
+pub mod Kinds
+pub mod Accesses
+pub mod Operands
+pub mod Taking
+pub mod Uses
+pub mod Used
+pub mod Numbers

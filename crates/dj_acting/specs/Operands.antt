@@ -1,0 +1,35 @@
+-- What the operand of an instruction tells of it, by numbers.
+use Rattle.std.specs.Prelude.{◌≡◌, ℕ, Bool, true, false, Some, slice_get}
+use Rattle.dj_names.specs.declared.run.Element.{Element}
+use Rattle.dj_names.specs.declared.descriptor.Ty.{Ty}
+use Rattle.dj_ops.specs.declared.instruction.Instr.{Instr}
+use Rattle.dj_check.specs.Instructions.{index_of}
+use Rattle.dj_program.specs.Naming.{named_if}
+use Rattle.dj_model.specs.Instructions.{Instruction, Named, AClass, NewArray}
+use Rattle.dj_model.specs.Opcodes.{instruction_of}
+use Rattle.dj_types.specs.Typed.{type_number}
+use Rattle.dj_image.specs.Imaged.{Imaged, typed_of}
+use Rattle.dj_image.specs.Operands.{takes_named}
+use Rattle.dj_image.specs.Codes.{PooledCode, code_at}
+use Rattle.dj_acting.specs.Acting.{instruction_of_number}
+
+-- the instruction stands there in the image's code, and its index names this
+pub record StandsAt (imaged : Imaged) (method number : ℕ) (instr : Instr) (named : Named) : Type 0 where
+  pub code : PooledCode
+  pub own : code_at imaged method ≡ Some code
+  pub stands : slice_get code.parts.labelled.code number ≡ Some instr
+  pub names : named ≡ named_if code.pool (index_of instr)
+
+abbrev pub makes_array : Instruction → Bool
+makes_array (NewArray class element) = true
+makes_array i = false
+
+-- where the operand is the class of a number: the instruction makes arrays of it, or names it
+pub data UsesClass (imaged : Imaged) (instr : Instr) (named : Named) (k : ℕ) : Type 0 where
+  Makes : (class : Ty) (element : Element) → instruction_of instr named ≡ NewArray class element → type_number (typed_of imaged) class ≡ Some k → UsesClass imaged instr named k
+  Names : (class : Ty) → named ≡ AClass class → takes_named instr (AClass class) ≡ true → makes_array (instruction_of instr named) ≡ false → type_number (typed_of imaged) class ≡ Some k → UsesClass imaged instr named k
+
+-- the instruction is that of the model
+pub record IsInstrAt (imaged : Imaged) (method number : ℕ) (instr : Instr) (named : Named) : Type 0 where
+  pub stands : StandsAt imaged method number instr named
+  pub is : instruction_of_number imaged method number ≡ Some (instruction_of instr named)

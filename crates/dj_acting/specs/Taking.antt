@@ -1,0 +1,22 @@
+-- The code's own: whether an array of references takes a reference.
+use Rattle.std.specs.Prelude.{◌≡◌, ⊤, ℕ, ℤ, Bool, List, ◌∷◌}
+use Rattle.dj_names.specs.declared.run.Element.TheVariants as elements
+use Rattle.dj_names.specs.declared.run.Value.{Value}
+use Rattle.dj_names.specs.declared.run.Value.TheVariants as values
+use Rattle.dj_names.specs.Heaps.{heap_map}
+use Rattle.dj_natives.specs.Numbered.{type_at}
+use Rattle.dj_model.specs.Arrays.{IsArray, array_at}
+use Rattle.dj_model.specs.Performing.{takes}
+use Rattle.dj_heap.specs.Heaps.{LimitedHeap}
+use Rattle.dj_types.specs.Typed.{types_of}
+use Rattle.dj_image.specs.Imaged.{Imaged, program_of, typed_of}
+
+-- of what is no array of references it doesn't matter
+abbrev pub IsTakenBy : Imaged → LimitedHeap → ℕ → ℕ → Bool → Type 0
+IsTakenBy imaged heap r v taken = (class : ℕ) (contents : List ℤ) → array_at heap.heap r ≡ IsArray class elements.Ref contents
+    → takes (program_of imaged) imaged.prefix (heap_map (type_at (types_of (typed_of imaged))) heap.heap) r v ≡ taken
+
+-- the reference on top, and the array that stands under an index
+abbrev pub IsTaken : Imaged → LimitedHeap → Bool → List Value → Type 0
+IsTaken imaged heap taken (values.Ref v ∷ (values.Int index ∷ (values.Ref r ∷ rest))) = IsTakenBy imaged heap r v taken
+IsTaken imaged heap taken operands = ⊤

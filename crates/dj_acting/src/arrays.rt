@@ -1,0 +1,54 @@
+ghost use Rattle.std.specs.Prelude.{◌≤◌, length, IfOk};
+ghost use Rattle.dj_names.specs.declared.descriptor.Ty.{Ty};
+ghost use Rattle.dj_model.specs.Instructions.{ArrayLength, LoadElement, NewArray, StoreElement};
+ghost use Rattle.dj_stack.specs.Frames.{top_operands, top_room};
+ghost use Rattle.dj_effects.specs.Actions.{access_view};
+ghost use Rattle.dj_acting.specs.Acting.{ActsOnHeap, IsClassAt, IsHeap};
+
+use crate::acted::{Acted, flow_acted};
+use crate::taking::takes_top;
+use dj_effects::{Access, array_length, load_element, new_array, store_element};
+use dj_heap::Heap;
+use dj_image::Image;
+use dj_names::{Element, NoMemory};
+use dj_stack::Frames;
+
+/// An element is loaded.
+pub fn act_load(image: &Image, frames: &mut Frames, heap: &Heap, access: Access) -> Acted
+    requires { length (top_operands frames.old) ≤ top_room frames.old }
+    ensures { ActsOnHeap image.now (LoadElement (access_view access)) frames.old frames.new heap.now heap.now result }
+{
+    flow_acted(load_element(frames, heap, access))
+}
+
+/// A value is stored in an array.
+pub fn act_store(image: &Image, frames: &mut Frames, heap: &mut Heap, access: Access) -> Acted
+    requires { IsHeap image.now frames.old heap.old }
+    ensures { ActsOnHeap image.now (StoreElement (access_view access)) frames.old frames.new heap.old heap.new result }
+{
+    let is_taken = takes_top(image, frames, heap);
+    flow_acted(store_element(frames, heap, access, is_taken))
+}
+
+/// The length of an array is pushed.
+pub fn act_length(image: &Image, frames: &mut Frames, heap: &Heap) -> Acted
+    requires { length (top_operands frames.old) ≤ top_room frames.old }
+    ensures { ActsOnHeap image.now ArrayLength frames.old frames.new heap.now heap.now result }
+{
+    flow_acted(array_length(frames, heap))
+}
+
+/// An array of the class of a number is made.
+pub fn act_new_array(
+    image: &Image,
+    frames: &mut Frames,
+    heap: &mut Heap,
+    class: u32,
+    element: Element,
+) -> Result<Acted, NoMemory>
+    requires { length (top_operands frames.old) ≤ top_room frames.old }
+    ensures { (ty : Ty) → IsClassAt image.now ty class → IfOk result (λ acted. ActsOnHeap image.now (NewArray ty element) frames.old frames.new heap.old heap.new acted) }
+{
+    let flow = new_array(frames, heap, class, element)?;
+    Ok(flow_acted(flow))
+}

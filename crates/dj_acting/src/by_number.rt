@@ -1,0 +1,132 @@
+ghost use Rattle.std.specs.Prelude.{◌≡◌, ◌<◌, length, slice_get, IfOk};
+ghost use Rattle.std.specs.Option.{option_map};
+ghost use Rattle.dj_model.specs.Instructions.{Instruction, Named};
+ghost use Rattle.dj_model.specs.Opcodes.{instruction_of};
+ghost use Rattle.dj_model.specs.Sound.{IsSound};
+ghost use Rattle.dj_types.specs.Members.{all_methods};
+ghost use Rattle.dj_image.specs.Imaged.{program_of, typed_of};
+ghost use Rattle.dj_image.specs.Numbering.{AreSettled};
+ghost use Rattle.dj_initialising.specs.Store.{IsStore, store};
+ghost use Rattle.dj_acting.specs.Acting.{HasInstruction, IsActed, IsDone, IsHeap, IsReady, IsResolved, machine};
+ghost use Rattle.dj_acting.specs.Operands.{IsInstrAt};
+ghost use Rattle.dj_acting.specs.Used.{IsBeside, IsOperandUsed};
+
+use crate::acted::{Acted, way_acted};
+use crate::classes::{act_class, act_unnamed};
+use crate::literals::push_literal;
+use crate::members::act_field;
+use crate::texts::act_push_text;
+use dj_activations::code_of;
+use dj_heap::Heap;
+use dj_image::{Image, MethodCode, MethodId, Operand};
+use dj_initialising::StaticPlaces;
+use dj_members::{Literals, Statics};
+use dj_names::NoMemory;
+use dj_natives::Classes;
+use dj_ops::Instr;
+use dj_stack::Frames;
+
+// The instruction of a number in code.
+fn instr_in(code: &MethodCode, number: u32) -> Option<&Instr>
+    ensures { option_map (λ instr. instr.now) result ≡ slice_get code.now.code.code number }
+{
+    code.code.code.as_slice().get(number as usize)
+}
+
+// The instruction of a number in a method of an image.
+fn instr_of(image: &Image, method: MethodId, number: u32) -> &Instr
+    requires sound { IsSound (program_of image.now) image.now.prefix }
+    requires there { method.number < length (all_methods (program_of image.now)) }
+    requires stands { HasInstruction image.now method.number number }
+    ensures { (named : Named) × IsInstrAt image.now method.number number result.now named }
+{
+    let Some(code) = code_of(image, method) else {
+        unreachable!()
+    };
+    match instr_in(code, number) {
+        Some(instr) => instr,
+        None => unreachable!(),
+    }
+}
+
+// An instruction with this operand is done.
+fn act_with(
+    image: &Image,
+    places: &StaticPlaces,
+    throwable: u32,
+    frames: &mut Frames,
+    heap: &mut Heap,
+    statics: &mut Statics,
+    literals: &mut Literals,
+    instr: &Instr,
+    operand: Operand,
+) -> Result<Acted, NoMemory>
+    requires beside { IsBeside image.now places.now throwable }
+    requires known { IsHeap image.now frames.old heap.old }
+    requires are { IsStore image.now (store heap.old statics.old literals.old) }
+    requires used { (named : Named) × IsOperandUsed image.now instr.now operand frames.old named }
+    ensures { (named : Named) → IsOperandUsed image.now instr.now operand frames.old named
+        → IfOk result (λ acted. IsActed image.now (instruction_of instr.now named)
+        (machine frames.old (store heap.old statics.old literals.old)) (machine frames.new (store heap.new statics.new literals.new)) acted) }
+{
+    match operand {
+        Operand::Nothing => act_unnamed(image, frames, heap, throwable, 0, instr),
+        Operand::Int(_) => Ok(way_acted(push_literal(frames, operand))),
+        Operand::Long(_) => Ok(way_acted(push_literal(frames, operand))),
+        Operand::Text(text) => act_push_text(image, frames, heap, literals, text),
+        Operand::Class(class) => act_class(image, frames, heap, throwable, class, instr),
+        Operand::Field(field) => Ok(act_field(image, places, frames, heap, statics, field, instr)),
+        Operand::Method(_) => Ok(Acted::Call),
+        Operand::Unresolved => unreachable!(),
+    }
+}
+
+// The instruction of a number in a method is done, where the image's numbers are told to be settled.
+fn act_settled(
+    image: &Image,
+    places: &StaticPlaces,
+    throwable: u32,
+    frames: &mut Frames,
+    heap: &mut Heap,
+    statics: &mut Statics,
+    literals: &mut Literals,
+    method: MethodId,
+    number: u32,
+) -> Result<Acted, NoMemory>
+    requires settled { AreSettled (typed_of image.now) }
+    requires ready { IsReady image.now places.now throwable method.number number (machine frames.old (store heap.old statics.old literals.old)) }
+    requires resolved { IsResolved image.now method.number number }
+    ensures { IfOk result (λ acted. IsDone image.now method.number number
+        (machine frames.old (store heap.old statics.old literals.old)) (machine frames.new (store heap.new statics.new literals.new)) acted) }
+{
+    image.are_plain();
+    let instr = instr_of(image, method, number);
+    let operand = image.operand(method, number);
+    act_with(
+        image, places, throwable, frames, heap, statics, literals, instr, operand,
+    )
+}
+
+/// The instruction of a number in a method of an image is done, but for a call; the class that it uses has been initialised. The places of static
+/// fields are told, and the number of the class Throwable.
+pub fn act(
+    image: &Image,
+    places: &StaticPlaces,
+    throwable: u32,
+    frames: &mut Frames,
+    heap: &mut Heap,
+    statics: &mut Statics,
+    literals: &mut Literals,
+    method: MethodId,
+    number: u32,
+) -> Result<Acted, NoMemory>
+    requires ready { IsReady image.now places.now throwable method.number number (machine frames.old (store heap.old statics.old literals.old)) }
+    requires resolved { IsResolved image.now method.number number }
+    ensures { IfOk result (λ acted. IsDone image.now method.number number
+        (machine frames.old (store heap.old statics.old literals.old)) (machine frames.new (store heap.new statics.new literals.new)) acted) }
+{
+    image.are_settled();
+    act_settled(
+        image, places, throwable, frames, heap, statics, literals, method, number,
+    )
+}

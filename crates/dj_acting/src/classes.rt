@@ -1,0 +1,69 @@
+ghost use Rattle.std.specs.Prelude.{IfOk};
+ghost use Rattle.dj_names.specs.Types.{class_type};
+ghost use Rattle.dj_natives.specs.Numbered.{ArePlain};
+ghost use Rattle.dj_model.specs.Types.{throwable_name};
+ghost use Rattle.dj_model.specs.Instructions.{Named, Nothing};
+ghost use Rattle.dj_model.specs.Opcodes.{instruction_of};
+ghost use Rattle.dj_types.specs.Typed.{types_of};
+ghost use Rattle.dj_image.specs.Imaged.{typed_of};
+ghost use Rattle.dj_acting.specs.Acting.{ActsOnHeap, HasRoom, IsClassAt, IsHeap};
+ghost use Rattle.dj_acting.specs.Used.{IsClassUsed, IsMade};
+
+use crate::acted::Acted;
+use crate::arrays::act_new_array;
+use crate::objects::{act_cast, act_instance, act_new};
+use crate::plain::act_plain;
+use crate::uses::{ClassUse, class_use};
+use dj_effects::plain_action;
+use dj_heap::Heap;
+use dj_image::Image;
+use dj_names::{Element, NoMemory};
+use dj_ops::Instr;
+use dj_stack::Frames;
+
+/// An instruction that names nothing is done. The class of the array that it makes is told, where it makes one, and the class Throwable.
+pub fn act_unnamed(
+    image: &Image,
+    frames: &mut Frames,
+    heap: &mut Heap,
+    throwable: u32,
+    class: u32,
+    instr: &Instr,
+) -> Result<Acted, NoMemory>
+    requires known { IsHeap image.now frames.old heap.old }
+    requires throwable { IsClassAt image.now (class_type (throwable_name image.now.prefix)) throwable }
+    requires made { IsMade image.now (instruction_of instr.now Nothing) class }
+    requires room { HasRoom (instruction_of instr.now Nothing) frames.old }
+    ensures { IfOk result (λ acted. ActsOnHeap image.now (instruction_of instr.now Nothing) frames.old frames.new heap.old heap.new acted) }
+{
+    match plain_action(instr) {
+        Some(action) => act_plain(image, frames, heap, throwable, class, action),
+        None => Ok(Acted::Stuck),
+    }
+}
+
+/// An instruction on the class of a number is done.
+pub fn act_class(
+    image: &Image,
+    frames: &mut Frames,
+    heap: &mut Heap,
+    throwable: u32,
+    class: u32,
+    instr: &Instr,
+) -> Result<Acted, NoMemory>
+    requires known { IsHeap image.now frames.old heap.old }
+    requires throwable { IsClassAt image.now (class_type (throwable_name image.now.prefix)) throwable }
+    requires plain { ArePlain (types_of (typed_of image.now)) }
+    requires used { (named : Named) × IsClassUsed image.now instr.now class frames.old named }
+    ensures { (named : Named) → IsClassUsed image.now instr.now class frames.old named
+        → IfOk result (λ acted. ActsOnHeap image.now (instruction_of instr.now named) frames.old frames.new heap.old heap.new acted) }
+{
+    match class_use(instr) {
+        ClassUse::New => act_new(image, frames, heap, class),
+        ClassUse::NewArray => act_new_array(image, frames, heap, class, Element::Ref),
+        ClassUse::Cast => Ok(act_cast(image, frames, heap, class)),
+        ClassUse::Instance => Ok(act_instance(image, frames, heap, class)),
+        ClassUse::Plain => act_unnamed(image, frames, heap, throwable, class, instr),
+        ClassUse::Other => Ok(Acted::Stuck),
+    }
+}

@@ -1,0 +1,60 @@
+ghost use Rattle.std.specs.Prelude.{◌<◌, ◌≤◌, length};
+ghost use Rattle.dj_model.specs.Instructions.{GetField, PutField};
+ghost use Rattle.dj_model.specs.Types.{Member};
+ghost use Rattle.dj_model.specs.Linking.{FoundField};
+ghost use Rattle.dj_stack.specs.Frames.{top_operands, top_room};
+ghost use Rattle.dj_types.specs.Members.{all_fields};
+ghost use Rattle.dj_image.specs.Imaged.{program_of, typed_of};
+ghost use Rattle.dj_image.specs.Numbering.{AreSettled};
+ghost use Rattle.dj_acting.specs.Accesses.{IsAccess};
+ghost use Rattle.dj_acting.specs.Acting.{ActsOnHeap, IsHeap, IsMember};
+
+use crate::acted::{Acted, flow_acted};
+use crate::kinds::kind_of;
+use dj_heap::Heap;
+use dj_image::{FieldId, Image};
+use dj_members::{FieldAccess, get_field, put_field};
+use dj_stack::Frames;
+
+/// getfield of the field of a number.
+pub fn act_get_field(image: &Image, frames: &mut Frames, heap: &Heap, field: FieldId) -> Acted
+    requires settled { AreSettled (typed_of image.now) }
+    requires known { IsHeap image.now frames.old heap.now }
+    requires there { field.number < length (all_fields (program_of image.now)) }
+    requires room { length (top_operands frames.old) ≤ top_room frames.old }
+    ensures { (member : Member) (found : FoundField) → IsMember image.now member found field.number
+        → ActsOnHeap image.now (GetField member) frames.old frames.new heap.now heap.now result }
+{
+    let Some(access) = access_to(image, field) else {
+        return Acted::Stuck;
+    };
+    flow_acted(get_field(image, frames, heap, access))
+}
+
+/// putfield of the field of a number.
+pub fn act_put_field(image: &Image, frames: &mut Frames, heap: &mut Heap, field: FieldId) -> Acted
+    requires settled { AreSettled (typed_of image.now) }
+    requires known { IsHeap image.now frames.old heap.old }
+    requires there { field.number < length (all_fields (program_of image.now)) }
+    ensures { (member : Member) (found : FoundField) → IsMember image.now member found field.number
+        → ActsOnHeap image.now (PutField member) frames.old frames.new heap.old heap.new result }
+{
+    let Some(access) = access_to(image, field) else {
+        return Acted::Stuck;
+    };
+    flow_acted(put_field(image, frames, heap, access))
+}
+
+// Where the field of a number stands in its instances, if it has a kind.
+fn access_to(image: &Image, field: FieldId) -> Option<FieldAccess>
+    requires { field.number < length (all_fields (program_of image.now)) }
+    ensures { IsAccess image.now field.number result }
+{
+    let member = image.field(field);
+    let kind = kind_of(member.desc)?;
+    Some(FieldAccess {
+        declaring: member.class,
+        place: image.place(field),
+        kind,
+    })
+}

@@ -1,0 +1,49 @@
+ghost use Rattle.std.specs.Prelude.{◌≡◌, ◌<◌, length};
+ghost use Rattle.dj_model.specs.Instructions.{Named};
+ghost use Rattle.dj_model.specs.Opcodes.{instruction_of};
+ghost use Rattle.dj_model.specs.Linking.{static_count};
+ghost use Rattle.dj_types.specs.Members.{all_fields};
+ghost use Rattle.dj_image.specs.Imaged.{program_of, typed_of};
+ghost use Rattle.dj_image.specs.Numbering.{AreSettled};
+ghost use Rattle.dj_initialising.specs.Places.{ArePlaces};
+ghost use Rattle.dj_acting.specs.Acting.{IsHeap};
+ghost use Rattle.dj_acting.specs.Used.{ActsOnFields, IsFieldUsed};
+
+use crate::acted::Acted;
+use crate::fields::{act_get_field, act_put_field};
+use crate::statics::{act_get_static, act_put_static};
+use crate::uses::{FieldUse, field_use};
+use dj_heap::Heap;
+use dj_image::{FieldId, Image};
+use dj_initialising::StaticPlaces;
+use dj_members::Statics;
+use dj_ops::Instr;
+use dj_stack::Frames;
+
+/// An instruction on the field of a number is done.
+pub fn act_field(
+    image: &Image,
+    places: &StaticPlaces,
+    frames: &mut Frames,
+    heap: &mut Heap,
+    statics: &mut Statics,
+    field: FieldId,
+    instr: &Instr,
+) -> Acted
+    requires settled { AreSettled (typed_of image.now) }
+    requires places { ArePlaces (program_of image.now) places.now }
+    requires known { IsHeap image.now frames.old heap.old }
+    requires counted { length statics.old ≡ static_count (program_of image.now) }
+    requires there { field.number < length (all_fields (program_of image.now)) }
+    requires used { (named : Named) × IsFieldUsed image.now instr.now field.number frames.old named }
+    ensures { (named : Named) → IsFieldUsed image.now instr.now field.number frames.old named
+        → ActsOnFields image.now (instruction_of instr.now named) frames.old frames.new heap.old heap.new statics.old statics.new result }
+{
+    match field_use(instr) {
+        FieldUse::GetStatic => act_get_static(image, places, frames, statics, field),
+        FieldUse::PutStatic => act_put_static(image, places, frames, statics, field),
+        FieldUse::Get => act_get_field(image, frames, heap, field),
+        FieldUse::Put => act_put_field(image, frames, heap, field),
+        FieldUse::Neither => Acted::Stuck,
+    }
+}

@@ -1,0 +1,60 @@
+ghost use Rattle.std.specs.Prelude.{◌≡◌, ◌<◌, length};
+ghost use Rattle.dj_model.specs.Instructions.{GetStatic, PutStatic};
+ghost use Rattle.dj_model.specs.Types.{Member};
+ghost use Rattle.dj_model.specs.Linking.{FoundField, static_count};
+ghost use Rattle.dj_stack.specs.Frames.{top_operands, top_room};
+ghost use Rattle.dj_types.specs.Members.{all_fields};
+ghost use Rattle.dj_image.specs.Imaged.{program_of};
+ghost use Rattle.dj_initialising.specs.Places.{ArePlaces};
+ghost use Rattle.dj_acting.specs.Accesses.{IsStaticAt};
+ghost use Rattle.dj_acting.specs.Acting.{ActsOnStatics, IsMember};
+
+use crate::acted::{Acted, way_acted};
+use crate::kinds::kind_of;
+use dj_image::{FieldId, Image};
+use dj_initialising::StaticPlaces;
+use dj_members::{Statics, get_static, put_static};
+use dj_stack::Frames;
+
+/// getstatic of the field of a number.
+pub fn act_get_static(
+    image: &Image,
+    places: &StaticPlaces,
+    frames: &mut Frames,
+    statics: &Statics,
+    field: FieldId,
+) -> Acted
+    requires places { ArePlaces (program_of image.now) places.now }
+    requires counted { length statics.now ≡ static_count (program_of image.now) }
+    requires there { field.number < length (all_fields (program_of image.now)) }
+    requires found { IsStaticAt image.now field.number }
+    requires room { length (top_operands frames.old) < top_room frames.old }
+    ensures { (member : Member) (found : FoundField) → IsMember image.now member found field.number
+        → ActsOnStatics image.now (GetStatic member) frames.old frames.new statics.now statics.now result }
+{
+    let Some(kind) = kind_of(image.field(field).desc) else {
+        return Acted::Stuck;
+    };
+    way_acted(get_static(frames, statics, places.place(field), kind))
+}
+
+/// putstatic of the field of a number.
+pub fn act_put_static(
+    image: &Image,
+    places: &StaticPlaces,
+    frames: &mut Frames,
+    statics: &mut Statics,
+    field: FieldId,
+) -> Acted
+    requires places { ArePlaces (program_of image.now) places.now }
+    requires counted { length statics.old ≡ static_count (program_of image.now) }
+    requires there { field.number < length (all_fields (program_of image.now)) }
+    requires found { IsStaticAt image.now field.number }
+    ensures { (member : Member) (found : FoundField) → IsMember image.now member found field.number
+        → ActsOnStatics image.now (PutStatic member) frames.old frames.new statics.old statics.new result }
+{
+    let Some(kind) = kind_of(image.field(field).desc) else {
+        return Acted::Stuck;
+    };
+    way_acted(put_static(frames, statics, places.place(field), kind))
+}

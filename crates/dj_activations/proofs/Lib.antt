@@ -1,0 +1,7 @@
+pub mod Numbers
+pub mod Told
+pub mod Rooms
+pub mod Standing
+pub mod Calls
+mod ActivationFacts
+mod CodeFacts

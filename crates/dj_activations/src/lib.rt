@@ -1,0 +1,6 @@
+//! What the frames of a machine over an image are in the model: a method's number stands for its names.
+#![tactic(auto)]
+
+mod methods;
+
+pub use methods::{code_of, initialised_by, is_initialiser};

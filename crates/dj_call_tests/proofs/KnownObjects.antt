@@ -1,0 +1,132 @@
+-- Objects of a heap are known, one by one.
+use Rattle.std.proofs.Common.{◌≡◌, ℕ, ℤ, zero, suc, ◌+◌, ◌-◌, ◌<◌, ◌≤◌, Bool, true, false, List, [], ◌∷◌, length, All, Option, Some, None, refl, sym, ap, subst, ◌∙◌, arith, inl, inr, IsTrue}
+use Rattle.std.specs.Prelude.{if◌then◌else◌, nat_eq, slice_get, unsigned_abs, option_map, option_and_then}
+use Rattle.std.specs.List.{AllByRecursion}
+use Rattle.std.proofs.lemmas.Bool.{cases_lt, ne_eqb}
+use Rattle.std.proofs.lemmas.List.Elements.{All-from_recursion, All-get_or}
+use Rattle.std.proofs.lemmas.Option.{none-some, same_Some, slice_get_within, get_or_from_slice_get}
+use Rattle.dj_names.specs.declared.descriptor.Ty.{Ty}
+use Rattle.dj_names.specs.Types.{component_type}
+use Rattle.dj_names.specs.declared.run.Element.{Element}
+use Rattle.dj_names.specs.declared.run.Element.TheVariants as elements
+use Rattle.dj_names.specs.Heaps.{Object, Instance, Array, Text, class_of}
+use Rattle.dj_heap.specs.declared.object.Made.{Made}
+use Rattle.dj_heap.specs.declared.object.Made.TheVariants as made
+use Rattle.dj_heap.specs.Calls.{made_as}
+use Rattle.dj_heap.specs.Lengths.{object_length}
+use Rattle.dj_heap.specs.Heaps.{LimitedHeap, object_in, element_in, contents_of}
+use Rattle.dj_model.specs.Natives.{is_reference}
+use Rattle.dj_natives.specs.Numbered.{IsNumberOf, type_at, holds_references, component_of}
+use Rattle.dj_calls.specs.Known.{AreKnown, IsKnown}
+use Rattle.dj_members.specs.Numbering.{AreNumbered}
+use Rattle.dj_call_tests.specs.Arguments.{AreThere, AreThereTo, IsKnownAt}
+
+-- ---- lists
+
+by_places : {A : Type 0} (P : A → Type 0) (xs : List A) → ((k : ℕ) (x : A) → slice_get xs k ≡ Some x → P x) → AllByRecursion P xs
+by_places P [] each = tt
+by_places P (x ∷ xs) each = (each 0 x refl, by_places P xs (λ k y e. each (suc k) y e))
+
+pub all_places : {A : Type 0} (P : A → Type 0) (xs : List A) → ((k : ℕ) (x : A) → slice_get xs k ≡ Some x → P x) → All P xs
+all_places P xs each = All-from_recursion P xs (by_places P xs each)
+
+-- ---- elements
+
+pub there_more : (h : LimitedHeap) (r at : ℕ) (z : ℤ) → AreThereTo h r at → element_in h r at ≡ Some z → unsigned_abs z ≤ length h.heap.objects → AreThereTo h r (at + 1)
+there_more h r at z before here few k y less e = elim (cases_lt k at) [
+  | inl lower ↦ before k y lower e
+  | inr more ↦
+      let same : k ≡ at = omega (arith, less, more) in
+      let is : z ≡ y = same_Some z y (sym here ∙ ap (element_in h r) (sym same) ∙ e) in
+      subst (λ (v : ℤ). unsigned_abs v ≤ length h.heap.objects) is few
+]
+
+contents_within : (o : Option (Object ℕ)) (n k : ℕ) (z : ℤ) → option_map object_length o ≡ Some n → option_and_then (λ contents. slice_get contents k) (option_and_then contents_of o) ≡ Some z → k < n
+contents_within None n k z long e = absurd cc
+contents_within (Some (Instance class fields)) n k z long e = absurd cc
+contents_within (Some (Array class element contents)) n k z long e =
+    let within = slice_get_within contents k z e in
+    let same = same_Some (length contents) n long in
+    omega (arith, within, same)
+contents_within (Some (Text class units)) n k z long e = absurd cc
+
+pub there_all : (h : LimitedHeap) (r n at : ℕ) → option_map object_length (object_in h r) ≡ Some n → n ≤ at → AreThereTo h r at → AreThere h r
+there_all h r n at long past before k z e =
+    let within = contents_within (object_in h r) n k z long e in
+    before k z (omega (arith, within, past)) e
+
+-- ---- objects
+
+other_known : (types : List Ty) (count class : ℕ) (object : Object ℕ) (made_so : Made) → class_of object ≡ class → class < length types → made_as object ≡ made_so
+    → (made_so ≡ made.Array elements.Ref → ⊥) → IsKnown types count object
+other_known types count class (Instance k fields) made_so own few is other = record { class = omega (arith, own, few); holds = tt; there = tt }
+other_known types count class (Text k units) made_so own few is other = record { class = omega (arith, own, few); holds = tt; there = tt }
+other_known types count class (Array k elements.Ref contents) made_so own few is other = absurd (other (sym is))
+other_known types count class (Array k elements.Boolean contents) made_so own few is other = record { class = omega (arith, own, few); holds = λ e. absurd cc; there = λ e. absurd cc }
+other_known types count class (Array k elements.Byte contents) made_so own few is other = record { class = omega (arith, own, few); holds = λ e. absurd cc; there = λ e. absurd cc }
+other_known types count class (Array k elements.Char contents) made_so own few is other = record { class = omega (arith, own, few); holds = λ e. absurd cc; there = λ e. absurd cc }
+other_known types count class (Array k elements.Short contents) made_so own few is other = record { class = omega (arith, own, few); holds = λ e. absurd cc; there = λ e. absurd cc }
+other_known types count class (Array k elements.Int contents) made_so own few is other = record { class = omega (arith, own, few); holds = λ e. absurd cc; there = λ e. absurd cc }
+other_known types count class (Array k elements.Long contents) made_so own few is other = record { class = omega (arith, own, few); holds = λ e. absurd cc; there = λ e. absurd cc }
+
+-- an object that is no array of references
+pub known_other : (types : List Ty) (h : LimitedHeap) (r class : ℕ) (made_so : Made) → option_map class_of (object_in h r) ≡ Some class → class < length types
+    → option_map made_as (object_in h r) ≡ Some made_so → (made_so ≡ made.Array elements.Ref → ⊥) → IsKnownAt types h r
+known_other types h r class made_so own few is other object e =
+    other_known types (length h.heap.objects) class object made_so
+    (same_Some (class_of object) class (sym (ap (option_map class_of) e) ∙ own)) few
+    (same_Some (made_as object) made_so (sym (ap (option_map made_as) e) ∙ is)) other
+
+references_hold : (types : List Ty) (class : ℕ) (component : ℕ) → IsNumberOf types (component_of (type_at types class)) (Some component) → holds_references (type_at types class) ≡ true
+references_hold types class component numbered = by (holds_references (type_at types class)) refl numbered where
+  by : (b : Bool) → holds_references (type_at types class) ≡ b → IsNumberOf types (if b then Some (component_type (type_at types class)) else None) (Some component) → holds_references (type_at types class) ≡ true
+  by true e some = e
+  by false e some = absurd some
+
+-- an array of references
+pub known_references : (types : List Ty) (h : LimitedHeap) (r class component : ℕ) → option_map class_of (object_in h r) ≡ Some class → class < length types
+    → IsNumberOf types (component_of (type_at types class)) (Some component) → AreThere h r → IsKnownAt types h r
+known_references types h r class component own few numbered there (Instance k fields) e =
+    let same = same_Some k class (sym (ap (option_map class_of) e) ∙ own) in
+    record { class = omega (arith, same, few); holds = tt; there = tt }
+known_references types h r class component own few numbered there (Text k units) e =
+    let same = same_Some k class (sym (ap (option_map class_of) e) ∙ own) in
+    record { class = omega (arith, same, few); holds = tt; there = tt }
+known_references types h r class component own few numbered there (Array k element contents) e =
+    let same : k ≡ class = same_Some k class (sym (ap (option_map class_of) e) ∙ own) in
+    record {
+      class = omega (arith, same, few);
+      holds = λ is. ap (λ (c : ℕ). holds_references (type_at types c)) same ∙ references_hold types class component numbered;
+      there = λ is. all_places (λ z. unsigned_abs z ≤ length h.heap.objects) contents
+          (λ at z found. there at z (ap (λ (o : Option (Object ℕ)). option_and_then (λ contents. slice_get contents at) (option_and_then contents_of o)) e ∙ found));
+    }
+
+-- ---- all objects
+
+-- the first so many objects are known
+abbrev pub AreKnownTo : List Ty → LimitedHeap → ℕ → Type 0
+AreKnownTo types h n = (k : ℕ) (object : Object ℕ) → k < n → slice_get h.heap.objects k ≡ Some object → IsKnown types (length h.heap.objects) object
+
+pub known_more : (types : List Ty) (h : LimitedHeap) (at : ℕ) → AreKnownTo types h at → IsKnownAt types h (at + 1) → AreKnownTo types h (at + 1)
+known_more types h at before here k object less e = elim (cases_lt k at) [
+  | inl lower ↦ before k object lower e
+  | inr more ↦
+      let same : at + 1 - 1 ≡ k = omega (arith, less, more) in
+      let some : nat_eq (at + 1) 0 ≡ false = ne_eqb (at + 1) 0 (λ none. omega (arith, none)) in
+      here object (ap (λ (b : Bool). if b then None else slice_get h.heap.objects (at + 1 - 1)) some ∙ ap (slice_get h.heap.objects) same ∙ e)
+]
+
+pub known_all : (types : List Ty) (h : LimitedHeap) (n at : ℕ) → n ≡ length h.heap.objects → n ≤ at → AreKnownTo types h at → AreKnown types h
+known_all types h n at many past before =
+    all_places (IsKnown types (length h.heap.objects)) h.heap.objects (λ k object e.
+    let within = slice_get_within h.heap.objects k object e in before k object (omega (arith, within, many, past)) e)
+
+pub there_within : (h : LimitedHeap) (n at : ℕ) → n ≡ length h.heap.objects → at < n → at + 1 ≤ length h.heap.objects
+there_within h n at many less = omega (arith, many, less)
+
+-- ---- classes alone
+
+pub numbered : (types : List Ty) (h : LimitedHeap) → AreKnown types h → AreNumbered (length types) h.heap
+numbered types h known = all_places (λ object. class_of object < length types) h.heap.objects (λ k object e.
+    (subst (IsKnown types (length h.heap.objects)) (get_or_from_slice_get h.heap.objects k object object e)
+    (All-get_or (IsKnown types (length h.heap.objects)) h.heap.objects k object (slice_get_within h.heap.objects k object e) known)).class)

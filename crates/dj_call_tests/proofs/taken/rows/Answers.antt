@@ -1,0 +1,160 @@
+use Rattle.std.proofs.Common.{refl}
+use Rattle.dj_model.specs.NativeKinds.{native_signature}
+use Rattle.dj_call_tests.proofs.taken.rows.Goals as goal
+
+pub returns : goal.returns
+unfolding native_signature
+returns c = (
+  record { kinds = refl; asks = λ args. refl; fits = λ h args chars. tt },
+  (
+    record { kinds = refl; asks = λ args. refl; fits = λ h args chars. tt },
+    (
+      record { kinds = refl; asks = λ args. refl; fits = λ h args chars. tt },
+      (
+        record { kinds = refl; asks = λ args. refl; fits = λ h args chars. tt },
+        (
+          record { kinds = refl; asks = λ args. refl; fits = λ h args chars. tt },
+          (
+            record { kinds = refl; asks = λ args. refl; fits = λ h args chars. tt },
+            (
+              record { kinds = refl; asks = λ args. refl; fits = λ h args chars. tt },
+              (
+                record { kinds = refl; asks = λ args. refl; fits = λ h args chars. tt },
+                (
+                  record { kinds = refl; asks = λ args. refl; fits = λ h args chars. tt },
+                  (
+                    record { kinds = refl; asks = λ args. refl; fits = λ h args chars. tt },
+                    (
+                      record { kinds = refl; asks = λ args. refl; fits = λ h args chars. tt },
+                      (
+                        record { kinds = refl; asks = λ args. refl; fits = λ h args chars. tt },
+                        (
+                          record { kinds = refl; asks = λ args. refl; fits = λ h args chars. tt },
+                          (
+                            record { kinds = refl; asks = λ args. refl; fits = λ h args chars. tt },
+                            (
+                              record { kinds = refl; asks = λ args. refl; fits = λ h args chars. tt },
+                              (
+                                record { kinds = refl; asks = λ args. refl; fits = λ h args chars. tt },
+                                (
+                                  record { kinds = refl; asks = λ args. refl; fits = λ h args chars. tt },
+                                  (
+                                    record { kinds = refl; asks = λ args. refl; fits = λ h args chars. chars refl },
+                                    (
+                                      record { kinds = refl; asks = λ args. refl; fits = λ h args chars. tt },
+                                      (
+                                        record { kinds = refl; asks = λ args. refl; fits = λ h args chars. tt },
+                                        (
+                                          record { kinds = refl; asks = λ args. refl; fits = λ h args chars. tt },
+                                          (
+                                            record { kinds = refl; asks = λ args. refl; fits = λ h args chars. tt },
+                                            (
+                                              record { kinds = refl; asks = λ args. refl; fits = λ h args chars. tt },
+                                              (
+                                                record { kinds = refl; asks = λ args. refl; fits = λ h args chars. tt },
+                                                (
+                                                  record { kinds = refl; asks = λ args. refl; fits = λ h args chars. tt },
+                                                  (
+                                                    record { kinds = refl; asks = λ args. refl; fits = λ h args chars. tt },
+                                                    (
+                                                      record { kinds = refl; asks = λ args. refl; fits = λ h args chars. tt },
+                                                      (
+                                                        record { kinds = refl; asks = λ args. refl; fits = λ h args chars. tt },
+                                                        (
+                                                          record { kinds = refl; asks = λ args. refl; fits = λ h args chars. tt },
+                                                          (
+                                                            record { kinds = refl; asks = λ args. refl; fits = λ h args chars. tt },
+                                                            (
+                                                              record { kinds = refl; asks = λ args. refl; fits = λ h args chars. tt },
+                                                              (
+                                                                record { kinds = refl; asks = λ args. refl; fits = λ h args chars. tt },
+                                                                (
+                                                                  record { kinds = refl; asks = λ args. refl; fits = λ h args chars. tt },
+                                                                  (
+                                                                    record { kinds = refl; asks = λ args. refl; fits = λ h args chars. tt },
+                                                                    (
+                                                                      record { kinds = refl; asks = λ args. refl; fits = λ h args chars. tt },
+                                                                      (
+                                                                        record { kinds = refl; asks = λ args. refl; fits = λ h args chars. tt },
+                                                                        (
+                                                                          record { kinds = refl; asks = λ args. refl; fits = λ h args chars. tt },
+                                                                          (
+                                                                            record { kinds = refl; asks = λ args. refl; fits = λ h args chars. tt },
+                                                                            (
+                                                                              record { kinds = refl; asks = λ args. refl; fits = λ h args chars. tt },
+                                                                              (
+                                                                                record { kinds = refl; asks = λ args. refl; fits = λ h args chars. tt },
+                                                                                (
+                                                                                  record { kinds = refl; asks = λ args. refl; fits = λ h args chars. tt },
+                                                                                  (
+                                                                                    record { kinds = refl; asks = λ args. refl; fits = λ h args chars. tt },
+                                                                                    (
+                                                                                      record { kinds = refl; asks = λ args. refl; fits = λ h args chars. tt },
+                                                                                      (
+                                                                                        record { kinds = refl; asks = λ args. refl; fits = λ h args chars. tt },
+                                                                                        (
+                                                                                          record { kinds = refl; asks = λ args. refl; fits = λ h args chars. tt },
+                                                                                          (
+                                                                                            record { kinds = refl; asks = λ args. refl; fits = λ h args chars. tt },
+                                                                                            (
+                                                                                              record { kinds = refl; asks = λ args. refl; fits = λ h args chars. tt },
+                                                                                              (
+                                                                                                record { kinds = refl; asks = λ args. refl; fits = λ h args chars. tt },
+                                                                                                (
+                                                                                                  record { kinds = refl; asks = λ args. refl; fits = λ h args chars. tt },
+                                                                                                  (
+                                                                                                    record { kinds = refl; asks = λ args. refl; fits = λ h args chars. tt },
+                                                                                                    (
+                                                                                                      record { kinds = refl; asks = λ args. refl; fits = λ h args chars. tt },
+                                                                                                      tt,
+                                                                                                    ),
+                                                                                                  ),
+                                                                                                ),
+                                                                                              ),
+                                                                                            ),
+                                                                                          ),
+                                                                                        ),
+                                                                                      ),
+                                                                                    ),
+                                                                                  ),
+                                                                                ),
+                                                                              ),
+                                                                            ),
+                                                                          ),
+                                                                        ),
+                                                                      ),
+                                                                    ),
+                                                                  ),
+                                                                ),
+                                                              ),
+                                                            ),
+                                                          ),
+                                                        ),
+                                                      ),
+                                                    ),
+                                                  ),
+                                                ),
+                                              ),
+                                            ),
+                                          ),
+                                        ),
+                                      ),
+                                    ),
+                                  ),
+                                ),
+                              ),
+                            ),
+                          ),
+                        ),
+                      ),
+                    ),
+                  ),
+                ),
+              ),
+            ),
+          ),
+        ),
+      ),
+    ),
+  ),
+)

@@ -1,0 +1,460 @@
+use crate::calls::{are_asked, are_kept};
+use crate::few::Few;
+use crate::rows::After::ElementsAre;
+use crate::rows::Argument::{Int, Null, Numbers, Object, References, Same, Text};
+use crate::rows::Told::{Nothing, Raises};
+use crate::rows::{Asked, Kept};
+use dj_names::NativeId::ArrayCopy;
+use dj_names::{Element, Raised};
+
+// Copies of elements.
+const COPIES: [Asked; 2] = [
+    (
+        ArrayCopy,
+        &[
+            Numbers(b"[B", Element::Byte, &[1]),
+            Int(0),
+            Null,
+            Int(0),
+            Int(0),
+        ],
+        Raises(Raised::NullPointer),
+        24,
+    ),
+    (
+        ArrayCopy,
+        &[Object(b"A", 0), Int(0), Null, Int(-1), Int(0)],
+        Raises(Raised::NullPointer),
+        16,
+    ),
+];
+
+// Copies of elements, which change something.
+const COPIES_KEPT: [Kept; 32] = [
+    (
+        ArrayCopy,
+        &[
+            Numbers(b"[B", Element::Byte, &[1, 2, 3, 4, 5]),
+            Int(0),
+            Same(0),
+            Int(1),
+            Int(4),
+        ],
+        Nothing,
+        (24, 24),
+        ElementsAre(1, &[1, 1, 2, 3, 4]),
+    ),
+    (
+        ArrayCopy,
+        &[
+            Numbers(b"[B", Element::Byte, &[1, 2, 3, 4, 5]),
+            Int(1),
+            Same(0),
+            Int(0),
+            Int(4),
+        ],
+        Nothing,
+        (24, 24),
+        ElementsAre(1, &[2, 3, 4, 5, 5]),
+    ),
+    (
+        ArrayCopy,
+        &[
+            Numbers(b"[B", Element::Byte, &[1, 2, 3]),
+            Int(1),
+            Numbers(b"[B", Element::Byte, &[0, 0]),
+            Int(0),
+            Int(2),
+        ],
+        Nothing,
+        (48, 48),
+        ElementsAre(2, &[2, 3]),
+    ),
+    (
+        ArrayCopy,
+        &[
+            Numbers(b"[B", Element::Byte, &[1]),
+            Int(1),
+            Numbers(b"[B", Element::Byte, &[0]),
+            Int(1),
+            Int(0),
+        ],
+        Nothing,
+        (48, 48),
+        ElementsAre(2, &[0]),
+    ),
+    (
+        ArrayCopy,
+        &[
+            Numbers(b"[Z", Element::Boolean, &[1, 0]),
+            Int(0),
+            Numbers(b"[Z", Element::Boolean, &[0, 0]),
+            Int(0),
+            Int(2),
+        ],
+        Nothing,
+        (48, 48),
+        ElementsAre(2, &[1, 0]),
+    ),
+    (
+        ArrayCopy,
+        &[
+            Numbers(b"[C", Element::Char, &[65535]),
+            Int(0),
+            Numbers(b"[C", Element::Char, &[1, 2]),
+            Int(1),
+            Int(1),
+        ],
+        Nothing,
+        (48, 48),
+        ElementsAre(2, &[1, 65535]),
+    ),
+    (
+        ArrayCopy,
+        &[
+            Numbers(b"[S", Element::Short, &[-1]),
+            Int(0),
+            Numbers(b"[S", Element::Short, &[0]),
+            Int(0),
+            Int(1),
+        ],
+        Nothing,
+        (48, 48),
+        ElementsAre(2, &[-1]),
+    ),
+    (
+        ArrayCopy,
+        &[
+            Numbers(b"[I", Element::Int, &[7, 8]),
+            Int(1),
+            Numbers(b"[I", Element::Int, &[0]),
+            Int(0),
+            Int(1),
+        ],
+        Nothing,
+        (48, 48),
+        ElementsAre(2, &[8]),
+    ),
+    (
+        ArrayCopy,
+        &[
+            Numbers(b"[J", Element::Long, &[i64::MIN]),
+            Int(0),
+            Numbers(b"[J", Element::Long, &[0]),
+            Int(0),
+            Int(1),
+        ],
+        Nothing,
+        (48, 48),
+        ElementsAre(2, &[i64::MIN]),
+    ),
+    (
+        ArrayCopy,
+        &[
+            References(b"[Ljava/lang/Object;", &[Text(b"a"), Null]),
+            Int(0),
+            References(b"[Ljava/lang/String;", &[Null, Null]),
+            Int(0),
+            Int(2),
+        ],
+        Nothing,
+        (72, 72),
+        ElementsAre(3, &[1, 0]),
+    ),
+    (
+        ArrayCopy,
+        &[
+            References(b"[Ljava/lang/String;", &[Text(b"a")]),
+            Int(0),
+            References(b"[Ljava/lang/Object;", &[Null]),
+            Int(0),
+            Int(1),
+        ],
+        Nothing,
+        (72, 72),
+        ElementsAre(3, &[1]),
+    ),
+    (
+        ArrayCopy,
+        &[
+            References(
+                b"[Ljava/lang/Object;",
+                &[Text(b"a"), Object(b"A", 0), Text(b"b")],
+            ),
+            Int(0),
+            References(b"[Ljava/lang/String;", &[Null, Null, Null]),
+            Int(0),
+            Int(3),
+        ],
+        Raises(Raised::ArrayStore),
+        (128, 128),
+        ElementsAre(5, &[1, 0, 0]),
+    ),
+    (
+        ArrayCopy,
+        &[
+            References(b"[Ljava/lang/Object;", &[Object(b"A", 0)]),
+            Int(0),
+            References(b"[Ljava/lang/String;", &[Null]),
+            Int(0),
+            Int(0),
+        ],
+        Nothing,
+        (64, 64),
+        ElementsAre(3, &[0]),
+    ),
+    (
+        ArrayCopy,
+        &[
+            Null,
+            Int(0),
+            Numbers(b"[B", Element::Byte, &[1]),
+            Int(0),
+            Int(0),
+        ],
+        Raises(Raised::NullPointer),
+        (24, 24),
+        ElementsAre(1, &[1]),
+    ),
+    (
+        ArrayCopy,
+        &[
+            Object(b"A", 0),
+            Int(0),
+            Numbers(b"[B", Element::Byte, &[1]),
+            Int(0),
+            Int(0),
+        ],
+        Raises(Raised::ArrayStore),
+        (40, 40),
+        ElementsAre(2, &[1]),
+    ),
+    (
+        ArrayCopy,
+        &[
+            Text(b"a"),
+            Int(0),
+            Numbers(b"[C", Element::Char, &[1]),
+            Int(0),
+            Int(0),
+        ],
+        Raises(Raised::ArrayStore),
+        (48, 48),
+        ElementsAre(2, &[1]),
+    ),
+    (
+        ArrayCopy,
+        &[
+            Numbers(b"[B", Element::Byte, &[1]),
+            Int(0),
+            Numbers(b"[Z", Element::Boolean, &[1]),
+            Int(0),
+            Int(0),
+        ],
+        Raises(Raised::ArrayStore),
+        (48, 48),
+        ElementsAre(2, &[1]),
+    ),
+    (
+        ArrayCopy,
+        &[
+            Numbers(b"[B", Element::Byte, &[1]),
+            Int(-1),
+            Numbers(b"[I", Element::Int, &[1]),
+            Int(0),
+            Int(0),
+        ],
+        Raises(Raised::ArrayStore),
+        (48, 48),
+        ElementsAre(2, &[1]),
+    ),
+    (
+        ArrayCopy,
+        &[
+            Numbers(b"[I", Element::Int, &[1]),
+            Int(0),
+            References(b"[Ljava/lang/Object;", &[Null]),
+            Int(0),
+            Int(0),
+        ],
+        Raises(Raised::ArrayStore),
+        (48, 48),
+        ElementsAre(2, &[0]),
+    ),
+    (
+        ArrayCopy,
+        &[
+            References(b"[Ljava/lang/Object;", &[Null]),
+            Int(0),
+            Numbers(b"[I", Element::Int, &[1]),
+            Int(0),
+            Int(0),
+        ],
+        Raises(Raised::ArrayStore),
+        (48, 48),
+        ElementsAre(2, &[1]),
+    ),
+    (
+        ArrayCopy,
+        &[
+            Numbers(b"[B", Element::Byte, &[1, 2]),
+            Int(-1),
+            Numbers(b"[B", Element::Byte, &[3, 4]),
+            Int(0),
+            Int(0),
+        ],
+        Raises(Raised::ArrayIndexOutOfBounds),
+        (48, 48),
+        ElementsAre(2, &[3, 4]),
+    ),
+    (
+        ArrayCopy,
+        &[
+            Numbers(b"[B", Element::Byte, &[1, 2]),
+            Int(0),
+            Numbers(b"[B", Element::Byte, &[3, 4]),
+            Int(-1),
+            Int(0),
+        ],
+        Raises(Raised::ArrayIndexOutOfBounds),
+        (48, 48),
+        ElementsAre(2, &[3, 4]),
+    ),
+    (
+        ArrayCopy,
+        &[
+            Numbers(b"[B", Element::Byte, &[1, 2]),
+            Int(0),
+            Numbers(b"[B", Element::Byte, &[3, 4]),
+            Int(0),
+            Int(-1),
+        ],
+        Raises(Raised::ArrayIndexOutOfBounds),
+        (48, 48),
+        ElementsAre(2, &[3, 4]),
+    ),
+    (
+        ArrayCopy,
+        &[
+            Numbers(b"[B", Element::Byte, &[1, 2]),
+            Int(2),
+            Numbers(b"[B", Element::Byte, &[3, 4]),
+            Int(0),
+            Int(1),
+        ],
+        Raises(Raised::ArrayIndexOutOfBounds),
+        (48, 48),
+        ElementsAre(2, &[3, 4]),
+    ),
+    (
+        ArrayCopy,
+        &[
+            Numbers(b"[B", Element::Byte, &[1, 2]),
+            Int(0),
+            Numbers(b"[B", Element::Byte, &[3, 4]),
+            Int(2),
+            Int(1),
+        ],
+        Raises(Raised::ArrayIndexOutOfBounds),
+        (48, 48),
+        ElementsAre(2, &[3, 4]),
+    ),
+    (
+        ArrayCopy,
+        &[
+            Numbers(b"[B", Element::Byte, &[1, 2]),
+            Int(1),
+            Numbers(b"[B", Element::Byte, &[3, 4]),
+            Int(0),
+            Int(2),
+        ],
+        Raises(Raised::ArrayIndexOutOfBounds),
+        (48, 48),
+        ElementsAre(2, &[3, 4]),
+    ),
+    (
+        ArrayCopy,
+        &[
+            Numbers(b"[B", Element::Byte, &[1, 2]),
+            Int(0),
+            Numbers(b"[B", Element::Byte, &[3, 4]),
+            Int(1),
+            Int(2),
+        ],
+        Raises(Raised::ArrayIndexOutOfBounds),
+        (48, 48),
+        ElementsAre(2, &[3, 4]),
+    ),
+    (
+        ArrayCopy,
+        &[
+            Numbers(b"[B", Element::Byte, &[1, 2]),
+            Int(3),
+            Numbers(b"[B", Element::Byte, &[3, 4]),
+            Int(0),
+            Int(0),
+        ],
+        Raises(Raised::ArrayIndexOutOfBounds),
+        (48, 48),
+        ElementsAre(2, &[3, 4]),
+    ),
+    (
+        ArrayCopy,
+        &[
+            Numbers(b"[B", Element::Byte, &[1, 2]),
+            Int(0),
+            Numbers(b"[B", Element::Byte, &[3, 4]),
+            Int(3),
+            Int(0),
+        ],
+        Raises(Raised::ArrayIndexOutOfBounds),
+        (48, 48),
+        ElementsAre(2, &[3, 4]),
+    ),
+    (
+        ArrayCopy,
+        &[
+            Numbers(b"[B", Element::Byte, &[1, 2]),
+            Int(i32::MAX),
+            Numbers(b"[B", Element::Byte, &[3, 4]),
+            Int(0),
+            Int(i32::MAX),
+        ],
+        Raises(Raised::ArrayIndexOutOfBounds),
+        (48, 48),
+        ElementsAre(2, &[3, 4]),
+    ),
+    (
+        ArrayCopy,
+        &[
+            Numbers(b"[B", Element::Byte, &[1, 2]),
+            Int(0),
+            Numbers(b"[B", Element::Byte, &[3, 4]),
+            Int(i32::MAX),
+            Int(1),
+        ],
+        Raises(Raised::ArrayIndexOutOfBounds),
+        (48, 48),
+        ElementsAre(2, &[3, 4]),
+    ),
+    (
+        ArrayCopy,
+        &[
+            Numbers(b"[B", Element::Byte, &[1, 2]),
+            Int(i32::MIN),
+            Numbers(b"[B", Element::Byte, &[3, 4]),
+            Int(i32::MIN),
+            Int(i32::MIN),
+        ],
+        Raises(Raised::ArrayIndexOutOfBounds),
+        (48, 48),
+        ElementsAre(2, &[3, 4]),
+    ),
+];
+
+#[test]
+fn elements_are_copied(rt: HostRuntime) {
+    let few = Few { boxed: false };
+    assert!(rt; are_asked(rt.alloc(), &few, &COPIES));
+    assert!(rt; are_kept(rt.alloc(), &few, &COPIES_KEPT));
+}

@@ -1,0 +1,20 @@
+use Rattle.std.proofs.Common.{sym, subst}
+use Rattle.dj_names.specs.declared.run.Raised.TheVariants as raises
+use Rattle.dj_model.specs.Natives as model
+use Rattle.dj_calls.specs.declared.answer.NativeAnswer.TheVariants as told
+use Rattle.dj_calls.specs.Calls.{Done}
+use Rattle.dj_calls.specs.Copies.{copy_answer}
+use Rattle.dj_calls.proofs.Performed.{raises_done}
+use Rattle.dj_calls.proofs.arrays.copy_places.Goals as goal
+
+pub returns-in-Some : goal.returns-in-Some
+returns-in-Some g c =
+    c.copy_elements.ensures
+    (copy_answer (g.C.Classes.program c.args.classes.now) (g.C.Classes.prefix c.args.classes.now) (g.C.Classes.types c.args.classes.now) c.args.heap.now c.args.args.now)
+    (c.in-Some.ensures.1 (g.C.Classes.program c.args.classes.now) (g.C.Classes.prefix c.args.classes.now) (g.C.Classes.types c.args.classes.now))
+
+pub returns-in-None : goal.returns-in-None
+returns-in-None g c =
+    subst (λ (a : model.Answer). Done (g.C.Classes.prefix c.args.classes.now) (g.C.Classes.types c.args.classes.now) c.args.heap.now c.args.heap.now a (told.Raise raises.ArrayIndexOutOfBounds))
+    (sym (c.in-None.ensures (g.C.Classes.program c.args.classes.now) (g.C.Classes.prefix c.args.classes.now) (g.C.Classes.types c.args.classes.now)))
+    (raises_done (g.C.Classes.prefix c.args.classes.now) (g.C.Classes.types c.args.classes.now) c.args.heap.now raises.ArrayIndexOutOfBounds c.requires.known)

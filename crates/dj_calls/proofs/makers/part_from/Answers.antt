@@ -1,0 +1,23 @@
+use Rattle.std.proofs.Common.{◌≡◌, ℕ, ℤ, pos, Some, None, length, IfSome, sym, subst, ◌∙◌, w64, FitsSigned, to_z, of_z, rules}
+use Rattle.std.proofs.lemmas.Int.{to_z-of_z}
+use Rattle.dj_model.specs.Natives as model
+use Rattle.dj_calls.specs.Answers.{answer_view}
+use Rattle.dj_calls.specs.Seen.{units_at, place_within}
+use Rattle.dj_calls.proofs.Told.{place_found, no_from, no_to}
+use Rattle.dj_calls.proofs.makers.part_from.Goals as goal
+
+pub returns-in-Some : goal.returns-in-Some
+returns-in-Some c =
+    let fits : FitsSigned w64 c.args.to = search rules in
+    let placed : place_within (length (units_at c.args.heap.now c.args.r)) c.args.to ≡ Some c.in-Some.to =
+    subst (λ (z : ℤ). place_within (length (units_at c.args.heap.now c.args.r)) z ≡ Some c.in-Some.to) (to_z-of_z w64 c.args.to fits)
+    (subst (λ (k : ℕ). place_within k (to_z w64 (of_z w64 c.args.to)) ≡ Some c.in-Some.to) c.text_length.ensures c.in-Some.ensures) in
+    subst (λ (z : ℤ). IfSome (answer_view c.inner_part.result) (λ a. model.part_between (units_at c.args.heap.now c.args.r) (pos c.args.from) z ≡ a)) (sym (place_found (length (units_at c.args.heap.now c.args.r)) c.args.to c.in-Some.to placed)) c.inner_part.ensures
+
+pub returns-in-None : goal.returns-in-None
+returns-in-None c =
+    let fits : FitsSigned w64 c.args.to = search rules in
+    let placed : place_within (length (units_at c.args.heap.now c.args.r)) c.args.to ≡ None =
+    subst (λ (z : ℤ). place_within (length (units_at c.args.heap.now c.args.r)) z ≡ None) (to_z-of_z w64 c.args.to fits)
+    (subst (λ (k : ℕ). place_within k (to_z w64 (of_z w64 c.args.to)) ≡ None) c.text_length.ensures c.in-None.ensures) in
+    no_to (units_at c.args.heap.now c.args.r) c.args.from c.args.to placed

@@ -1,0 +1,7 @@
+use Rattle.std.proofs.Common.{◌≡◌, take}
+use Rattle.dj_model.specs.Natives as model
+use Rattle.dj_calls.proofs.names.with_dots.Given as goal
+
+-- the units so far
+abbrev pub invariant-loop-unit : goal.invariant-loop-unit
+invariant-loop-unit l = l.dotted ≡ model.with_dots (take l.unit-index l.units)

@@ -1,0 +1,6 @@
+use Rattle.dj_calls.proofs.HeapLaws.{FillsTo}
+use Rattle.dj_calls.proofs.perform.fill.Given as goal
+
+-- the elements so far
+abbrev pub invariant-loop-at : goal.invariant-loop-at
+invariant-loop-at l = FillsTo l.initial.heap l.heap l.array l.units l.at

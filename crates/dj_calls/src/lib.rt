@@ -1,0 +1,26 @@
+//! What native methods do to the heap, and the accounter, which sums what a run is charged.
+#![tactic(auto)]
+
+mod accounter;
+mod amount;
+mod amounts;
+mod answer;
+mod arguments;
+mod arrays;
+mod builders;
+mod call;
+mod makers;
+mod names;
+mod numbers;
+mod objects;
+mod perform;
+mod seen;
+mod sums;
+mod texts;
+mod throwables;
+
+pub use accounter::{Accounter, Charged};
+pub use answer::NativeAnswer;
+pub use arguments::reference;
+pub use call::call_native;
+pub use objects::make_object_text;

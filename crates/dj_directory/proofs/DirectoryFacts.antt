@@ -1,0 +1,96 @@
+-- Numbers of texts, and the places that rows tell, by plain values, each with something that it is not.
+use Rattle.std.proofs.Common.{◌≡◌, ℕ, ltb, true, false, List, [], ◌∷◌, map, length, Some, None, Bor, codes, refl, sym, ap, ◌∙◌, arith}
+use Rattle.std.specs.Cmp.Lexicographic.{bytes_decides}
+use Rattle.std.proofs.lemmas.Bool.{false≢true}
+use Rattle.dj_names.specs.Types.{Name, same_name}
+use Rattle.dj_names.specs.Library.{int}
+use Rattle.dj_names.specs.declared.descriptor.Desc.TheVariants as descs
+use Rattle.dj_model.specs.Types.{no_parameters}
+use Rattle.dj_directory.specs.declared.rows.MemberRow.{MemberRow}
+use Rattle.dj_directory.specs.Numberings.{Numbering, number_among, number_of}
+use Rattle.dj_directory.specs.Rows.{Named, place_of, Texts, number_in, AreDifferent, key_of, IsTold}
+use Rattle.dj_directory.proofs.NumberLaws.{bor, number_is}
+
+-- ---- numbers
+
+abbrev numbering : Numbering
+numbering = record { program = []; texts = (codes "run", 0) ∷ (codes "()V", 1) ∷ [] }
+
+known : number_of numbering (codes "()V") ≡ Some 1
+known = refl
+
+unknown : number_of numbering (codes "ru") ≡ None
+unknown = refl
+
+other_name : (a b : Name) → same_name a b ≡ false → a ≡ b → ⊥
+other_name a b differ e = false≢true (sym differ ∙ (bytes_decides a b).1 e)
+
+number_by : (texts : Texts) (entries : List (Bor (List ℕ) × ℕ)) (text : List ℕ) → texts.entries ≡ entries → number_in texts text ≡ number_among (map (λ e. (e.0.now, e.1)) entries) text
+number_by texts entries text is = sym (number_is texts text) ∙ ap (λ (es : List (Bor (List ℕ) × ℕ)). number_among (map (λ e. (e.0.now, e.1)) es) text) is
+
+-- a number that two texts have
+abbrev shared : List (Bor (List ℕ) × ℕ)
+shared = (bor (codes "a"), 0) ∷ (bor (codes "b"), 0) ∷ []
+
+shared_is_refused : (texts : Texts) → texts.entries ≡ shared → AreDifferent texts → ⊥
+shared_is_refused texts is are = other_name (codes "a") (codes "b") refl (are.different (codes "a") (codes "b") 0 (number_by texts shared (codes "a") is) (number_by texts shared (codes "b") is))
+
+-- a number that is too high
+abbrev high : List (Bor (List ℕ) × ℕ)
+high = (bor (codes "a"), 1) ∷ []
+
+high_is_refused : (texts : Texts) → texts.entries ≡ high → AreDifferent texts → ⊥
+high_is_refused texts is are =
+    let lt = are.below (codes "a") 1 (number_by texts high (codes "a") is) in
+    let count = ap (λ (es : List (Bor (List ℕ) × ℕ)). length es) is in
+    absurd (omega (arith, lt, count))
+
+-- ---- places of members
+
+abbrev members : List Named
+members = (codes "run", no_parameters) ∷ (codes "x", descs.Field int) ∷ (codes "x", descs.Field int) ∷ []
+
+first_place : place_of members (codes "x") (descs.Field int) ≡ Some 1
+first_place = refl
+
+no_such_desc : place_of members (codes "run") (descs.Field int) ≡ None
+no_such_desc = refl
+
+no_such_name : place_of members (codes "ru") no_parameters ≡ None
+no_such_name = refl
+
+-- ---- rows
+
+abbrev row : ℕ → ℕ → ℕ → ℕ → MemberRow
+row name desc class place = record { name = name; desc = desc; class = class; place = place }
+
+-- the name comes first, and then the descriptor, the class and the place
+by_name : ltb (key_of (row 1 9 9 9)) (key_of (row 2 0 0 0)) ≡ true
+by_name = refl
+
+by_desc : ltb (key_of (row 1 2 9 9)) (key_of (row 1 3 0 0)) ≡ true
+by_desc = refl
+
+by_class : ltb (key_of (row 1 2 3 9)) (key_of (row 1 2 4 0)) ≡ true
+by_class = refl
+
+by_place : ltb (key_of (row 1 2 3 4)) (key_of (row 1 2 3 4)) ≡ false
+by_place = refl
+
+abbrev rows : List MemberRow
+rows = row 1 2 0 0 ∷ row 1 2 0 3 ∷ row 1 2 1 1 ∷ []
+
+the_first_is_told : IsTold rows 1 2 0 (Some 0)
+the_first_is_told = record {
+  row = row 1 2 0 0;
+  within = (0, omega arith, refl);
+  such = record { name_is = refl; desc_is = refl; class_is = refl };
+  place_is = refl;
+  least = λ other there such. omega arith;
+}
+
+the_second_is_not : IsTold rows 1 2 0 (Some 3) → ⊥
+the_second_is_not told = let le = told.least (row 1 2 0 0) (0, omega arith, refl) (record { name_is = refl; desc_is = refl; class_is = refl }) in absurd (omega (arith, le))
+
+something_is_told : IsTold rows 1 2 1 None → ⊥
+something_is_told told = told (row 1 2 1 1) (2, omega arith, refl) (record { name_is = refl; desc_is = refl; class_is = refl })

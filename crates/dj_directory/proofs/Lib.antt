@@ -1,0 +1,5 @@
+pub mod NumberLaws
+pub mod RowLaws
+pub mod GatherLaws
+pub mod PlaceLaws
+mod DirectoryFacts

@@ -1,0 +1,229 @@
+-- The place of a member by its texts, by that of its row.
+use Rattle.std.proofs.Common.{◌≡◌, ℕ, zero, suc, ◌+◌, ◌<◌, ◌≤◌, ◌&&◌, ◌⊎◌, Bool, true, false, cond, List, [], ◌∷◌, length, Contains, Option, Some, None, IfSome, refl, sym, ap, ◌∙◌, subst, arith, add-one, inl, inr}
+use Rattle.std.specs.Prelude.{slice_get, map}
+use Rattle.std.specs.Option.{option_map}
+use Rattle.std.proofs.lemmas.Bool.{cases_lt}
+use Rattle.std.proofs.lemmas.List.{length-map}
+use Rattle.std.proofs.lemmas.Option.{slice_get_past}
+use Rattle.dj_names.specs.Types.{Name, same_name, same_desc}
+use Rattle.dj_names.specs.declared.descriptor.Desc.{Desc}
+use Rattle.dj_names.specs.Descriptors.{Describes}
+use Rattle.dj_names.proofs.DescLaws.{described_once}
+use Rattle.dj_model.specs.Program.{Program, Method, Field, fields_of, is_named}
+use Rattle.dj_declared.specs.Files.{desc_in}
+use Rattle.dj_declared.specs.Members.{IsDescriptor, method_place, field_place}
+use Rattle.dj_declared.proofs.DescTests.{same_name_is, same_name_itself, same_desc_is, same_desc_itself}
+use Rattle.dj_classes.specs.Tables.{methods_of, methods_at, fields_at}
+use Rattle.dj_directory.specs.Numberings.{Numbering, number_among, number_of}
+use Rattle.dj_directory.specs.declared.rows.MemberRow.{MemberRow}
+use Rattle.dj_directory.specs.Rows.{Named, method_named, field_named, methods_named, fields_named, Members, place_of, Texts, texts_of, number_in, AreDifferent, IsSuch, IsTold, IsRow, AreRows, IsDirectory}
+use Rattle.dj_directory.proofs.NumberLaws.{number_is}
+
+abbrev later : ℕ → ℕ
+later place = place + 1
+
+both_parts : (a b : Bool) → (a && b) ≡ true → (a ≡ true) × (b ≡ true)
+both_parts true b e = (refl, e)
+both_parts false b e = absurd cc
+
+both_true : (a b : Bool) → a ≡ true → b ≡ true → (a && b) ≡ true
+both_true true b e f = f
+both_true false b e f = absurd cc
+
+not_true : (b : Bool) → (b ≡ true → ⊥) → b ≡ false
+not_true true wrong = absurd (wrong refl)
+not_true false wrong = refl
+
+one : (a b : ℕ) → Some a ≡ Some b → a ≡ b
+one a b e = cc
+
+one_member : (a b : Named) → Some a ≡ Some b → a ≡ b
+one_member a b e = cc
+
+none_some : (n : ℕ) → None ≡ Some n → ⊥
+none_some n e = absurd cc
+
+inside : (members : List Named) (place : ℕ) (m : Named) → slice_get members place ≡ Some m → place < length members
+inside [] place m at = absurd cc
+inside (x ∷ members) zero m at = omega arith
+inside (x ∷ members) (suc place) m at = let lt = inside members place m at in omega (arith, lt)
+
+-- ---- the first member, by what the others are
+
+first_is : (name : Name) (desc : Desc) (members : List Named) (place : ℕ) (m : Named) → slice_get members place ≡ Some m → is_named name desc m.0 m.1 ≡ true
+    → ((other : ℕ) (x : Named) → other < place → slice_get members other ≡ Some x → is_named name desc x.0 x.1 ≡ false) → place_of members name desc ≡ Some place
+first_is name desc [] place m at is none = absurd cc
+first_is name desc (x ∷ members) zero m at is none =
+    ap (λ (b : Bool). cond b (Some 0) (option_map later (place_of members name desc))) (ap (λ (y : Named). is_named name desc y.0 y.1) (one_member x m at) ∙ is)
+first_is name desc (x ∷ members) (suc place) m at is none =
+    ap (λ (b : Bool). cond b (Some 0) (option_map later (place_of members name desc))) (none 0 x (omega arith) refl)
+    ∙ ap (option_map later) (first_is name desc members place m at is (λ other y lt there. none (suc other) y (omega (arith, lt)) there))
+    ∙ ap Some (add-one place)
+
+none_is : (name : Name) (desc : Desc) (members : List Named) → ((other : ℕ) (x : Named) → slice_get members other ≡ Some x → is_named name desc x.0 x.1 ≡ false) → place_of members name desc ≡ None
+none_is name desc [] none = refl
+none_is name desc (x ∷ members) none =
+    ap (λ (b : Bool). cond b (Some 0) (option_map later (place_of members name desc))) (none 0 x refl)
+    ∙ ap (option_map later) (none_is name desc members (λ other y there. none (suc other) y there))
+
+pub method_place_is : (methods : List Method) (name : Name) (desc : Desc) → place_of (map method_named methods) name desc ≡ method_place methods name desc
+method_place_is [] name desc = refl
+method_place_is (m ∷ methods) name desc = ap (λ (o : Option ℕ). cond (is_named name desc m.name m.desc) (Some 0) (option_map later o)) (method_place_is methods name desc)
+
+pub field_place_is : (fields : List Field) (name : Name) (desc : Desc) → place_of (map field_named fields) name desc ≡ field_place fields name desc
+field_place_is [] name desc = refl
+field_place_is (f ∷ fields) name desc = ap (λ (o : Option ℕ). cond (is_named name desc f.name f.desc) (Some 0) (option_map later o)) (field_place_is fields name desc)
+
+-- ---- a member of these texts, and its row
+
+-- texts that describe one descriptor are one
+one_text : (a b : List ℕ) (desc : Desc) → Describes a desc → Describes b desc → a ≡ b
+one_text a b desc da db = da.text_is ∙ sym db.text_is
+
+-- a row of the member at a place, whose numbers are those of the texts
+record IsRowOf (texts : Texts) (rows : List MemberRow) (n d : List ℕ) (class place : ℕ) : Type 0 where
+  row : MemberRow
+  within : Contains rows row
+  class_is : row.class ≡ class
+  place_is : row.place ≡ place
+  name_is : number_in texts n ≡ Some row.name
+  desc_is : number_in texts d ≡ Some row.desc
+
+row_in : (texts : Texts) (members : Members) (classes : ℕ) (rows : List MemberRow) → AreRows (number_in texts) members classes rows → (row : MemberRow) → Contains rows row → IsRow (number_in texts) members row
+row_in texts members classes rows are row there = subst (λ (r : MemberRow). IsRow (number_in texts) members r) there.2 (are.each there.0 row there.1)
+
+module _ (texts : Texts) (members : Members) (classes : ℕ) (rows : List MemberRow) (are : AreRows (number_in texts) members classes rows) (n d : List ℕ) (valid : IsDescriptor d) where
+  row_of : (class place : ℕ) (m : Named) → class < classes → slice_get (members class) place ≡ Some m → is_named n (desc_in d) m.0 m.1 ≡ true → IsRowOf texts rows n d class place
+  row_of class place m less at named =
+      let there = are.whole class place less (inside (members class) place m at) in
+      let is = row_in texts members classes rows are there.row there.within in
+      let parts = both_parts (same_name m.0 n) (same_desc m.1 (desc_in d)) named in
+      let member : m ≡ (is.name, is.desc) =
+      one_member m (is.name, is.desc) (sym at ∙ sym (ap (λ (k : ℕ). slice_get (members k) there.row.place) there.class_is ∙ ap (slice_get (members class)) there.place_is) ∙ is.there) in
+      let name : is.name ≡ n = sym (ap (λ (x : Named). x.0) member) ∙ same_name_is m.0 n parts.0 in
+      let desc : is.desc ≡ desc_in d = sym (ap (λ (x : Named). x.1) member) ∙ same_desc_is m.1 (desc_in d) parts.1 in
+      let text : is.text ≡ d = one_text is.text d (desc_in d) (subst (λ (x : Desc). Describes is.text x) desc is.spelled) valid in
+      record {
+        row = there.row;
+        within = there.within;
+        class_is = there.class_is;
+        place_is = there.place_is;
+        name_is = ap (number_in texts) (sym name) ∙ is.name_is;
+        desc_is = ap (number_in texts) (sym text) ∙ is.desc_is;
+      }
+
+  -- texts without numbers are those of no member
+  pub unnumbered : (class : ℕ) → class < classes → (number_in texts n ≡ None) ⊎ (number_in texts d ≡ None) → place_of (members class) n (desc_in d) ≡ None
+  unnumbered class less none = none_is n (desc_in d) (members class) (λ place m at. not_true (is_named n (desc_in d) m.0 m.1) (λ named.
+      let is = row_of class place m less at named in
+      elim none [
+        | inl no_name ↦ none_some is.row.name (sym no_name ∙ is.name_is)
+        | inr no_desc ↦ none_some is.row.desc (sym no_desc ∙ is.desc_is)
+      ]))
+
+  module _ (different : AreDifferent texts) (name desc class : ℕ) (less : class < classes) (name_is : number_in texts n ≡ Some name) (desc_is : number_in texts d ≡ Some desc) where
+    such_row : (place : ℕ) (is : IsRowOf texts rows n d class place) → IsSuch name desc class is.row
+    such_row place is = record {
+      name_is = one is.row.name name (sym is.name_is ∙ name_is);
+      desc_is = one is.row.desc desc (sym is.desc_is ∙ desc_is);
+      class_is = is.class_is;
+    }
+
+    -- the member of such a row has these texts
+    named_by : (row : MemberRow) → Contains rows row → IsSuch name desc class row → (m : Named) × ((slice_get (members class) row.place ≡ Some m) × (is_named n (desc_in d) m.0 m.1 ≡ true))
+    named_by row there such =
+        let is = row_in texts members classes rows are row there in
+        let own : is.name ≡ n = different.different is.name n name (is.name_is ∙ ap Some such.name_is) name_is in
+        let text : is.text ≡ d = different.different is.text d desc (is.desc_is ∙ ap Some such.desc_is) desc_is in
+        let same : is.desc ≡ desc_in d = described_once d is.desc (desc_in d) (subst (λ (t : List ℕ). Describes t is.desc) text is.spelled) valid in (
+          (is.name, is.desc),
+          (
+            ap (λ (k : ℕ). slice_get (members k) row.place) (sym such.class_is) ∙ is.there,
+            both_true (same_name is.name n) (same_desc is.desc (desc_in d)) (same_name_itself is.name n own) (subst (λ (x : Desc). same_desc is.desc x ≡ true) same (same_desc_itself is.desc)),
+          ),
+        )
+
+    pub place_told : (result : Option ℕ) → IsTold rows name desc class result → result ≡ place_of (members class) n (desc_in d)
+    place_told None told = sym (none_is n (desc_in d) (members class) (λ place m at. not_true (is_named n (desc_in d) m.0 m.1) (λ named.
+        let is = row_of class place m less at named in told is.row is.within (such_row place is))))
+    place_told (Some place) told =
+        let found = named_by told.row told.within told.such in
+        let at = ap (slice_get (members class)) (sym told.place_is) ∙ found.1.0 in
+        sym (first_is n (desc_in d) (members class) place found.0 at found.1.1 (λ other m before there. not_true (is_named n (desc_in d) m.0 m.1) (λ named.
+        let is = row_of class other m less there named in
+        let le = told.least is.row is.within (such_row other is) in
+        let own = is.place_is in
+        absurd (omega (arith, le, own, before)))))
+
+-- a row's place is one of its class
+pub place_within : (texts : Texts) (members : Members) (classes : ℕ) (rows : List MemberRow) (name desc class : ℕ) (result : Option ℕ) → AreRows (number_in texts) members classes rows → IsTold rows name desc class result
+    → IfSome result (λ place. place < length (members class))
+place_within texts members classes rows name desc class None are told = tt
+place_within texts members classes rows name desc class (Some place) are told =
+    let is = row_in texts members classes rows are told.row told.within in
+    inside (members class) place (is.name, is.desc) (sym (ap (λ (k : ℕ). slice_get (members k) told.row.place) told.such.class_is ∙ ap (slice_get (members class)) told.place_is) ∙ is.there)
+
+-- ---- what a directory tells
+
+-- the numbers of a directory
+abbrev pub numbering : Program → Texts → Numbering
+numbering program texts = record { program = program; texts = texts_of texts }
+
+abbrev pub IsFirstMethod : ℕ → ℕ → ℕ → Option ℕ → Numbering → Type 0
+IsFirstMethod class name desc result directory = (n d : List ℕ) → number_of directory n ≡ Some name → number_of directory d ≡ Some desc → IsDescriptor d → result ≡ method_place (methods_at directory.program class) n (desc_in d)
+
+abbrev pub IsFirstField : ℕ → ℕ → ℕ → Option ℕ → Numbering → Type 0
+IsFirstField class name desc result directory = (n d : List ℕ) → number_of directory n ≡ Some name → number_of directory d ≡ Some desc → IsDescriptor d → result ≡ field_place (fields_at directory.program class) n (desc_in d)
+
+abbrev pub NamesMethods : Numbering → Type 0
+NamesMethods directory = (class : ℕ) (n d : List ℕ) → IsDescriptor d → ((number_of directory n ≡ None) ⊎ (number_of directory d ≡ None)) → method_place (methods_at directory.program class) n (desc_in d) ≡ None
+
+abbrev pub NamesFields : Numbering → Type 0
+NamesFields directory = (class : ℕ) (n d : List ℕ) → IsDescriptor d → ((number_of directory n ≡ None) ⊎ (number_of directory d ≡ None)) → field_place (fields_at directory.program class) n (desc_in d) ≡ None
+
+-- a class that isn't there has no members
+no_methods : (program : Program) (class : ℕ) → length program ≤ class → methods_at program class ≡ []
+no_methods program class past = ap methods_of (slice_get_past program class past)
+
+no_fields : (program : Program) (class : ℕ) → length program ≤ class → fields_at program class ≡ []
+no_fields program class past = ap fields_of (slice_get_past program class past)
+
+module _ (program : Program) (texts : Texts) (methods fields : List MemberRow) (is : IsDirectory program texts methods fields) where
+  known : (text : List ℕ) (k : ℕ) → number_among (texts_of texts) text ≡ Some k → number_in texts text ≡ Some k
+  known text k e = sym (number_is texts text) ∙ e
+
+  unknown : (n d : List ℕ) → ((number_among (texts_of texts) n ≡ None) ⊎ (number_among (texts_of texts) d ≡ None)) → (number_in texts n ≡ None) ⊎ (number_in texts d ≡ None)
+  unknown n d (inl e) = inl (sym (number_is texts n) ∙ e)
+  unknown n d (inr e) = inr (sym (number_is texts d) ∙ e)
+
+  pub first_method : (class name desc : ℕ) (result : Option ℕ) → class < length program → IsTold methods name desc class result → IsFirstMethod class name desc result (numbering program texts)
+  first_method class name desc result less told n d n_is d_is valid =
+      place_told texts (methods_named program) (length program) methods is.methods_are n d valid is.different name desc class less (known n name n_is) (known d desc d_is) result told
+      ∙ method_place_is (methods_at program class) n (desc_in d)
+
+  pub first_field : (class name desc : ℕ) (result : Option ℕ) → class < length program → IsTold fields name desc class result → IsFirstField class name desc result (numbering program texts)
+  first_field class name desc result less told n d n_is d_is valid =
+      place_told texts (fields_named program) (length program) fields is.fields_are n d valid is.different name desc class less (known n name n_is) (known d desc d_is) result told
+      ∙ field_place_is (fields_at program class) n (desc_in d)
+
+  pub method_within : (class name desc : ℕ) (result : Option ℕ) → IsTold methods name desc class result → IfSome result (λ place. place < length (methods_at program class))
+  method_within class name desc result told =
+      subst (λ (count : ℕ). IfSome result (λ place. place < count)) (length-map (methods_at program class) method_named)
+      (place_within texts (methods_named program) (length program) methods name desc class result is.methods_are told)
+
+  pub field_within : (class name desc : ℕ) (result : Option ℕ) → IsTold fields name desc class result → IfSome result (λ place. place < length (fields_at program class))
+  field_within class name desc result told =
+      subst (λ (count : ℕ). IfSome result (λ place. place < count)) (length-map (fields_at program class) field_named)
+      (place_within texts (fields_named program) (length program) fields name desc class result is.fields_are told)
+
+  pub names_methods : NamesMethods (numbering program texts)
+  names_methods class n d valid none = elim (cases_lt class (length program)) [
+    | inl less ↦ sym (method_place_is (methods_at program class) n (desc_in d)) ∙ unnumbered texts (methods_named program) (length program) methods is.methods_are n d valid class less (unknown n d none)
+    | inr past ↦ ap (λ (all : List Method). method_place all n (desc_in d)) (no_methods program class past)
+  ]
+
+  pub names_fields : NamesFields (numbering program texts)
+  names_fields class n d valid none = elim (cases_lt class (length program)) [
+    | inl less ↦ sym (field_place_is (fields_at program class) n (desc_in d)) ∙ unnumbered texts (fields_named program) (length program) fields is.fields_are n d valid class less (unknown n d none)
+    | inr past ↦ ap (λ (all : List Field). field_place all n (desc_in d)) (no_fields program class past)
+  ]

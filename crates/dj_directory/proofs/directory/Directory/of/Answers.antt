@@ -1,0 +1,29 @@
+use Rattle.std.proofs.Common.{◌≡◌, List, length, sym, subst, arith}
+use Rattle.dj_directory.specs.declared.rows.MemberRow.{MemberRow}
+use Rattle.dj_directory.specs.Rows.{methods_named, fields_named, number_in, AreSoFar}
+use Rattle.dj_directory.proofs.NumberLaws.{none_different}
+use Rattle.dj_directory.proofs.GatherLaws.{none_so_far, all_gathered}
+use Rattle.dj_directory.proofs.directory.Directory.of.Goals as goal
+
+pub loop-class-init : goal.loop-class-init
+loop-class-init c =
+    let numbers = c.new-numbers.result in
+    let program = c.args.table.now in
+    record {
+      different = none_different numbers c.new-numbers.ensures.empty;
+      methods_are = subst (λ (rows : List MemberRow). AreSoFar (number_in numbers) (methods_named program) 0 0 rows) (sym c.new-methods.ensures.items) (none_so_far (number_in numbers) (methods_named program));
+      fields_are = subst (λ (rows : List MemberRow). AreSoFar (number_in numbers) (fields_named program) 0 0 rows) (sym c.new-fields.ensures.items) (none_so_far (number_in numbers) (fields_named program));
+    }
+
+pub invariant_of-result : goal.invariant_of-result
+invariant_of-result c =
+    let program = c.args.table.now in
+    let numbers = c.loop-class.numbers in
+    let all : c.loop-class.class ≡ length c.args.table.now = omega (arith, c.loop-class-test.false, c.loop-class.auto.class-end, c.class_count-class-end.ensures.count) in
+    record {
+      different = c.loop-class.invariant.different;
+      methods_are = all_gathered (number_in numbers) (methods_named program) c.loop-class.class (length program) c.loop-class.methods.items c.put_in_order.new.rows.items all c.loop-class.invariant.methods_are
+          c.put_in_order.ensures.moved c.put_in_order.ensures.ascend;
+      fields_are = all_gathered (number_in numbers) (fields_named program) c.loop-class.class (length program) c.loop-class.fields.items c.put_in_order-2.new.rows.items all c.loop-class.invariant.fields_are
+          c.put_in_order-2.ensures.moved c.put_in_order-2.ensures.ascend;
+    }

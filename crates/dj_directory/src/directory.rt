@@ -1,0 +1,96 @@
+ghost use Rattle.std.specs.Prelude.{◌≡◌, ℕ, ◌<◌, ◌⊎◌, List, Some, None, length, IfOk, IfSome};
+ghost use Rattle.dj_declared.specs.Files.{desc_in};
+ghost use Rattle.dj_declared.specs.Members.{IsDescriptor, method_place, field_place};
+ghost use Rattle.dj_classes.specs.Tables.{methods_at, fields_at};
+ghost use Rattle.dj_directory.specs.Numberings.{number_of};
+
+use crate::gather::add_class;
+use crate::numbers::number_in;
+use crate::rows::{MemberRow, place_in, put_in_order};
+use dj_classes::ClassTable;
+use dj_names::NoMemory;
+use std::alloc::Global;
+use std::collections::BTreeMap;
+use std::marker::Model;
+
+/// The texts that name members of the classes of a table, each by a number, and the members by these numbers.
+#[derive(Drop)]
+pub struct Directory<'a> {
+    table: &'a ClassTable,
+    numbers: BTreeMap<&'a [u8], u32>,
+    methods: Vec<MemberRow>,
+    fields: Vec<MemberRow>,
+}
+
+impl<'a> Model for Directory<'a> {
+    ghost use Rattle.dj_directory.specs.Numberings.{Numbering};
+    ghost use Rattle.dj_directory.specs.Rows.{texts_of, IsDirectory};
+
+    ghost Value = { Numbering };
+
+    ghost view = { λ directory. record { program = directory.table.now; texts = texts_of directory.numbers } };
+
+    ghost invariant = { λ directory. IsDirectory directory.table.now directory.numbers directory.methods.items directory.fields.items };
+}
+
+impl<'a> Directory<'a> {
+    /// Numbers the texts of the members of all classes: a text that is met again keeps its number.
+    pub fn of(alloc: Global, table: &'a ClassTable) -> Result<Directory<'a>, NoMemory>
+        ensures { IfOk result (λ directory. directory.program ≡ table.now) }
+    {
+        let mut numbers = BTreeMap::new(alloc);
+        let mut methods = Vec::new(alloc);
+        let mut fields = Vec::new(alloc);
+        for class in 0..table.class_count() {
+            add_class(alloc, &mut numbers, &mut methods, &mut fields, table, class)?;
+        }
+        put_in_order(&mut methods);
+        put_in_order(&mut fields);
+        Ok(Directory {
+            table,
+            numbers,
+            methods,
+            fields,
+        })
+    }
+
+    /// The number of a text, where it is the name or the descriptor of a member.
+    pub fn number(&self, text: &[u8]) -> Option<u32>
+        ensures { result ≡ number_of self.now text.now }
+    {
+        number_in(&self.numbers, text)
+    }
+
+    /// The classes.
+    pub fn classes(&self) -> &'a ClassTable
+        ensures { result.now ≡ self.now.program }
+    {
+        self.table
+    }
+
+    /// The place, among the methods of a class, of the first one whose name and descriptor have these numbers.
+    pub fn method_in(&self, class: u32, name: u32, desc: u32) -> Option<u32>
+        requires { class < length self.now.program }
+        ensures first { (n d : List ℕ) → number_of self.now n ≡ Some name → number_of self.now d ≡ Some desc → IsDescriptor d → result ≡ method_place (methods_at self.now.program class) n (desc_in d) }
+        ensures within { IfSome result (λ place. place < length (methods_at self.now.program class)) }
+    {
+        place_in(&self.methods, name, desc, class)
+    }
+
+    /// The place, among the fields of a class, of the first one whose name and descriptor have these numbers.
+    pub fn field_in(&self, class: u32, name: u32, desc: u32) -> Option<u32>
+        requires { class < length self.now.program }
+        ensures first { (n d : List ℕ) → number_of self.now n ≡ Some name → number_of self.now d ≡ Some desc → IsDescriptor d → result ≡ field_place (fields_at self.now.program class) n (desc_in d) }
+        ensures within { IfSome result (λ place. place < length (fields_at self.now.program class)) }
+    {
+        place_in(&self.fields, name, desc, class)
+    }
+
+    /// A law: a member is named by texts that have numbers.
+    pub fn names_all(&self)
+        ensures methods { (class : ℕ) (n d : List ℕ) → IsDescriptor d → (number_of self.now n ≡ None) ⊎ (number_of self.now d ≡ None) → method_place (methods_at self.now.program class) n (desc_in d) ≡ None }
+        ensures fields { (class : ℕ) (n d : List ℕ) → IsDescriptor d → (number_of self.now n ≡ None) ⊎ (number_of self.now d ≡ None) → field_place (fields_at self.now.program class) n (desc_in d) ≡ None }
+    {
+        let _ = &self.table;
+    }
+}

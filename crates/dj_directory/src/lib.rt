@@ -1,0 +1,9 @@
+//! The texts that name members of the classes of a table, each by a number, and the members by these numbers.
+#![tactic(auto)]
+
+mod directory;
+mod gather;
+mod numbers;
+mod rows;
+
+pub use directory::Directory;

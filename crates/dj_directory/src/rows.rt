@@ -1,0 +1,78 @@
+//! Members by the numbers of their texts, in the order of these.
+ghost use Rattle.std.specs.Prelude.{◌≡◌, ◌≤◌, ltb, true, false, length};
+ghost use Rattle.std.specs.List.Sorted.{IsNonDecreasingBy, IsPartitionPoint, IsPermutation};
+ghost use Rattle.dj_directory.specs.Rows.{pair_of, key_of, AreInOrder, IsTold, IsAnswer};
+
+/// A member by the numbers of its texts, and where it is declared.
+#[derive(Clone, Copy)]
+pub struct MemberRow {
+    /// The number of its name.
+    pub name: u32,
+    /// The number of its descriptor.
+    pub desc: u32,
+    /// The number of its class.
+    pub class: u32,
+    /// Its place among those of its class.
+    pub place: u32,
+}
+
+// Two numbers as one, which is less where the first is less, or the second of equal first ones.
+fn pair_of(first: u32, second: u32) -> u64
+    ensures { result ≡ pair_of first second }
+{
+    first as u64 * 0x1_0000_0000 + second as u64
+}
+
+// What rows are ordered by: the numbers of the texts, the class, and the place.
+fn key_of(row: MemberRow) -> u128
+    ensures { result ≡ key_of row }
+{
+    pair_of(row.name, row.desc) as u128 * 0x1_0000_0000_0000_0000
+        + pair_of(row.class, row.place) as u128
+}
+
+/// Puts rows in the order of their keys.
+pub fn put_in_order(rows: &mut Vec<MemberRow>)
+    ensures moved { IsPermutation rows.old.items rows.new.items }
+    ensures ascend { IsNonDecreasingBy key_of rows.new.items }
+{
+    rows.sort_unstable_by_key(|row| key_of(*row));
+}
+
+// How many of the rows come before the first one with this key, or a higher one.
+fn first_not_below(rows: &[MemberRow], key: u128) -> usize
+    requires { AreInOrder rows.now }
+    ensures bound { result ≤ length rows.now }
+    ensures point { IsPartitionPoint (λ row. ltb (key_of row) key ≡ true) (λ row. ltb (key_of row) key ≡ false) rows.now result }
+{
+    rows.partition_point(|row| key_of(*row) < key)
+}
+
+// The place that a row tells, if it is of these numbers.
+fn place_if(row: MemberRow, name: u32, desc: u32, class: u32) -> Option<u32>
+    ensures { IsAnswer row name desc class result }
+{
+    if row.name == name && row.desc == desc && row.class == class {
+        Some(row.place)
+    } else {
+        None
+    }
+}
+
+/// The least place of a row with these numbers, by halving.
+pub fn place_in(rows: &[MemberRow], name: u32, desc: u32, class: u32) -> Option<u32>
+    requires { AreInOrder rows.now }
+    ensures { IsTold rows.now name desc class result }
+{
+    let least = MemberRow {
+        name,
+        desc,
+        class,
+        place: 0,
+    };
+    let at = first_not_below(rows, key_of(least));
+    if at == rows.len() {
+        return None;
+    }
+    place_if(rows[at], name, desc, class)
+}

@@ -1,0 +1,123 @@
+-- A method that is none of those that the host answers, which asks it for nothing.
+use Rattle.std.proofs.Common.{◌≡◌, false, List, None, refl}
+use Rattle.dj_names.specs.declared.run.Value.{Value}
+use Rattle.dj_names.specs.declared.native.NativeId.{NativeId}
+use Rattle.dj_names.specs.declared.native.NativeId.TheVariants as natives
+use Rattle.dj_model.specs.Natives.{asks}
+use Rattle.dj_host.specs.Hosted.{is_hosted}
+
+pub no_hosted : (id : NativeId) → (id ≡ natives.HostHashCode → ⊥) → (id ≡ natives.HostToString → ⊥) → (id ≡ natives.HostIdentityHashCode → ⊥) → (id ≡ natives.NanoTime → ⊥) → (id ≡ natives.CurrentTimeMillis → ⊥) → is_hosted id ≡ false
+no_hosted natives.ObjectNew a b c d e = refl
+no_hosted natives.ObjectEquals a b c d e = refl
+no_hosted natives.ObjectHashCode a b c d e = refl
+no_hosted natives.ObjectToString a b c d e = refl
+no_hosted natives.StringLength a b c d e = refl
+no_hosted natives.StringIsEmpty a b c d e = refl
+no_hosted natives.StringToString a b c d e = refl
+no_hosted natives.StringCharAt a b c d e = refl
+no_hosted natives.StringEquals a b c d e = refl
+no_hosted natives.StringHashCode a b c d e = refl
+no_hosted natives.StringCompareTo a b c d e = refl
+no_hosted natives.StringCompareToObject a b c d e = refl
+no_hosted natives.StringStartsWith a b c d e = refl
+no_hosted natives.StringConcat a b c d e = refl
+no_hosted natives.StringSubstringFrom a b c d e = refl
+no_hosted natives.StringSubstring a b c d e = refl
+no_hosted natives.StringToCharArray a b c d e = refl
+no_hosted natives.StringValueOfChars a b c d e = refl
+no_hosted natives.StringValueOfChar a b c d e = refl
+no_hosted natives.StringValueOfInt a b c d e = refl
+no_hosted natives.StringValueOfLong a b c d e = refl
+no_hosted natives.StringValueOfBoolean a b c d e = refl
+no_hosted natives.BuilderNew a b c d e = refl
+no_hosted natives.BuilderNewText a b c d e = refl
+no_hosted natives.BuilderAppendText a b c d e = refl
+no_hosted natives.BuilderAppendChar a b c d e = refl
+no_hosted natives.BuilderAppendInt a b c d e = refl
+no_hosted natives.BuilderAppendLong a b c d e = refl
+no_hosted natives.BuilderAppendBoolean a b c d e = refl
+no_hosted natives.BuilderLength a b c d e = refl
+no_hosted natives.BuilderCharAt a b c d e = refl
+no_hosted natives.BuilderToString a b c d e = refl
+no_hosted natives.ThrowableNew a b c d e = refl
+no_hosted natives.ThrowableNewMessage a b c d e = refl
+no_hosted natives.ThrowableNewCause a b c d e = refl
+no_hosted natives.GetMessage a b c d e = refl
+no_hosted natives.GetCause a b c d e = refl
+no_hosted natives.AbsInt a b c d e = refl
+no_hosted natives.AbsLong a b c d e = refl
+no_hosted natives.MaxInts a b c d e = refl
+no_hosted natives.MaxLongs a b c d e = refl
+no_hosted natives.MinInts a b c d e = refl
+no_hosted natives.MinLongs a b c d e = refl
+no_hosted natives.IdentityHashCode a b c d e = refl
+no_hosted natives.ArrayCopy a b c d e = refl
+no_hosted natives.HostHashCode a b c d e = absurd (a refl)
+no_hosted natives.HostToString a b c d e = absurd (b refl)
+no_hosted natives.HostIdentityHashCode a b c d e = absurd (c refl)
+no_hosted natives.NanoTime a b c d e = absurd (d refl)
+no_hosted natives.CurrentTimeMillis a b c d e = absurd (e refl)
+no_hosted natives.RecordJump a b c d e = refl
+no_hosted natives.RecordInvocation a b c d e = refl
+no_hosted natives.RecordThrow a b c d e = refl
+no_hosted natives.RecordAllocation a b c d e = refl
+no_hosted natives.RecordArray a b c d e = refl
+no_hosted natives.CheckCatch a b c d e = refl
+
+pub silent : (id : NativeId) (args : List Value) → is_hosted id ≡ false → asks id args ≡ None
+silent natives.ObjectNew args e = refl
+silent natives.ObjectEquals args e = refl
+silent natives.ObjectHashCode args e = refl
+silent natives.ObjectToString args e = refl
+silent natives.StringLength args e = refl
+silent natives.StringIsEmpty args e = refl
+silent natives.StringToString args e = refl
+silent natives.StringCharAt args e = refl
+silent natives.StringEquals args e = refl
+silent natives.StringHashCode args e = refl
+silent natives.StringCompareTo args e = refl
+silent natives.StringCompareToObject args e = refl
+silent natives.StringStartsWith args e = refl
+silent natives.StringConcat args e = refl
+silent natives.StringSubstringFrom args e = refl
+silent natives.StringSubstring args e = refl
+silent natives.StringToCharArray args e = refl
+silent natives.StringValueOfChars args e = refl
+silent natives.StringValueOfChar args e = refl
+silent natives.StringValueOfInt args e = refl
+silent natives.StringValueOfLong args e = refl
+silent natives.StringValueOfBoolean args e = refl
+silent natives.BuilderNew args e = refl
+silent natives.BuilderNewText args e = refl
+silent natives.BuilderAppendText args e = refl
+silent natives.BuilderAppendChar args e = refl
+silent natives.BuilderAppendInt args e = refl
+silent natives.BuilderAppendLong args e = refl
+silent natives.BuilderAppendBoolean args e = refl
+silent natives.BuilderLength args e = refl
+silent natives.BuilderCharAt args e = refl
+silent natives.BuilderToString args e = refl
+silent natives.ThrowableNew args e = refl
+silent natives.ThrowableNewMessage args e = refl
+silent natives.ThrowableNewCause args e = refl
+silent natives.GetMessage args e = refl
+silent natives.GetCause args e = refl
+silent natives.AbsInt args e = refl
+silent natives.AbsLong args e = refl
+silent natives.MaxInts args e = refl
+silent natives.MaxLongs args e = refl
+silent natives.MinInts args e = refl
+silent natives.MinLongs args e = refl
+silent natives.IdentityHashCode args e = refl
+silent natives.ArrayCopy args e = refl
+silent natives.HostHashCode args e = absurd cc
+silent natives.HostToString args e = absurd cc
+silent natives.HostIdentityHashCode args e = absurd cc
+silent natives.NanoTime args e = absurd cc
+silent natives.CurrentTimeMillis args e = absurd cc
+silent natives.RecordJump args e = refl
+silent natives.RecordInvocation args e = refl
+silent natives.RecordThrow args e = refl
+silent natives.RecordAllocation args e = refl
+silent natives.RecordArray args e = refl
+silent natives.CheckCatch args e = refl

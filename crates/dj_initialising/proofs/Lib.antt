@@ -1,0 +1,10 @@
+pub mod FlagLaws
+pub mod Walks
+pub mod PlaceLaws
+pub mod Members
+pub mod StoreLaws
+pub mod FieldLaws
+pub mod InitialiserLaws
+pub mod PrepareLaws
+pub mod StartLaws
+mod InitialisingFacts

@@ -1,0 +1,87 @@
+ghost use Rattle.std.specs.Prelude.{◌≡◌, ◌+◌, ◌++◌, ◌<◌, true, length, Some, IfOk, OnOk, slice_get};
+ghost use Rattle.dj_model.specs.Linking.{count_fields};
+ghost use Rattle.dj_model.specs.Sound.{IsProgram};
+ghost use Rattle.dj_classes.specs.Tables.{fields_at};
+ghost use Rattle.dj_types.specs.Typed.{types_of};
+ghost use Rattle.dj_image.specs.Imaged.{program_of, typed_of};
+ghost use Rattle.dj_initialising.specs.Places.{ArePlaces, IsCounted, one_if_static};
+
+use crate::bits::is_static;
+use dj_image::Image;
+use dj_names::NoMemory;
+use dj_types::FieldId;
+use std::alloc::Global;
+use std::marker::Model;
+
+/// Of each field its place among the static fields of the program, and how many static fields there are.
+#[derive(Debug, Drop)]
+pub struct StaticPlaces {
+    // By the number of a field; of an instance field so many static ones stand before it.
+    each: Vec<u32>,
+    count: u32,
+}
+
+impl Model for StaticPlaces {
+    ghost use Rattle.dj_initialising.specs.Places.{Places};
+
+    ghost Value = { Places };
+
+    ghost view = { λ places. record { each = places.each.items; count = places.count } };
+}
+
+impl StaticPlaces {
+    /// Those of the fields of an image, each of which is looked at once.
+    pub fn of(alloc: Global, image: &Image) -> Result<StaticPlaces, NoMemory>
+        requires { IsProgram (program_of image.now) }
+        ensures { IfOk result (λ places. ArePlaces (program_of image.now) places) }
+    {
+        let mut each = Vec::new(alloc);
+        let mut count = 0;
+        for class in 0..image.class_count() {
+            count = add_class(image, &mut each, count, class)?;
+        }
+        Ok(StaticPlaces { each, count })
+    }
+
+    /// The place of a static field.
+    pub fn place(&self, field: FieldId) -> u32
+        requires { field.number < length self.now.each }
+        ensures { slice_get self.now.each field.number ≡ Some result }
+    {
+        self.each[field.number as usize]
+    }
+
+    /// How many static fields there are.
+    pub fn count(&self) -> u32
+        ensures { result ≡ self.now.count }
+    {
+        self.count
+    }
+}
+
+// The places of the fields that a class declares, where so many static fields stand before them; and how many stand before the next class.
+fn add_class(image: &Image, each: &mut Vec<u32>, before: u32, class: u32) -> Result<u32, NoMemory>
+    requires { class < length (types_of (typed_of image.now)) }
+    ensures { IfOk result (λ after. IsCounted (fields_at (program_of image.now) class) each.old.items before each.new.items after) }
+{
+    let mut count = before;
+    for at in 0..u32::MAX {
+        let Some(field) = image.field_at(class, at) else {
+            return Ok(count);
+        };
+        each.push(count)?;
+        count = with_one(count, image.field(field).flags)?;
+    }
+    Err(NoMemory::Memory)
+}
+
+// One more, where these are the flags of a static field.
+fn with_one(count: u32, flags: u16) -> Result<u32, NoMemory>
+    ensures { IfOk result (λ next. next ≡ count + one_if_static flags) }
+{
+    if is_static(flags) {
+        count.checked_add(1).ok_or(NoMemory::Memory)
+    } else {
+        Ok(count)
+    }
+}

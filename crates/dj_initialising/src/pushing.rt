@@ -1,0 +1,55 @@
+ghost use Rattle.std.specs.Prelude.{◌≡◌, ◌≤◌, length, get_or, None, OnOk};
+ghost use Rattle.dj_initialising.specs.Initialisers.{initialiser_count, one_if, pushed, with_initialiser};
+
+use crate::initialisers::{Initialiser, Initialisers};
+use dj_names::NoMemory;
+use dj_stack::Frames;
+
+/// How many of these classes have an initialiser.
+pub fn count_of(initialisers: &Initialisers, classes: &[u32]) -> usize
+    ensures is { result ≡ initialiser_count initialisers.now classes.now }
+    ensures few { result ≤ length classes.now }
+{
+    let mut count = 0;
+    for class in classes {
+        count += one_if(initialisers.initialiser(*class));
+    }
+    count
+}
+
+// How many of one there are.
+fn one_if(initialiser: Option<Initialiser>) -> usize
+    ensures { result ≡ one_if initialiser }
+{
+    match initialiser {
+        Some(_) => 1,
+        None => 0,
+    }
+}
+
+// The frame of the initialiser of a class, where it has one.
+fn push_one(initialisers: &Initialisers, frames: &mut Frames, class: u32) -> Result<(), NoMemory>
+    ensures { OnOk result (frames.new ≡ with_initialiser (get_or initialisers.now class None) frames.old) }
+{
+    let Some(initialiser) = initialisers.initialiser(class) else {
+        return Ok(());
+    };
+    match frames.push(initialiser.method, initialiser.locals, initialiser.room) {
+        Ok(()) => Ok(()),
+        Err(_) => Err(NoMemory::Memory),
+    }
+}
+
+/// The frames of the initialisers of these classes, the last class on top.
+pub fn push_all(
+    initialisers: &Initialisers,
+    frames: &mut Frames,
+    classes: &[u32],
+) -> Result<(), NoMemory>
+    ensures { OnOk result (frames.new ≡ pushed initialisers.now classes.now frames.old) }
+{
+    for class in classes {
+        push_one(initialisers, frames, *class)?;
+    }
+    Ok(())
+}

@@ -1,0 +1,80 @@
+-- Calls on a receiver, as the code makes them.
+use Rattle.std.proofs.Common.{◌≡◌, ◌<◌, ℕ, zero, suc, ◌+◌, true, List, [], ◌∷◌, length, reverse, drop, Some, None, sym, ap, subst, ◌∙◌}
+use Rattle.std.specs.Prelude.{slice_get}
+use Rattle.dj_names.specs.declared.descriptor.Kind.{Kind}
+use Rattle.dj_names.specs.declared.run.Value.{Value}
+use Rattle.dj_names.specs.declared.run.Value.TheVariants as values
+use Rattle.dj_names.specs.declared.run.Raised.TheVariants as raises
+use Rattle.dj_names.specs.declared.run.Outcome.TheVariants as outcomes
+use Rattle.dj_names.specs.Heaps.{Heap}
+use Rattle.dj_names.specs.Types.{parameters_of}
+use Rattle.dj_model.specs.Linking.{FoundMethod, resolve_method}
+use Rattle.dj_model.specs.State.{Raise, Goes, End}
+use Rattle.dj_model.specs.Members.{kinds_of}
+use Rattle.dj_stack.specs.Frames.{StackFrame, top_operands}
+use Rattle.dj_types.specs.declared.types.MethodId.{MethodId}
+use Rattle.dj_image.specs.Imaged.{program_of}
+use Rattle.dj_invoking.specs.declared.choosing.Mode.TheVariants as modes
+use Rattle.dj_invoking.specs.declared.choosing.Chosen.TheVariants as chosen
+use Rattle.dj_invoking.specs.Operands.{fit, receiver_in}
+use Rattle.dj_invoking.specs.Receivers.{AreObjects, IsObject, typed_heap}
+use Rattle.dj_invoking.specs.Choosing.{IsMethod, IsChosen, told_mode, choice_of}
+use Rattle.dj_invoking.specs.Invoking.{Site, CallIs, GoesOn, RunsBody, left_values, left_frames}
+use Rattle.dj_invoking.proofs.OperandFacts.{with_receiver}
+use Rattle.dj_invoking.proofs.Found.{resolved_own, resolved_described}
+use Rattle.dj_invoking.proofs.Sites.{is_null, is_broken, is_method, call_no_receiver, runs_received, goes_null, goes_broken}
+
+first_of_drop : (xs ys : List Value) (at : ℕ) (x : Value) → drop at xs ≡ x ∷ ys → slice_get xs at ≡ Some x
+first_of_drop [] ys zero x e = absurd cc
+first_of_drop [] ys (suc at) x e = absurd cc
+first_of_drop (y ∷ xs) ys zero x e = ap (λ (l : List Value). slice_get l 0) e
+first_of_drop (y ∷ xs) ys (suc at) x e = first_of_drop xs ys at x e
+
+pub receiver_object : (heap : Heap ℕ) (operands : List Value) (at r : ℕ) → AreObjects heap operands → Some r ≡ receiver_in (drop at operands) → IsObject heap r
+receiver_object heap operands at r objects e =
+    let h = with_receiver operands at r (sym e) in objects at (values.Ref r) (first_of_drop operands (drop (at + 1) operands) at (values.Ref r) h.0)
+
+pub receiver_within : (operands : List Value) (at r : ℕ) → Some r ≡ receiver_in (drop at operands) → at < length operands
+receiver_within operands at r e = (with_receiver operands at r (sym e)).2
+
+module _ (s : Site) (resolved : FoundMethod) (kinds : List Kind) (count : ℕ) (n : count ≡ length kinds)
+    (found : resolve_method (program_of s.imaged) s.imaged.prefix s.member ≡ Some resolved) (kinds_are : kinds_of (parameters_of s.member.desc) ≡ Some kinds)
+    (fits : fit (reverse kinds) (top_operands s.frames) ≡ true) (other : told_mode s.mode ≡ modes.Static → ⊥) where
+  pub absent : receiver_in (left_values s count) ≡ None → CallIs s (λ terms p. None)
+  absent none = call_no_receiver s resolved kinds found kinds_are other fits (sym (ap (λ (k : ℕ). receiver_in (left_values s k)) n) ∙ none)
+
+  some_there : (r : ℕ) → Some r ≡ receiver_in (left_values s count) → receiver_in (left_values s (length kinds)) ≡ Some r
+  some_there r e = sym (e ∙ ap (λ (k : ℕ). receiver_in (left_values s k)) n)
+
+  pub record Taken (id : MethodId) : Type 0 where
+    pub method : FoundMethod
+    pub there : IsMethod (program_of s.imaged) id method
+    pub runs : RunsBody s (count + 1) count method
+
+  pub method_runs : (r : ℕ) (id : MethodId) → Some r ≡ receiver_in (left_values s count)
+      → IsChosen (program_of s.imaged) (chosen.Method id) (choice_of (program_of s.imaged) s.imaged.prefix (typed_heap s.imaged s.heap) s.own s.mode resolved r) → Taken id
+  method_runs r id some told =
+      let t = is_method (program_of s.imaged) id (choice_of (program_of s.imaged) s.imaged.prefix (typed_heap s.imaged s.heap) s.own s.mode resolved r) told in
+      record {
+        method = t.0;
+        there = t.2;
+        runs = subst (λ (k : ℕ). RunsBody s (k + 1) k t.0) (sym n)
+            (runs_received s resolved kinds found kinds_are r t.0 other fits (some_there r some) (resolved_own (program_of s.imaged) s.imaged.prefix s.member resolved found)
+            (resolved_described (program_of s.imaged) s.imaged.prefix s.member resolved found) t.1);
+      }
+
+  pub null_goes : (r : ℕ) (new : List StackFrame) → Some r ≡ receiver_in (left_values s count)
+      → IsChosen (program_of s.imaged) chosen.Null (choice_of (program_of s.imaged) s.imaged.prefix (typed_heap s.imaged s.heap) s.own s.mode resolved r)
+      → new ≡ left_frames s (count + 1) → GoesOn s new (Goes (Raise raises.NullPointer))
+  null_goes r new some told left =
+      goes_null s resolved kinds found kinds_are r new other fits (some_there r some)
+      (is_null (program_of s.imaged) (choice_of (program_of s.imaged) s.imaged.prefix (typed_heap s.imaged s.heap) s.own s.mode resolved r) told)
+      (left ∙ ap (λ (k : ℕ). left_frames s (k + 1)) n)
+
+  pub link_goes : (r : ℕ) (new : List StackFrame) → Some r ≡ receiver_in (left_values s count)
+      → IsChosen (program_of s.imaged) chosen.Link (choice_of (program_of s.imaged) s.imaged.prefix (typed_heap s.imaged s.heap) s.own s.mode resolved r)
+      → new ≡ left_frames s (count + 1) → GoesOn s new (End outcomes.Link)
+  link_goes r new some told left =
+      goes_broken s resolved kinds found kinds_are r new other fits (some_there r some)
+      (is_broken (program_of s.imaged) (choice_of (program_of s.imaged) s.imaged.prefix (typed_heap s.imaged s.heap) s.own s.mode resolved r) told)
+      (left ∙ ap (λ (k : ℕ). left_frames s (k + 1)) n)

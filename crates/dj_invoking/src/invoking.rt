@@ -1,0 +1,188 @@
+ghost use Rattle.std.specs.Prelude.{◌≡◌, ◌≤◌, ◌<◌, ◌+◌, List, Some, true, false, length, drop, reverse, IfOk};
+ghost use Rattle.dj_names.specs.declared.descriptor.Kind.{Kind};
+ghost use Rattle.dj_names.specs.Types.{Name, parameters_of};
+ghost use Rattle.dj_model.specs.Types.{Member};
+ghost use Rattle.dj_model.specs.Instructions as model;
+ghost use Rattle.dj_model.specs.Members.{kinds_of};
+ghost use Rattle.dj_model.specs.Linking.{FoundMethod, resolve_method};
+ghost use Rattle.dj_stack.specs.Frames.{top_operands};
+ghost use Rattle.dj_linking.specs.Linked.{class_name};
+ghost use Rattle.dj_types.specs.Members.{all_methods};
+ghost use Rattle.dj_image.specs.Imaged.{program_of};
+ghost use Rattle.dj_invoking.specs.declared.choosing.Mode.TheVariants as modes;
+ghost use Rattle.dj_invoking.specs.Choosing.{IsMethod, told_mode};
+ghost use Rattle.dj_invoking.specs.Operands.{fit, with_operands};
+ghost use Rattle.dj_invoking.specs.Receivers.{AreNumbered, AreObjects};
+ghost use Rattle.dj_invoking.specs.Natives.{AreNatives};
+ghost use Rattle.dj_invoking.specs.Invoking.{Invokes, RunsBody, Steps, site};
+
+use crate::answers::Invoked;
+use crate::arguments::are_instances;
+use crate::choosing::{Chosen, Mode, choose};
+use crate::entering::{Room, enter};
+use crate::natives::Natives;
+use crate::operands::{drop_operands, fit, receiver};
+use dj_heap::Heap;
+use dj_image::{Body, Image, MethodCode, MethodId};
+use dj_names::{Kind, NoMemory, Raised, Value};
+use dj_stack::Frames;
+
+// A frame of a method with code.
+fn room_of(method: MethodId, code: &MethodCode) -> Room
+    ensures method { result.method ≡ method.number }
+    ensures locals { result.max_locals ≡ code.now.max_locals }
+    ensures stack { result.max_stack ≡ code.now.max_stack }
+{
+    Room {
+        method: method.number,
+        max_locals: code.max_locals,
+        max_stack: code.max_stack,
+    }
+}
+
+// The operands that a call takes go, and so the run goes on.
+fn give_up(frames: &mut Frames, taken: u16, invoked: Invoked) -> Invoked
+    requires { taken ≤ length (top_operands frames.old) }
+    ensures frames { frames.new ≡ with_operands (drop taken (top_operands frames.old)) frames.old }
+    ensures invoked { result ≡ invoked }
+{
+    drop_operands(frames, taken);
+    invoked
+}
+
+// A frame of a method with code stands on top, on so many operands, where it may.
+fn enter_code(
+    frames: &mut Frames,
+    arguments: &mut Vec<Value>,
+    method: MethodId,
+    code: &MethodCode,
+    taken: u16,
+) -> Result<Invoked, NoMemory>
+    requires { taken ≤ length (top_operands frames.old) }
+    ensures { IfOk result (Steps method code.now taken frames.old frames.new) }
+{
+    let entered = enter(frames, arguments, taken, room_of(method, code))?;
+    if entered {
+        Ok(Invoked::Entered)
+    } else {
+        Ok(Invoked::TooDeep)
+    }
+}
+
+// A method runs on so many operands, of which the upper ones are of its parameters.
+fn run_method(
+    image: &Image,
+    natives: &Natives,
+    heap: &Heap,
+    frames: &mut Frames,
+    arguments: &mut Vec<Value>,
+    method: MethodId,
+    taken: u16,
+    count: u16,
+) -> Result<Invoked, NoMemory>
+    requires there { method.number < length (all_methods (program_of image.now)) }
+    requires natives { AreNatives image.now natives.now }
+    requires numbered { AreNumbered image.now heap.now.heap }
+    requires objects { AreObjects heap.now.heap (top_operands frames.old) }
+    requires taken { taken ≤ length (top_operands frames.old) }
+    requires count { count ≤ taken }
+    ensures { (mode : model.Mode) (own : Name) (m : Member) (found : FoundMethod) → IsMethod (program_of image.now) method found
+        → RunsBody (site image.now frames.old heap.now.heap mode own m) taken count found
+        → IfOk result (λ invoked. Invokes (site image.now frames.old heap.now.heap mode own m) frames.new (Some invoked)) }
+{
+    match image.body(method) {
+        Body::Abstract => Ok(give_up(frames, taken, Invoked::Link)),
+        Body::Code(code) => enter_code(frames, arguments, method, code, taken),
+        Body::Native(id) => {
+            if are_instances(image, heap, frames, natives.classes_of(method), count) {
+                Ok(Invoked::Native(id, taken))
+            } else {
+                Ok(give_up(frames, taken, Invoked::Link))
+            }
+        }
+    }
+}
+
+// A call on a receiver, below so many arguments.
+fn invoke_on(
+    image: &Image,
+    natives: &Natives,
+    heap: &Heap,
+    frames: &mut Frames,
+    arguments: &mut Vec<Value>,
+    count: u16,
+    mode: Mode,
+    own: u32,
+    method: MethodId,
+) -> Result<Option<Invoked>, NoMemory>
+    requires there { method.number < length (all_methods (program_of image.now)) }
+    requires own { own < length (program_of image.now) }
+    requires natives { AreNatives image.now natives.now }
+    requires numbered { AreNumbered image.now heap.now.heap }
+    requires objects { AreObjects heap.now.heap (top_operands frames.old) }
+    ensures { (called : model.Mode) (m : Member) (resolved : FoundMethod) (kinds : List Kind) → told_mode called ≡ mode → (mode ≡ modes.Static → ⊥)
+        → resolve_method (program_of image.now) image.now.prefix m ≡ Some resolved → IsMethod (program_of image.now) method resolved
+        → kinds_of (parameters_of m.desc) ≡ Some kinds → count ≡ length kinds → fit (reverse kinds) (top_operands frames.old) ≡ true
+        → IfOk result (Invokes (site image.now frames.old heap.now.heap called (class_name (program_of image.now) own) m) frames.new) }
+{
+    let Some(r) = receiver(frames, count) else {
+        return Ok(None);
+    };
+    match choose(image, heap, mode, own, method, r) {
+        Chosen::Method(found) => {
+            let invoked = run_method(
+                image,
+                natives,
+                heap,
+                frames,
+                arguments,
+                found,
+                count + 1,
+                count,
+            )?;
+            Ok(Some(invoked))
+        }
+        Chosen::Null => Ok(Some(give_up(frames, count + 1, Invoked::Raise(Raised::NullPointer)))),
+        Chosen::Link => Ok(Some(give_up(frames, count + 1, Invoked::Link))),
+    }
+}
+
+/// Calls a method to which an instruction resolves in a method of the class own, on operands of these kinds and, where it isn't static, the object below them.
+/// None where these don't stand on the operands.
+pub fn invoke(
+    image: &Image,
+    natives: &Natives,
+    heap: &Heap,
+    frames: &mut Frames,
+    arguments: &mut Vec<Value>,
+    kinds: &[Kind],
+    mode: Mode,
+    own: u32,
+    method: MethodId,
+) -> Result<Option<Invoked>, NoMemory>
+    requires there { method.number < length (all_methods (program_of image.now)) }
+    requires own { own < length (program_of image.now) }
+    requires natives { AreNatives image.now natives.now }
+    requires numbered { AreNumbered image.now heap.now.heap }
+    requires objects { AreObjects heap.now.heap (top_operands frames.old) }
+    ensures { (called : model.Mode) (m : Member) (resolved : FoundMethod) → told_mode called ≡ mode
+        → resolve_method (program_of image.now) image.now.prefix m ≡ Some resolved → IsMethod (program_of image.now) method resolved
+        → kinds_of (parameters_of m.desc) ≡ Some kinds.now
+        → IfOk result (Invokes (site image.now frames.old heap.now.heap called (class_name (program_of image.now) own) m) frames.new) }
+{
+    if !fit(frames, kinds) {
+        return Ok(None);
+    }
+    let count = kinds.len() as u16;
+    match mode {
+        Mode::Static => {
+            let invoked = run_method(
+                image, natives, heap, frames, arguments, method, count, count,
+            )?;
+            Ok(Some(invoked))
+        }
+        _ => invoke_on(
+            image, natives, heap, frames, arguments, count, mode, own, method,
+        ),
+    }
+}

@@ -1,0 +1,11 @@
+use Rattle.std.proofs.Common.{ℕ, List, ◌<◌, IfSome, length}
+use Rattle.dj_model.specs.Linking.{is_plain}
+use Rattle.dj_declared.specs.Files.{desc_in}
+use Rattle.dj_linking.specs.Numbered.{AreTexts}
+use Rattle.dj_linking.specs.Numbers.{method_found, first_some, numbers_above}
+use Rattle.dj_linking.proofs.Finding.{IsWalked}
+use Rattle.dj_linking.proofs.find_numbered.plain_method_by_class.Given as goal
+
+-- nothing so far
+abbrev pub invariant-loop : goal.invariant-loop
+invariant-loop l = (IfSome l.next (λ k. k < length l.directory.program)) × ((n d : List ℕ) → AreTexts l.directory l.name l.desc n d → IsWalked (λ k. first_some (method_found l.directory.program is_plain n (desc_in d)) (numbers_above l.directory.program k)) l.directory.program l.class l.counter l.next)

@@ -1,0 +1,8 @@
+pub mod Outcomes
+pub mod Tops
+pub mod Numbering
+pub mod Catching
+pub mod Frames
+pub mod Callers
+mod UnwindingFacts
+mod RowFacts

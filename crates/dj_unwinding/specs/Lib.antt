@@ -1,0 +1,5 @@
+pub mod Results
+pub mod Resuming
+pub mod Returns
+pub mod Unwinding
+pub mod Rows
