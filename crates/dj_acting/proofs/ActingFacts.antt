@@ -1,11 +1,13 @@
 -- What is told of instructions, at plain values.
 use Rattle.std.proofs.Common.{◌≡◌, ℤ, pos, List, [], ◌∷◌, map, Some, None, refl, arith, codes}
+use Rattle.std.proofs.lemmas.Bool.{false≢true}
 use Rattle.dj_names.specs.declared.descriptor.Base.TheVariants as bases
 use Rattle.dj_names.specs.declared.descriptor.Desc.TheVariants as descs
 use Rattle.dj_names.specs.declared.descriptor.Kind.TheVariants as kinds
 use Rattle.dj_names.specs.declared.run.Value.{Value}
 use Rattle.dj_names.specs.declared.run.Value.TheVariants as values
-use Rattle.dj_names.specs.Types.{base_type, class_type}
+use Rattle.dj_names.specs.declared.run.Element.TheVariants as elements
+use Rattle.dj_names.specs.Types.{array_type, base_type, class_type}
 use Rattle.dj_model.specs.Types.{Member}
 use Rattle.dj_model.specs.Instructions as model
 use Rattle.dj_model.specs.Instructions.{Instruction}
@@ -13,13 +15,18 @@ use Rattle.dj_model.specs.Values.{on_values}
 use Rattle.dj_model.specs.Effects.{effect}
 use Rattle.dj_heap.specs.Heaps.{LimitedHeap}
 use Rattle.dj_stack.specs.Frames.{StackFrame}
+use Rattle.dj_effects.specs.declared.actions.Movement.TheVariants as moves
+use Rattle.dj_effects.specs.declared.actions.PlainAction.TheVariants as actions
+use Rattle.dj_effects.specs.declared.actions.Slots.TheVariants as slots
 use Rattle.dj_effects.specs.declared.way.Way.TheVariants as ways
 use Rattle.dj_image.specs.Imaged.{Imaged}
 use Rattle.dj_initialising.specs.Store.{Store, store}
 use Rattle.dj_acting.specs.declared.acted.Acted.TheVariants as acts
 use Rattle.dj_acting.specs.declared.uses.FieldUse.TheVariants as fields
 use Rattle.dj_acting.specs.declared.uses.ClassUse.TheVariants as classes
-use Rattle.dj_acting.specs.Acting.{Acts, HasRoom, IsActed, AreThere, Machine, machine}
+use Rattle.dj_acting.specs.Acting.{Acts, HasRoom, IsActed, IsTopThere, Machine, machine}
+use Rattle.dj_acting.specs.Elements.{HoldsElements}
+use Rattle.dj_acting.specs.Growing.{growth, move_growth}
 use Rattle.dj_acting.specs.Kinds.{kind_by}
 use Rattle.dj_acting.specs.Uses.{class_use_of, field_use_of}
 
@@ -70,11 +77,36 @@ no_room : HasRoom (model.GetStatic field) (frames (int (pos 1) ∷ [])) → ⊥
 no_room less = omega (arith, less)
 
 -- null is there, and no other reference where there is no object
-there : AreThere heap.heap (values.Ref 0 ∷ int (pos 4) ∷ [])
-there = (omega arith, (tt, tt))
+there : IsTopThere heap.heap (values.Ref 0 ∷ int (pos 4) ∷ [])
+there = omega arith
 
-not_there : AreThere heap.heap (values.Ref 1 ∷ []) → ⊥
-not_there are = let le = are.0 in omega (arith, le)
+not_there : IsTopThere heap.heap (values.Ref 1 ∷ []) → ⊥
+not_there le = omega (arith, le)
+
+-- of what is under the top it isn't asked
+under_top : IsTopThere heap.heap (int (pos 4) ∷ values.Ref 1 ∷ [])
+under_top = tt
+
+-- dup grows the operands by one, dup2 by two, and what is put under others by as many; swap and pop by none
+growths : map (λ movement. move_growth movement) (moves.Double slots.One ∷ moves.Double slots.Two ∷ moves.Under slots.One slots.Two ∷ moves.Under slots.Two slots.One ∷ moves.Swap ∷ moves.Drop slots.Two ∷ [])
+    ≡ 1 ∷ 2 ∷ 1 ∷ 2 ∷ 0 ∷ 0 ∷ []
+growths = refl
+
+pushes_more : growth (actions.Push (int (pos 3))) ≡ 1
+pushes_more = refl
+
+stores_no_more : growth (actions.Store kinds.Int 0) ≡ 0
+stores_no_more = refl
+
+-- an array of references is of a class of such arrays
+holds : HoldsElements (array_type (class_type (codes "A")) ∷ []) 0 elements.Ref
+holds e = refl
+
+holds_no_class : HoldsElements (class_type (codes "A") ∷ []) 0 elements.Ref → ⊥
+holds_no_class holds = false≢true (holds refl)
+
+holds_numbers : HoldsElements (class_type (codes "A") ∷ []) 0 elements.Int
+holds_numbers e = absurd (false≢true e)
 
 -- ---- kinds and uses
 

@@ -39,7 +39,7 @@ use Rattle.dj_types.specs.Typed.{types_of}
 use Rattle.dj_image.specs.Imaged.{Imaged, program_of, typed_of}
 use Rattle.dj_initialising.specs.Store.{AreTexts, IsStore}
 use Rattle.dj_acting.specs.Taking.{IsTaken}
-use Rattle.dj_acting.specs.Acting.{Machine, part_of, IsHeap, AreThere}
+use Rattle.dj_acting.specs.Acting.{Machine, part_of, IsHeap, IsTopThere}
 use Rattle.dj_acting.proofs.Told.{IsOnValues, IsOnHeap, IsOnStatics, IsOnLiterals, IsThrown, types}
 
 -- ---- on values
@@ -163,11 +163,11 @@ module _ (imaged : Imaged) (m : Machine) where
 -- ---- on objects
 
 -- the top reference is null or that of an object
-object_there : (heap : Heap ℕ) (operands : List Value) → AreThere heap operands → HasObject heap operands
-object_there heap [] are = tt
-object_there heap (values.Int z ∷ rest) are = tt
-object_there heap (values.Long z ∷ rest) are = tt
-object_there heap (values.Ref r ∷ rest) are = by (nat_eq r 0) refl are.0 where
+object_there : (heap : Heap ℕ) (operands : List Value) → IsTopThere heap operands → HasObject heap operands
+object_there heap [] is = tt
+object_there heap (values.Int z ∷ rest) is = tt
+object_there heap (values.Long z ∷ rest) is = tt
+object_there heap (values.Ref r ∷ rest) is = by (nat_eq r 0) refl is where
   none_past : (objects : List (Object ℕ)) (n : ℕ) → n < length objects → slice_get objects n ≡ None → ⊥
   none_past [] n less e = omega (arith, less)
   none_past (o ∷ objects) zero less e = absurd cc
@@ -190,20 +190,20 @@ module _ (imaged : Imaged) (m : Machine) (is : IsHeap imaged m.frames m.store.he
   unfolding effect
   cast_is terms own account answers limit =
       check_cast_is (program_of imaged) imaged.prefix (types_of (typed_of imaged)) class below (part_of imaged m account answers) m.store.heap.heap tells refl
-      (object_there m.store.heap.heap (top m) is.operands)
+      (object_there m.store.heap.heap (top m) is.top)
 
   pub instance_is : IsOnHeap imaged (model.InstanceOf class) m (instance_of_by below)
   unfolding effect
   instance_is terms own account answers limit =
       instance_of_is (program_of imaged) imaged.prefix (types_of (typed_of imaged)) class below (part_of imaged m account answers) m.store.heap.heap tells refl
-      (object_there m.store.heap.heap (top m) is.operands)
+      (object_there m.store.heap.heap (top m) is.top)
 
 pub throw_is : (imaged : Imaged) (m : Machine) → IsHeap imaged m.frames m.store.heap → (k : ℕ) → types imaged k ≡ class_type (throwable_name imaged.prefix)
     → IsThrown imaged model.Throw m (throw_by (below_of (program_of imaged) imaged.prefix (types_of (typed_of imaged)) k) m.store.heap.heap (top_operands m.frames))
 unfolding effect
 throw_is imaged m is k at terms own account answers =
     throw_top_is (program_of imaged) imaged.prefix (types_of (typed_of imaged)) (below_of (program_of imaged) imaged.prefix (types_of (typed_of imaged)) k) (part_of imaged m account answers)
-    m.store.heap.heap (tells imaged m is (class_type (throwable_name imaged.prefix)) k at) refl (object_there m.store.heap.heap (top m) is.operands)
+    m.store.heap.heap (tells imaged m is (class_type (throwable_name imaged.prefix)) k at) refl (object_there m.store.heap.heap (top m) is.top)
 
 -- ---- on fields
 

@@ -1,5 +1,5 @@
 -- What a family tells of the heap is what the instruction does.
-use Rattle.std.proofs.Common.{◌≡◌, ℕ, List, Option, Some, sym, ap, subst, ◌∙◌}
+use Rattle.std.proofs.Common.{◌≡◌, ◌<◌, ℕ, List, length, Option, Some, sym, ap, subst, ◌∙◌}
 use Rattle.std.specs.Prelude.{unwrap_or}
 use Rattle.std.specs.Option.{option_map}
 use Rattle.dj_names.specs.declared.run.Value.{Value}
@@ -19,6 +19,7 @@ use Rattle.dj_members.specs.Literals.{LiteralTable}
 use Rattle.dj_members.specs.Numbering.{below_of}
 use Rattle.dj_members.specs.Objects.{new_by, throw_by}
 use Rattle.dj_members.specs.declared.objects.Thrown.{Thrown}
+use Rattle.dj_calls.specs.Known.{AreKnown}
 use Rattle.dj_classes.specs.Tables.{name_at}
 use Rattle.dj_types.specs.Typed.{types_of}
 use Rattle.dj_types.specs.Members.{field_count_at}
@@ -29,6 +30,7 @@ use Rattle.dj_acting.specs.Acting.{Acts, ActsOnHeap, IsHeap, machine}
 use Rattle.dj_acting.specs.Flows.{flow_acted, thrown_acted}
 use Rattle.dj_acting.proofs.Told.{IsOnHeap, heap_acted, throw_acted}
 use Rattle.dj_acting.proofs.Effects.{new_object_is, throw_is}
+use Rattle.dj_acting.proofs.KnownHeaps.{new_known}
 use Rattle.dj_acting.proofs.Standing.{class_there, type_is}
 
 pub acted_on_heap : (imaged : Imaged) (i : Instruction) (old new : List StackFrame) (before after : LimitedHeap) (flow : Option Flow) (acted : Acted)
@@ -56,3 +58,10 @@ new_on_heap imaged old new before after class fields name flow acted is at many 
     (λ statics literals. new_object_is imaged (machine old (store before statics literals)) (class_type name) class fields
     (type_is (typed_of imaged) class (class_type name) (class_there (program_of imaged) imaged.arrays class name at))
     (many ∙ ap (λ (o : Option Name). unwrap_or (option_map (field_count (program_of imaged)) o) 0) at)) does
+
+pub new_keeps : (imaged : Imaged) (old new : List StackFrame) (before after : LimitedHeap) (limit : Option ℕ) (class fields : ℕ) (name : Name) (flow : Flow) → AreKnown (types_of (typed_of imaged)) before
+    → class < length (types_of (typed_of imaged)) → name_at (program_of imaged) class ≡ Some name → DoesOnHeap (new_by limit class fields) old new before after (Some flow)
+    → AreKnown (types_of (typed_of imaged)) after
+new_keeps imaged old new before after limit class fields name flow known within at does =
+    new_known (types_of (typed_of imaged)) limit class fields old new before after flow known within
+    (name, type_is (typed_of imaged) class (class_type name) (class_there (program_of imaged) imaged.arrays class name at)) does

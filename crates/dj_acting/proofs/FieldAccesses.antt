@@ -19,6 +19,7 @@ use Rattle.dj_effects.specs.declared.way.Flow.{Flow}
 use Rattle.dj_members.specs.Fields.{get_field_by, put_field_by}
 use Rattle.dj_members.specs.Numbering.{TellsHolders, has_of}
 use Rattle.dj_members.specs.declared.fields.FieldAccess.{FieldAccess}
+use Rattle.dj_calls.specs.Known.{AreKnown}
 use Rattle.dj_types.specs.Typed.{types_of}
 use Rattle.dj_types.specs.Members.{all_fields, IsFieldThere}
 use Rattle.dj_types.specs.declared.types.MemberOf.{MemberOf}
@@ -32,6 +33,7 @@ use Rattle.dj_acting.specs.Acting.{ActsOnHeap, IsHeap, IsMember, machine}
 use Rattle.dj_acting.specs.Flows.{flow_acted}
 use Rattle.dj_acting.proofs.Told.{heap_acted, stuck_acted}
 use Rattle.dj_acting.proofs.Effects.{get_is, put_is}
+use Rattle.dj_acting.proofs.KnownHeaps.{put_known}
 use Rattle.dj_acting.proofs.Standing.{class_there}
 
 abbrev place_by : Program → Name → Name → Desc → ℕ
@@ -100,6 +102,18 @@ module _ (imaged : Imaged) (member : Member) (found : FoundField) (n : ℕ) (is 
         (put_is imaged (machine old (store before statics literals)) known member found access.kind is.resolves kind_is)
         (subst (λ (place : ℕ). DoesOnHeap (put_field_by (has_of (program_of imaged) (types_of (typed_of imaged)) found.class most_classes) access.kind place) old new before after flow) place_is
         (does (has_of (program_of imaged) (types_of (typed_of imaged)) found.class) tells)) are
+
+-- ---- the heap is known still
+
+pub put_keeps : (imaged : Imaged) (n : ℕ) → AreSettled (typed_of imaged) → (access : FieldAccess) → IsAccessTo imaged n access → (old new : List StackFrame) (before after : LimitedHeap) (flow : Flow)
+    → AreKnown (types_of (typed_of imaged)) before
+    → ((has : ℕ → ℕ → Bool) → TellsHolders (types_of (typed_of imaged)) (program_of imaged) access.declaring has
+    → DoesOnHeap (put_field_by (has most_classes) access.kind access.place) old new before after (Some flow))
+    → AreKnown (types_of (typed_of imaged)) after
+put_keeps imaged n settled access to old new before after flow known does =
+    let has : ℕ → ℕ → Bool = has_of (program_of imaged) (types_of (typed_of imaged)) to.found.class in
+    put_known (types_of (typed_of imaged)) (has most_classes) access.kind access.place old new before after flow known
+    (does has (images_tell imaged settled access.declaring to.found.class (class_there (program_of imaged) imaged.arrays access.declaring to.found.class to.class)))
 
 -- ---- what is found of the field of a number
 

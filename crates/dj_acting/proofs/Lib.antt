@@ -4,6 +4,8 @@ pub mod Finding
 pub mod Standing
 pub mod Seen
 pub mod Rooms
+pub mod Growths
+pub mod KnownHeaps
 pub mod Letters
 pub mod FieldAccesses
 pub mod Takings

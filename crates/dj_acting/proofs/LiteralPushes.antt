@@ -1,12 +1,21 @@
 -- Numbers that instructions name are pushed.
-use Rattle.std.proofs.Common.{◌≡◌, List, Option, Some, None, sym, subst}
+use Rattle.std.proofs.Common.{◌≡◌, ◌+◌, ◌≤◌, List, length, Option, Some, None, sym, subst, arith}
 use Rattle.dj_names.specs.declared.run.Value.{Value}
 use Rattle.dj_model.specs.Instructions.{Nop, Push}
-use Rattle.dj_stack.specs.Frames.{StackFrame}
+use Rattle.dj_model.specs.Values.{on_values}
+use Rattle.dj_stack.specs.Frames.{StackFrame, top_operands, top_room}
 use Rattle.dj_effects.specs.Does.{Does, Fits}
 use Rattle.dj_effects.specs.declared.way.Way.{Way}
 use Rattle.dj_image.specs.declared.operand.Operand.{Operand}
 use Rattle.dj_acting.specs.Numbers.{literal_push, literal_value, push_of}
+
+push_room : (o : Option Value) (frames : List StackFrame) → length (top_operands frames) + 1 ≤ top_room frames → Fits (push_of o) frames
+unfolding on_values
+push_room None frames le = omega (arith, le)
+push_room (Some v) frames le = omega (arith, le)
+
+pub literal_room : (operand : Operand) (frames : List StackFrame) → length (top_operands frames) + 1 ≤ top_room frames → Fits (literal_push operand) frames
+literal_room operand frames le = push_room (literal_value operand) frames le
 
 pub fits_value : (operand : Operand) (v : Value) (frames : List StackFrame) → Some v ≡ literal_value operand → Fits (literal_push operand) frames → Fits (Push v) frames
 fits_value operand v frames is fits = subst (λ (o : Option Value). Fits (push_of o) frames) (sym is) fits

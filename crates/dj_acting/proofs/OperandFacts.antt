@@ -17,11 +17,12 @@ use Rattle.dj_model.specs.Opcodes.{instruction_of}
 use Rattle.dj_model.specs.Program.{Code}
 use Rattle.dj_model.specs.Sound.{is_linked}
 use Rattle.dj_model.specs.State.{instruction_in}
-use Rattle.dj_stack.specs.Frames.{StackFrame, top_operands, top_room}
+use Rattle.dj_stack.specs.Frames.{StackFrame, top_operands}
 use Rattle.dj_heap.specs.Heaps.{LimitedHeap}
-use Rattle.dj_effects.specs.Does.{Does, Fits}
+use Rattle.dj_effects.specs.Does.{Does}
 use Rattle.dj_effects.specs.declared.way.Way.{Way}
 use Rattle.dj_members.specs.Literals.{LiteralTable}
+use Rattle.dj_calls.specs.Known.{AreKnown}
 use Rattle.dj_check.specs.Instructions.{index_of}
 use Rattle.dj_program.specs.Codes.{code_in}
 use Rattle.dj_program.specs.Naming.{named_if}
@@ -40,13 +41,14 @@ use Rattle.dj_initialising.specs.Places.{Places}
 use Rattle.dj_initialising.specs.Store.{IsStore, store}
 use Rattle.dj_initialising.proofs.StoreLaws.{units_at}
 use Rattle.dj_acting.specs.declared.acted.Acted.{Acted}
-use Rattle.dj_acting.specs.Acting.{Acts, HasInstruction, HasRoom, IsActed, IsDone, IsReady, IsResolved, Machine, machine}
+use Rattle.dj_acting.specs.Acting.{Acts, HasInstruction, IsActed, IsDone, IsHeap, IsReady, IsTopThere, Machine, machine}
 use Rattle.dj_acting.specs.Flows.{way_acted}
 use Rattle.dj_acting.specs.Numbers.{literal_push, literal_value, push_of}
 use Rattle.dj_acting.specs.Operands.{IsInstrAt}
 use Rattle.dj_acting.specs.Used.{IsBeside, IsClassUsed, IsFieldUsed, IsMade, IsOperandUsed}
 use Rattle.dj_acting.proofs.Told.{acted_so, values_acted}
 use Rattle.dj_acting.proofs.Effects.{push_on_values}
+use Rattle.dj_acting.proofs.KnownHeaps.{array_holds, classes_numbered, instance_named}
 use Rattle.dj_acting.proofs.Finding.{Pushes, calls_method, is_call_or_other, no_class, names_nothing, pushes_int, pushes_long, pushes_text, uses_class, uses_field}
 use Rattle.dj_acting.proofs.Standing.{has_instr, instruction_there, linked_at, operand_is, stands_at, type_is}
 use Rattle.dj_acting.proofs.Using.{no_index}
@@ -73,22 +75,16 @@ instr_told imaged method number code is instr at = (
 
 -- ---- operands
 
-module _ (imaged : Imaged) (instr : Instr) (operand : Operand) (frames : List StackFrame) (named : Named) (used : IsOperandUsed imaged instr operand frames named) where
+module _ (imaged : Imaged) (instr : Instr) (operand : Operand) (named : Named) (used : IsOperandUsed imaged instr operand named) where
   abbrev i : Instruction
   i = instruction_of instr named
 
   so : (x : Operand) → operand ≡ x → x ≡ operand_of imaged instr named
   so x e = sym e ∙ used.is
 
-  room_of : (j : Instruction) → i ≡ j → HasRoom j frames
-  room_of j is = subst (λ (j : Instruction). HasRoom j frames) is used.room
-
   -- none
   pub nothing_is : operand ≡ operands.Nothing → i ≡ instruction_of instr Nothing
   nothing_is e = ap (instruction_of instr) (names_nothing imaged instr named (so operands.Nothing e))
-
-  pub nothing_room : operand ≡ operands.Nothing → HasRoom (instruction_of instr Nothing) frames
-  nothing_room e = room_of (instruction_of instr Nothing) (nothing_is e)
 
   unmade_nothing : (j : Instruction) (other : Operand) → made_operand imaged j other ≡ operands.Nothing → IsMade imaged j 0
   unmade_nothing (NewArray class element) other e = absurd (no_class operands.Nothing refl _ e)
@@ -108,9 +104,6 @@ module _ (imaged : Imaged) (instr : Instr) (operand : Operand) (frames : List St
   pub literal_is : (v : Value) → literal_value operand ≡ Some v → i ≡ model.Push v
   literal_is v told = literal_by operand refl v told
 
-  pub literal_fits : (v : Value) → literal_value operand ≡ Some v → Fits (literal_push operand) frames
-  literal_fits v told = subst (λ (o : Option Value). Fits (push_of o) frames) (sym told) (room_of (model.Push v) (literal_is v told)).0
-
   -- texts
   pushes : (text : ℕ) → operand ≡ operands.Text text → Pushes imaged i text
   pushes text e = pushes_text imaged instr named text (so (operands.Text text) e)
@@ -121,18 +114,15 @@ module _ (imaged : Imaged) (instr : Instr) (operand : Operand) (frames : List St
   pub text_within : (text : ℕ) → operand ≡ operands.Text text → text < length imaged.texts
   text_within text e = let t = text_there text e in slice_get_within imaged.texts text t.0 t.2
 
-  pub text_room : (text : ℕ) → operand ≡ operands.Text text → length (top_operands frames) < top_room frames
-  text_room text e = let t = text_there text e in room_of (model.PushText t.0) t.1
-
   -- classes
-  pub class_used : (k : ℕ) → operand ≡ operands.Class k → IsClassUsed imaged instr k frames named
-  class_used k e = record { plainly = used.plainly; uses = uses_class imaged instr named k (so (operands.Class k) e); linked = used.linked; room = used.room }
+  pub class_used : (k : ℕ) → operand ≡ operands.Class k → IsClassUsed imaged instr k named
+  class_used k e = record { plainly = used.plainly; uses = uses_class imaged instr named k (so (operands.Class k) e); linked = used.linked }
 
   -- fields
-  pub field_used : (n : ℕ) → operand ≡ operands.Field (record { number = n }) → IsFieldUsed imaged instr n frames named
+  pub field_used : (n : ℕ) → operand ≡ operands.Field (record { number = n }) → IsFieldUsed imaged instr n named
   field_used n e =
       let u = uses_field imaged instr named n (so (operands.Field (record { number = n })) e) in
-      record { member = u.member; names = u.names; takes = u.takes; found = u.found; is = u.is; linked = used.linked; room = used.room }
+      record { member = u.member; names = u.names; takes = u.takes; found = u.found; is = u.is; linked = used.linked }
 
   pub field_within : (n : ℕ) → operand ≡ operands.Field (record { number = n }) → n < length (all_fields (program_of imaged))
   field_within n e =
@@ -156,6 +146,17 @@ literal_acted imaged operand v told old new heap statics literals way does are =
     values_acted imaged (model.Push v) old new (store heap statics literals) way (push_on_values imaged v)
     (subst (λ (o : Option Value). Does (push_of o) old new way) told does) are
 
+-- ---- the heap
+
+pub heap_is : (imaged : Imaged) (frames : List StackFrame) (heap : LimitedHeap) → AreKnown (types_of (typed_of imaged)) heap → IsTopThere heap.heap (top_operands frames) → IsHeap imaged frames heap
+heap_is imaged frames heap known top = record {
+  known = known;
+  numbered = classes_numbered (types_of (typed_of imaged)) heap known;
+  instances = instance_named (types_of (typed_of imaged)) heap known;
+  arrays = array_holds (types_of (typed_of imaged)) heap known;
+  top = top;
+}
+
 -- ---- the whole
 
 pub if_ok_so : {A E : Type 0} (r : Result A E) (P Q : A → Type 0) → ((x : A) → P x → Q x) → IfOk r P → IfOk r Q
@@ -173,13 +174,11 @@ module _ (imaged : Imaged) (table : Places) (thrown method number : ℕ) (m : Ma
   pub instr_there : HasInstr imaged method number
   instr_there = has_instr imaged method number instr named at.stands
 
-  pub operand_used : (operand : Operand) → IsOperandAt imaged method number operand → IsResolved imaged method number → IsOperandUsed imaged instr operand m.frames named
-  operand_used operand told resolved = record {
+  pub operand_used : (operand : Operand) → IsOperandAt imaged method number operand → IsOperandUsed imaged instr operand named
+  operand_used operand told = record {
     plainly = λ e. nothing_named at.stands.code.pool (index_of instr) named at.stands.names (no_index instr e);
     is = operand_is imaged method number instr named operand at.stands told;
-    resolved = resolved operand told;
     linked = linked_at imaged ready.sound method number (instruction_of instr named) at.is;
-    room = subst (λ (i : Instruction). HasRoom i m.frames) (same_Some ready.stands.instruction (instruction_of instr named) (sym ready.stands.at ∙ at.is)) ready.room;
   }
 
   pub all_done : (after : Machine) (acted : Acted) → IsActed imaged (instruction_of instr named) m after acted → IsDone imaged method number m after acted

@@ -1,7 +1,7 @@
 -- Texts that are pushed.
 use Rattle.std.proofs.Common.{◌≡◌, ◌+◌, ◌<◌, ◌++◌, ℕ, Bool, true, false, List, [], ◌∷◌, length, Option, Some, None, Ok, Err, if◌then◌else◌, sym, ap, subst, ◌∙◌}
 use Rattle.std.specs.Prelude.{slice_get, unwrap_or}
-use Rattle.std.proofs.lemmas.Option.{same_Some}
+use Rattle.std.proofs.lemmas.Option.{same_Some, slice_get_within}
 use Rattle.dj_names.specs.declared.run.Value.{Value}
 use Rattle.dj_names.specs.declared.run.Value.TheVariants as values
 use Rattle.dj_names.specs.declared.run.Outcome.TheVariants as outcomes
@@ -40,6 +40,14 @@ texts_pushed limit class text count units heap made operands None known less = b
   by true = known
   by false = texts_more count text _ made known less
 
+string_there : (imaged : Imaged) (string : ℕ) → Some string ≡ string_at (typed_of imaged) → slice_get (types_of (typed_of imaged)) string ≡ Some (class_type (string_name imaged.prefix))
+string_there imaged string is =
+    class_there (program_of imaged) imaged.arrays string (string_name imaged.prefix) (name_at-number (program_of imaged) (string_name imaged.prefix) string (sym is))
+
+pub string_within : (imaged : Imaged) (string : ℕ) → Some string ≡ string_at (typed_of imaged) → string < length (types_of (typed_of imaged))
+string_within imaged string is =
+    slice_get_within (types_of (typed_of imaged)) string (class_type (string_name imaged.prefix)) (string_there imaged string is)
+
 pub text_on_literals : (imaged : Imaged) (old new : List StackFrame) (before after : LimitedHeap) (table now : LiteralTable) (string text : ℕ) (units told : List ℕ) (flow : Flow) (acted : Acted)
     → acted ≡ flow_acted (Some flow) → AreTexts imaged → text < length imaged.texts → Some string ≡ string_at (typed_of imaged)
     → slice_get imaged.texts text ≡ Some told → slice_get imaged.texts text ≡ Some units
@@ -48,8 +56,7 @@ pub text_on_literals : (imaged : Imaged) (old new : List StackFrame) (before aft
 text_on_literals imaged old new before after table now string text units told flow acted is texts known string_is at spells does statics store_is =
     let same : told ≡ units = same_Some told units (sym at ∙ spells) in
     let type : type_at (types_of (typed_of imaged)) string ≡ class_type (string_name imaged.prefix) =
-    type_is (typed_of imaged) string (class_type (string_name imaged.prefix))
-    (class_there (program_of imaged) imaged.arrays string (string_name imaged.prefix) (name_at-number (program_of imaged) (string_name imaged.prefix) string (sym string_is))) in
+    type_is (typed_of imaged) string (class_type (string_name imaged.prefix)) (string_there imaged string string_is) in
     let kept : literals.AreTexts (length imaged.texts) now.made =
     subst (literals.AreTexts (length imaged.texts)) (ap (λ (e : OnLiterals). e.literals) does.effect)
     (texts_pushed (Some before.limit) string text (length imaged.texts) told before.heap table.made (top_operands old) (object_of table.made text) store_is.texts known) in

@@ -1,8 +1,8 @@
 -- Whether an array of references takes a reference, by numbers.
-use Rattle.std.proofs.Common.{◌≡◌, ◌+◌, ◌-◌, ◌<◌, ◌≤◌, ◌||◌, ℕ, ℤ, zero, suc, Bool, true, false, List, [], ◌∷◌, length, reverse, Option, Some, None, nat_eq, if◌then◌else◌, refl, sym, ap, subst, ◌∙◌, arith}
-use Rattle.std.specs.Prelude.{slice_get, get_or, option_and_then, unwrap_or}
+use Rattle.std.proofs.Common.{◌≡◌, ◌+◌, ◌-◌, ◌<◌, ◌≤◌, ◌||◌, ℕ, ℤ, Bool, true, false, List, [], ◌∷◌, length, reverse, Option, Some, None, nat_eq, if◌then◌else◌, refl, sym, ap, subst, ◌∙◌, arith}
+use Rattle.std.specs.Prelude.{is_some, slice_get, get_or, option_and_then, unwrap_or}
 use Rattle.std.specs.Option.{option_map}
-use Rattle.std.proofs.lemmas.Bool.{ne_eqb}
+use Rattle.std.proofs.lemmas.Bool.{false≢true, ne_eqb}
 use Rattle.std.proofs.lemmas.List.{get_or-reverse, length-reverse}
 use Rattle.std.proofs.lemmas.Option.{none-some, same_Some, slice_get-get_or, slice_get_past}
 use Rattle.dj_names.specs.declared.descriptor.Ty.{Ty}
@@ -22,7 +22,7 @@ use Rattle.dj_effects.specs.DoesOnHeap.{IsTakenSo}
 use Rattle.dj_effects.proofs.TopFacts.{last_frame}
 use Rattle.dj_types.specs.Typed.{types_of}
 use Rattle.dj_image.specs.Imaged.{Imaged, program_of, typed_of}
-use Rattle.dj_acting.specs.Acting.{IsHeap, IsThere, AreThere}
+use Rattle.dj_acting.specs.Acting.{IsHeap, IsThere, IsTopThere}
 use Rattle.dj_acting.specs.Taking.{IsTakenBy}
 
 -- ---- operands
@@ -51,10 +51,18 @@ operand_is frames f at below last less is =
 pub no_operand : (frames : List StackFrame) (below : ℕ) → length (top_operands frames) ≤ below → None ≡ slice_get (top_operands frames) below
 no_operand frames below le = sym (slice_get_past (top_operands frames) below le)
 
-pub there_of : (heap : Heap ℕ) (operands : List Value) (n : ℕ) (v : Value) → AreThere heap operands → slice_get operands n ≡ Some v → IsThere heap v
-there_of heap [] n v are e = absurd (none-some v e)
-there_of heap (w ∷ operands) zero v are e = subst (IsThere heap) (same_Some w v e) are.0
-there_of heap (w ∷ operands) (suc n) v are e = there_of heap operands n v are.1 e
+pub top_there : (heap : Heap ℕ) (operands : List Value) (v : Value) → IsTopThere heap operands → slice_get operands 0 ≡ Some v → IsThere heap v
+top_there heap [] v is e = absurd (none-some v e)
+top_there heap (w ∷ operands) v is e = subst (IsThere heap) (same_Some w v e) is
+
+-- what stands on top is asked whether it is there
+pub value_there : (heap : Heap ℕ) (operands : List Value) (v : Value) → Some v ≡ slice_get operands 0 → IsThere heap v → IsTopThere heap operands
+value_there heap [] v e is = tt
+value_there heap (w ∷ operands) v e is = subst (IsThere heap) (same_Some v w e) is
+
+pub none_there : (heap : Heap ℕ) (operands : List Value) → None ≡ slice_get operands 0 → IsTopThere heap operands
+none_there heap [] e = tt
+none_there heap (w ∷ operands) e = absurd (none-some w e)
 
 -- ---- arrays
 
@@ -138,6 +146,14 @@ module _ (imaged : Imaged) (frames : List StackFrame) (heap : LimitedHeap) (know
       let holds_them = holds c contents array_there in
       let has = all array within holds_them in
       absurd (component_none (holds_references (type_at types array)) (component_type (type_at types array)) holds_them none has.number has.at)
+
+-- a class of which a component is told is one of arrays of references
+pub component_holds : (all : List Ty) (class : ℕ) (o : Option ℕ) → IsNumberOf all (component_of (type_at all class)) o → is_some o ≡ true → holds_references (type_at all class) ≡ true
+component_holds all class None is some = absurd (false≢true some)
+component_holds all class (Some k) is some = by (holds_references (type_at all class)) is where
+  by : (b : Bool) → IsNumberOf all (if b then Some (component_type (type_at all class)) else None) (Some k) → b ≡ true
+  by true is = refl
+  by false is = absurd is
 
 -- one answer for all is that answer
 pub taken_alike : (taken : Bool) (operands : List Value) → IsTakenSo (λ r v. taken) operands taken

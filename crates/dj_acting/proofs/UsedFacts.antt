@@ -1,5 +1,5 @@
 -- What an instruction is that uses a field or a class of a number, and what it asks.
-use Rattle.std.proofs.Common.{◌≡◌, ◌<◌, ◌≤◌, ◌&&◌, ℕ, Bool, true, false, List, length, Option, Some, None, refl, sym, ap, subst, ◌∙◌}
+use Rattle.std.proofs.Common.{◌≡◌, ◌<◌, ◌&&◌, ℕ, Bool, true, false, List, length, Option, Some, None, refl, sym, ap, subst, ◌∙◌}
 use Rattle.std.specs.Prelude.{not}
 use Rattle.std.proofs.lemmas.Bool.{false≢true}
 use Rattle.std.proofs.lemmas.Option.{same_Some}
@@ -16,7 +16,7 @@ use Rattle.dj_model.specs.Opcodes.{instruction_of}
 use Rattle.dj_model.specs.Program.{is_static}
 use Rattle.dj_model.specs.Linking.{FoundField, resolve_field}
 use Rattle.dj_model.specs.Sound.{is_class_of, is_field_found, is_linked}
-use Rattle.dj_stack.specs.Frames.{StackFrame, top_operands, top_room}
+use Rattle.dj_stack.specs.Frames.{StackFrame}
 use Rattle.dj_effects.specs.Actions.{action_view, is_other}
 use Rattle.dj_effects.specs.declared.actions.PlainAction.{PlainAction}
 use Rattle.dj_effects.specs.declared.actions.PlainAction.TheVariants as actions
@@ -31,7 +31,7 @@ use Rattle.dj_acting.specs.declared.uses.FieldUse.TheVariants as fields
 use Rattle.dj_acting.specs.declared.uses.ClassUse.{ClassUse}
 use Rattle.dj_acting.specs.declared.uses.ClassUse.TheVariants as classes
 use Rattle.dj_acting.specs.Accesses.{IsStaticAt}
-use Rattle.dj_acting.specs.Acting.{ActsOnHeap, HasRoom, IsClassAt, IsMadeBy, machine}
+use Rattle.dj_acting.specs.Acting.{ActsOnHeap, IsClassAt, IsMadeBy, machine}
 use Rattle.dj_acting.specs.Operands.{UsesClass, Makes, Names}
 use Rattle.dj_acting.specs.Used.{IsClassUsed, IsFieldUsed, IsMade}
 use Rattle.dj_acting.specs.Uses.{class_use, field_use}
@@ -62,7 +62,7 @@ used_number : (imaged : Imaged) (instr : Instr) (named : Named) (k : ℕ) → Us
 used_number imaged instr named k (Makes class element is number) = number_within (typed_of imaged) class k number
 used_number imaged instr named k (Names class is takes unmade number) = number_within (typed_of imaged) class k number
 
-module _ (imaged : Imaged) (instr : Instr) (k : ℕ) (frames : List StackFrame) (named : Named) (used : IsClassUsed imaged instr k frames named) where
+module _ (imaged : Imaged) (instr : Instr) (k : ℕ) (named : Named) (used : IsClassUsed imaged instr k named) where
   pub class_within : k < length (types_of (typed_of imaged))
   class_within = used_number imaged instr named k used.uses
 
@@ -72,13 +72,7 @@ module _ (imaged : Imaged) (instr : Instr) (k : ℕ) (frames : List StackFrame) 
   linked_so : (i : Instruction) → instruction_of instr named ≡ i → is_linked (program_of imaged) imaged.prefix i ≡ true
   linked_so i is = ap (is_linked (program_of imaged) imaged.prefix) (sym is) ∙ used.linked
 
-  room_so : (i : Instruction) → instruction_of instr named ≡ i → HasRoom i frames
-  room_so i is = subst (λ (i : Instruction). HasRoom i frames) is used.room
-
   -- new
-  pub new_room : class_use instr ≡ classes.New → length (top_operands frames) < top_room frames
-  new_room e = let t = told classes.New e in room_so (model.New t.0) t.1
-
   pub new_named : class_use instr ≡ classes.New → (name : Name) × (instruction_of instr named ≡ model.New (class_type name)) × (name_at (program_of imaged) k ≡ Some name)
   unfolding is_linked
   new_named e =
@@ -87,9 +81,6 @@ module _ (imaged : Imaged) (instr : Instr) (k : ℕ) (frames : List StackFrame) 
       (named_so.name, t.1 ∙ ap model.New named_so.is, named_so.at)
 
   -- anewarray
-  pub array_room : class_use instr ≡ classes.NewArray → length (top_operands frames) ≤ top_room frames
-  array_room e = let t = told classes.NewArray e in (room_so (NewArray t.0 elements.Ref) t.1).1
-
   pub array_class : ArePlain (types_of (typed_of imaged)) → class_use instr ≡ classes.NewArray → (class : Ty) × (instruction_of instr named ≡ NewArray class elements.Ref) × IsClassAt imaged class k
   unfolding is_linked
   array_class plain e =
@@ -98,9 +89,6 @@ module _ (imaged : Imaged) (instr : Instr) (k : ℕ) (frames : List StackFrame) 
       (t.0, t.1, class_at_number imaged plain t.0 k known t.2)
 
   -- checkcast
-  pub cast_room : class_use instr ≡ classes.Cast → length (top_operands frames) ≤ top_room frames
-  cast_room e = let t = told classes.Cast e in (room_so (model.CheckCast t.0) t.1).1
-
   pub cast_class : ArePlain (types_of (typed_of imaged)) → class_use instr ≡ classes.Cast → (class : Ty) × (instruction_of instr named ≡ model.CheckCast class) × IsClassAt imaged class k
   unfolding is_linked
   cast_class plain e =
@@ -108,9 +96,6 @@ module _ (imaged : Imaged) (instr : Instr) (k : ℕ) (frames : List StackFrame) 
       (t.0, t.1, class_at_number imaged plain t.0 k (linked_so (model.CheckCast t.0) t.1) t.2)
 
   -- instanceof
-  pub instance_room : class_use instr ≡ classes.Instance → length (top_operands frames) ≤ top_room frames
-  instance_room e = let t = told classes.Instance e in (room_so (model.InstanceOf t.0) t.1).1
-
   pub instance_class : ArePlain (types_of (typed_of imaged)) → class_use instr ≡ classes.Instance → (class : Ty) × (instruction_of instr named ≡ model.InstanceOf class) × IsClassAt imaged class k
   unfolding is_linked
   instance_class plain e =
@@ -120,9 +105,6 @@ module _ (imaged : Imaged) (instr : Instr) (k : ℕ) (frames : List StackFrame) 
   -- those without an index
   plain_named : class_use instr ≡ classes.Plain → instruction_of instr named ≡ instruction_of instr Nothing
   plain_named e = ap (instruction_of instr) (used.plainly e)
-
-  pub plain_room : class_use instr ≡ classes.Plain → HasRoom (instruction_of instr Nothing) frames
-  plain_room e = room_so (instruction_of instr Nothing) (plain_named e)
 
   pub plain_made : ArePlain (types_of (typed_of imaged)) → class_use instr ≡ classes.Plain → IsMade imaged (instruction_of instr Nothing) k
   unfolding is_linked
@@ -139,14 +121,11 @@ module _ (imaged : Imaged) (instr : Instr) (k : ℕ) (frames : List StackFrame) 
 
 -- ---- fields
 
-module _ (imaged : Imaged) (instr : Instr) (n : ℕ) (frames : List StackFrame) (named : Named) (used : IsFieldUsed imaged instr n frames named) where
+module _ (imaged : Imaged) (instr : Instr) (n : ℕ) (named : Named) (used : IsFieldUsed imaged instr n named) where
   field_told : (how : FieldUse) → field_use instr ≡ how → IsFieldInstruction how used.member (instruction_of instr named)
   field_told how e =
       subst (λ (named : Named). IsFieldInstruction how used.member (instruction_of instr named)) (sym used.names)
       (subst (λ (u : FieldUse). IsFieldInstruction u used.member (instruction_of instr (AField used.member))) e (field_instruction instr used.member used.takes))
-
-  field_room_so : (i : Instruction) → instruction_of instr named ≡ i → HasRoom i frames
-  field_room_so i is = subst (λ (i : Instruction). HasRoom i frames) is used.room
 
   static_so : (found : Option FoundField) → found ≡ Some used.found → is_field_found true found ≡ true → is_static used.found.field.flags ≡ true
   static_so None e is = absurd (false≢true is)
@@ -182,12 +161,6 @@ module _ (imaged : Imaged) (instr : Instr) (n : ℕ) (frames : List StackFrame) 
     static = static_so (resolve_field (program_of imaged) imaged.prefix used.member) used.is.resolves
         (last_part (is_class_of (program_of imaged) used.member.class) (not (same_name used.member.name initialiser_name)) (is_field_found true (resolve_field (program_of imaged) imaged.prefix used.member)) (linked_static (model.PutStatic used.member) (field_told fields.PutStatic e)));
   }
-
-  pub get_static_room : field_use instr ≡ fields.GetStatic → length (top_operands frames) < top_room frames
-  get_static_room e = field_room_so (model.GetStatic used.member) (field_told fields.GetStatic e)
-
-  pub get_field_room : field_use instr ≡ fields.Get → length (top_operands frames) ≤ top_room frames
-  get_field_room e = (field_room_so (model.GetField used.member) (field_told fields.Get e)).1
 
   pub is_get_static : field_use instr ≡ fields.GetStatic → instruction_of instr named ≡ model.GetStatic used.member
   is_get_static e = field_told fields.GetStatic e

@@ -24,13 +24,11 @@ use Rattle.dj_effects.specs.declared.actions.PlainAction.{PlainAction}
 use Rattle.dj_effects.specs.declared.actions.PlainAction.TheVariants as actions
 use Rattle.dj_effects.specs.Does.{Fits, told_operands, way_view}
 use Rattle.dj_members.specs.Literals.{LiteralTable, literals_map}
+use Rattle.dj_calls.specs.Known.{AreKnown}
 use Rattle.dj_members.specs.Numbering.{AreNumbered}
 use Rattle.dj_types.specs.Typed.{types_of}
 use Rattle.dj_types.specs.Members.{all_fields, all_methods}
 use Rattle.dj_image.specs.Imaged.{Imaged, program_of, typed_of}
-use Rattle.dj_image.specs.declared.operand.Operand.{Operand}
-use Rattle.dj_image.specs.declared.operand.Operand.TheVariants as operands
-use Rattle.dj_image.specs.Codes.{IsOperandAt}
 use Rattle.dj_activations.specs.Activations.{declared_at}
 use Rattle.dj_initialising.specs.Places.{Places, ArePlaces}
 use Rattle.dj_initialising.specs.Store.{AreTexts, Store, IsStore, store}
@@ -122,19 +120,21 @@ abbrev pub IsThere : Heap ℕ → Value → Type 0
 IsThere heap (values.Ref r) = r ≤ length heap.objects
 IsThere heap v = ⊤
 
-abbrev pub AreThere : Heap ℕ → List Value → Type 0
-AreThere heap [] = ⊤
-AreThere heap (v ∷ operands) = IsThere heap v × AreThere heap operands
+-- the top operand is; of another one it isn't asked, as each instruction that goes to an object by it asks how many there are
+abbrev pub IsTopThere : Heap ℕ → List Value → Type 0
+IsTopThere heap [] = ⊤
+IsTopThere heap (v ∷ operands) = IsThere heap v
 
--- a heap and frames over the image: the classes of objects have numbers, and an instance's is no array; and the top operands are there
+-- a heap and frames over the image: its objects are known, so that their classes have numbers, and an instance's is no array; and the top operand is there
 pub record IsHeap (imaged : Imaged) (frames : List StackFrame) (heap : LimitedHeap) : Type 0 where
+  pub known : AreKnown (types_of (typed_of imaged)) heap
   pub numbered : AreNumbered (length (types_of (typed_of imaged))) heap.heap
   pub instances : (r class : ℕ) (fields : List ℕ) → object_at heap.heap.objects r ≡ Some (Instance class fields)
       → (name : Name) × (type_at (types_of (typed_of imaged)) class ≡ class_type name)
   -- an array of references is of a class of such arrays
   pub arrays : (r class : ℕ) (contents : List ℤ) → object_at heap.heap.objects r ≡ Some (Array class elements.Ref contents)
       → holds_references (type_at (types_of (typed_of imaged)) class) ≡ true
-  pub operands : AreThere heap.heap (top_operands frames)
+  pub top : IsTopThere heap.heap (top_operands frames)
 
 -- a machine over the image, and what is kept of the image beside it, can do the instruction of a number in a method of a number
 pub record IsReady (imaged : Imaged) (table : Places) (thrown method number : ℕ) (m : Machine) : Type 0 where
@@ -143,15 +143,10 @@ pub record IsReady (imaged : Imaged) (table : Places) (thrown method number : �
   pub places : ArePlaces (program_of imaged) table
   -- the class Throwable
   pub throwable : slice_get (types_of (typed_of imaged)) thrown ≡ Some (class_type (throwable_name imaged.prefix))
-  pub heap : IsHeap imaged m.frames m.store.heap
+  pub known : AreKnown (types_of (typed_of imaged)) m.store.heap
   pub are : IsStore imaged m.store
   pub there : method < length (all_methods (program_of imaged))
   pub stands : HasInstruction imaged method number
-  pub room : HasRoom stands.instruction m.frames
-
--- the constant that the instruction names is of the tag that it takes, and what it names is there
-abbrev pub IsResolved : Imaged → ℕ → ℕ → Type 0
-IsResolved imaged method number = (operand : Operand) → IsOperandAt imaged method number operand → operand ≡ operands.Unresolved → ⊥
 
 -- the instruction of the number was done, or is a call
 abbrev pub IsDone : Imaged → ℕ → ℕ → Machine → Machine → Acted → Type 0

@@ -7,3 +7,5 @@ pub mod Taking
 pub mod Uses
 pub mod Used
 pub mod Numbers
+pub mod Growing
+pub mod Elements

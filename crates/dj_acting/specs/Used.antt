@@ -15,13 +15,12 @@ use Rattle.dj_types.specs.Typed.{types_of}
 use Rattle.dj_image.specs.Imaged.{Imaged, program_of, typed_of}
 use Rattle.dj_image.specs.Numbering.{AreSettled}
 use Rattle.dj_image.specs.declared.operand.Operand.{Operand}
-use Rattle.dj_image.specs.declared.operand.Operand.TheVariants as operands
 use Rattle.dj_image.specs.Operands.{operand_of, takes_named}
 use Rattle.dj_initialising.specs.Places.{Places, ArePlaces}
 use Rattle.dj_initialising.specs.Store.{AreTexts, IsStore, store}
 use Rattle.dj_acting.specs.declared.acted.Acted.{Acted}
 use Rattle.dj_acting.specs.declared.uses.ClassUse.TheVariants as classes
-use Rattle.dj_acting.specs.Acting.{Acts, HasRoom, IsClassAt, IsMember, machine}
+use Rattle.dj_acting.specs.Acting.{Acts, IsClassAt, IsMember, machine}
 use Rattle.dj_acting.specs.Operands.{UsesClass}
 use Rattle.dj_acting.specs.Uses.{class_use}
 
@@ -31,21 +30,19 @@ IsMade imaged (NewArray class element) k = IsClassAt imaged class k
 IsMade imaged i k = ⊤
 
 -- an instruction that uses the class of this number
-pub record IsClassUsed (imaged : Imaged) (instr : Instr) (k : ℕ) (frames : List StackFrame) (named : Named) : Type 0 where
+pub record IsClassUsed (imaged : Imaged) (instr : Instr) (k : ℕ) (named : Named) : Type 0 where
   pub plainly : class_use instr ≡ classes.Plain → named ≡ Nothing
   pub uses : UsesClass imaged instr named k
   pub linked : is_linked (program_of imaged) imaged.prefix (instruction_of instr named) ≡ true
-  pub room : HasRoom (instruction_of instr named) frames
 
 -- an instruction that uses the field of this number
-pub record IsFieldUsed (imaged : Imaged) (instr : Instr) (n : ℕ) (frames : List StackFrame) (named : Named) : Type 0 where
+pub record IsFieldUsed (imaged : Imaged) (instr : Instr) (n : ℕ) (named : Named) : Type 0 where
   pub member : Member
   pub names : named ≡ AField member
   pub takes : takes_named instr (AField member) ≡ true
   pub found : FoundField
   pub is : IsMember imaged member found n
   pub linked : is_linked (program_of imaged) imaged.prefix (instruction_of instr named) ≡ true
-  pub room : HasRoom (instruction_of instr named) frames
 
 abbrev pub ActsOnFields : Imaged → Instruction → List StackFrame → List StackFrame → LimitedHeap → LimitedHeap → List ℕ → List ℕ → Acted → Type 0
 ActsOnFields imaged i old new before after statics now acted =
@@ -53,12 +50,10 @@ ActsOnFields imaged i old new before after statics now acted =
     → Acts imaged i (machine old (store before statics literals)) (machine new (store after now literals)) acted
 
 -- an instruction with this operand
-pub record IsOperandUsed (imaged : Imaged) (instr : Instr) (operand : Operand) (frames : List StackFrame) (named : Named) : Type 0 where
+pub record IsOperandUsed (imaged : Imaged) (instr : Instr) (operand : Operand) (named : Named) : Type 0 where
   pub plainly : class_use instr ≡ classes.Plain → named ≡ Nothing
   pub is : operand ≡ operand_of imaged instr named
-  pub resolved : operand ≡ operands.Unresolved → ⊥
   pub linked : is_linked (program_of imaged) imaged.prefix (instruction_of instr named) ≡ true
-  pub room : HasRoom (instruction_of instr named) frames
 
 -- what is kept of the image beside a machine
 pub record IsBeside (imaged : Imaged) (table : Places) (thrown : ℕ) : Type 0 where

@@ -1,11 +1,15 @@
-ghost use Rattle.std.specs.Prelude.{◌≤◌, length, IfOk};
+ghost use Rattle.std.specs.Prelude.{◌≤◌, ◌<◌, length, IfOk};
 ghost use Rattle.dj_names.specs.declared.descriptor.Ty.{Ty};
 ghost use Rattle.dj_model.specs.Instructions.{ArrayLength, LoadElement, NewArray, StoreElement};
 ghost use Rattle.dj_stack.specs.Frames.{top_operands, top_room};
 ghost use Rattle.dj_effects.specs.Actions.{access_view};
+ghost use Rattle.dj_calls.specs.Known.{AreKnown};
+ghost use Rattle.dj_types.specs.Typed.{types_of};
+ghost use Rattle.dj_image.specs.Imaged.{typed_of};
 ghost use Rattle.dj_acting.specs.Acting.{ActsOnHeap, IsClassAt, IsHeap};
 
 use crate::acted::{Acted, flow_acted};
+use crate::asking::holds_elements;
 use crate::taking::takes_top;
 use dj_effects::{Access, array_length, load_element, new_array, store_element};
 use dj_heap::Heap;
@@ -22,12 +26,22 @@ pub fn act_load(image: &Image, frames: &mut Frames, heap: &Heap, access: Access)
 }
 
 /// A value is stored in an array.
-pub fn act_store(image: &Image, frames: &mut Frames, heap: &mut Heap, access: Access) -> Acted
+pub fn act_store(
+    image: &Image,
+    frames: &mut Frames,
+    heap: &mut Heap,
+    access: Access,
+) -> Result<Acted, NoMemory>
     requires { IsHeap image.now frames.old heap.old }
-    ensures { ActsOnHeap image.now (StoreElement (access_view access)) frames.old frames.new heap.old heap.new result }
+    ensures done { IfOk result (λ acted. ActsOnHeap image.now (StoreElement (access_view access)) frames.old frames.new heap.old heap.new acted) }
+    ensures known { IfOk result (λ _. AreKnown (types_of (typed_of image.now)) heap.new) }
 {
     let is_taken = takes_top(image, frames, heap);
-    flow_acted(store_element(frames, heap, access, is_taken))
+    let Some(flow) = store_element(frames, heap, access, is_taken) else {
+        // Never in a sound program.
+        return Err(NoMemory::Memory);
+    };
+    Ok(flow_acted(Some(flow)))
 }
 
 /// The length of an array is pushed.
@@ -46,9 +60,20 @@ pub fn act_new_array(
     class: u32,
     element: Element,
 ) -> Result<Acted, NoMemory>
-    requires { length (top_operands frames.old) ≤ top_room frames.old }
-    ensures { (ty : Ty) → IsClassAt image.now ty class → IfOk result (λ acted. ActsOnHeap image.now (NewArray ty element) frames.old frames.new heap.old heap.new acted) }
+    requires known { AreKnown (types_of (typed_of image.now)) heap.old }
+    requires within { class < length (types_of (typed_of image.now)) }
+    requires room { length (top_operands frames.old) ≤ top_room frames.old }
+    ensures done { (ty : Ty) → IsClassAt image.now ty class → IfOk result (λ acted. ActsOnHeap image.now (NewArray ty element) frames.old frames.new heap.old heap.new acted) }
+    ensures known { IfOk result (λ _. AreKnown (types_of (typed_of image.now)) heap.new) }
 {
-    let flow = new_array(frames, heap, class, element)?;
-    Ok(flow_acted(flow))
+    if !holds_elements(image, class, element) {
+        // Never in a sound program.
+        return Err(NoMemory::Memory);
+    }
+    let made = new_array(frames, heap, class, element)?;
+    let Some(flow) = made else {
+        // Never in a sound program.
+        return Err(NoMemory::Memory);
+    };
+    Ok(flow_acted(Some(flow)))
 }

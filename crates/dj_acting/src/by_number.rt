@@ -1,19 +1,23 @@
-ghost use Rattle.std.specs.Prelude.{◌≡◌, ◌<◌, length, slice_get, IfOk};
+ghost use Rattle.std.specs.Prelude.{◌≡◌, ◌≤◌, ◌<◌, length, slice_get, IfOk};
 ghost use Rattle.std.specs.Option.{option_map};
 ghost use Rattle.dj_model.specs.Instructions.{Instruction, Named};
 ghost use Rattle.dj_model.specs.Opcodes.{instruction_of};
 ghost use Rattle.dj_model.specs.Sound.{IsSound};
+ghost use Rattle.dj_stack.specs.Frames.{top_operands, top_room};
+ghost use Rattle.dj_calls.specs.Known.{AreKnown};
+ghost use Rattle.dj_types.specs.Typed.{types_of};
 ghost use Rattle.dj_types.specs.Members.{all_methods};
 ghost use Rattle.dj_image.specs.Imaged.{program_of, typed_of};
 ghost use Rattle.dj_image.specs.Numbering.{AreSettled};
 ghost use Rattle.dj_initialising.specs.Store.{IsStore, store};
-ghost use Rattle.dj_acting.specs.Acting.{HasInstruction, IsActed, IsDone, IsHeap, IsReady, IsResolved, machine};
+ghost use Rattle.dj_acting.specs.Acting.{HasInstruction, IsActed, IsDone, IsHeap, IsReady, IsTopThere, machine};
 ghost use Rattle.dj_acting.specs.Operands.{IsInstrAt};
 ghost use Rattle.dj_acting.specs.Used.{IsBeside, IsOperandUsed};
 
-use crate::acted::{Acted, way_acted};
+use crate::acted::Acted;
+use crate::asking::{has_room, is_top_there};
 use crate::classes::{act_class, act_unnamed};
-use crate::literals::push_literal;
+use crate::literals::act_literal;
 use crate::members::act_field;
 use crate::texts::act_push_text;
 use dj_activations::code_of;
@@ -64,20 +68,23 @@ fn act_with(
     requires beside { IsBeside image.now places.now throwable }
     requires known { IsHeap image.now frames.old heap.old }
     requires are { IsStore image.now (store heap.old statics.old literals.old) }
-    requires used { (named : Named) × IsOperandUsed image.now instr.now operand frames.old named }
-    ensures { (named : Named) → IsOperandUsed image.now instr.now operand frames.old named
+    requires used { (named : Named) × IsOperandUsed image.now instr.now operand named }
+    requires room { length (top_operands frames.old) ≤ top_room frames.old }
+    ensures done { (named : Named) → IsOperandUsed image.now instr.now operand named
         → IfOk result (λ acted. IsActed image.now (instruction_of instr.now named)
         (machine frames.old (store heap.old statics.old literals.old)) (machine frames.new (store heap.new statics.new literals.new)) acted) }
+    ensures known { IfOk result (λ _. AreKnown (types_of (typed_of image.now)) heap.new) }
 {
     match operand {
         Operand::Nothing => act_unnamed(image, frames, heap, throwable, 0, instr),
-        Operand::Int(_) => Ok(way_acted(push_literal(frames, operand))),
-        Operand::Long(_) => Ok(way_acted(push_literal(frames, operand))),
+        Operand::Int(_) => act_literal(frames, operand),
+        Operand::Long(_) => act_literal(frames, operand),
         Operand::Text(text) => act_push_text(image, frames, heap, literals, text),
         Operand::Class(class) => act_class(image, frames, heap, throwable, class, instr),
-        Operand::Field(field) => Ok(act_field(image, places, frames, heap, statics, field, instr)),
+        Operand::Field(field) => act_field(image, places, frames, heap, statics, field, instr),
         Operand::Method(_) => Ok(Acted::Call),
-        Operand::Unresolved => unreachable!(),
+        // Never in a sound program.
+        Operand::Unresolved => Err(NoMemory::Memory),
     }
 }
 
@@ -95,9 +102,11 @@ fn act_settled(
 ) -> Result<Acted, NoMemory>
     requires settled { AreSettled (typed_of image.now) }
     requires ready { IsReady image.now places.now throwable method.number number (machine frames.old (store heap.old statics.old literals.old)) }
-    requires resolved { IsResolved image.now method.number number }
-    ensures { IfOk result (λ acted. IsDone image.now method.number number
+    requires top { IsTopThere heap.old.heap (top_operands frames.old) }
+    requires room { length (top_operands frames.old) ≤ top_room frames.old }
+    ensures done { IfOk result (λ acted. IsDone image.now method.number number
         (machine frames.old (store heap.old statics.old literals.old)) (machine frames.new (store heap.new statics.new literals.new)) acted) }
+    ensures known { IfOk result (λ _. AreKnown (types_of (typed_of image.now)) heap.new) }
 {
     image.are_plain();
     let instr = instr_of(image, method, number);
@@ -108,7 +117,8 @@ fn act_settled(
 }
 
 /// The instruction of a number in a method of an image is done, but for a call; the class that it uses has been initialised. The places of static
-/// fields are told, and the number of the class Throwable.
+/// fields are told, and the number of the class Throwable. What a sound program's frames have, but isn't asked before, is asked of the values: where
+/// the operands or the frame's room lack it, which is never so in a sound program, it is told as a want of memory.
 pub fn act(
     image: &Image,
     places: &StaticPlaces,
@@ -121,10 +131,18 @@ pub fn act(
     number: u32,
 ) -> Result<Acted, NoMemory>
     requires ready { IsReady image.now places.now throwable method.number number (machine frames.old (store heap.old statics.old literals.old)) }
-    requires resolved { IsResolved image.now method.number number }
-    ensures { IfOk result (λ acted. IsDone image.now method.number number
+    ensures done { IfOk result (λ acted. IsDone image.now method.number number
         (machine frames.old (store heap.old statics.old literals.old)) (machine frames.new (store heap.new statics.new literals.new)) acted) }
+    ensures known { IfOk result (λ _. AreKnown (types_of (typed_of image.now)) heap.new) }
 {
+    if !is_top_there(frames, heap) {
+        // Never in a sound program.
+        return Err(NoMemory::Memory);
+    }
+    if !has_room(frames, 0) {
+        // Never in a sound program.
+        return Err(NoMemory::Memory);
+    }
     image.are_settled();
     act_settled(
         image, places, throwable, frames, heap, statics, literals, method, number,

@@ -1,4 +1,6 @@
-ghost use Rattle.std.specs.Prelude.{IfOk};
+ghost use Rattle.std.specs.Prelude.{◌≤◌, length, IfOk};
+ghost use Rattle.dj_stack.specs.Frames.{top_operands, top_room};
+ghost use Rattle.dj_calls.specs.Known.{AreKnown};
 ghost use Rattle.dj_names.specs.Types.{class_type};
 ghost use Rattle.dj_natives.specs.Numbered.{ArePlain};
 ghost use Rattle.dj_model.specs.Types.{throwable_name};
@@ -6,7 +8,7 @@ ghost use Rattle.dj_model.specs.Instructions.{Named, Nothing};
 ghost use Rattle.dj_model.specs.Opcodes.{instruction_of};
 ghost use Rattle.dj_types.specs.Typed.{types_of};
 ghost use Rattle.dj_image.specs.Imaged.{typed_of};
-ghost use Rattle.dj_acting.specs.Acting.{ActsOnHeap, HasRoom, IsClassAt, IsHeap};
+ghost use Rattle.dj_acting.specs.Acting.{ActsOnHeap, IsClassAt, IsHeap};
 ghost use Rattle.dj_acting.specs.Used.{IsClassUsed, IsMade};
 
 use crate::acted::Acted;
@@ -33,8 +35,8 @@ pub fn act_unnamed(
     requires known { IsHeap image.now frames.old heap.old }
     requires throwable { IsClassAt image.now (class_type (throwable_name image.now.prefix)) throwable }
     requires made { IsMade image.now (instruction_of instr.now Nothing) class }
-    requires room { HasRoom (instruction_of instr.now Nothing) frames.old }
-    ensures { IfOk result (λ acted. ActsOnHeap image.now (instruction_of instr.now Nothing) frames.old frames.new heap.old heap.new acted) }
+    ensures done { IfOk result (λ acted. ActsOnHeap image.now (instruction_of instr.now Nothing) frames.old frames.new heap.old heap.new acted) }
+    ensures known { IfOk result (λ _. AreKnown (types_of (typed_of image.now)) heap.new) }
 {
     match plain_action(instr) {
         Some(action) => act_plain(image, frames, heap, throwable, class, action),
@@ -54,9 +56,11 @@ pub fn act_class(
     requires known { IsHeap image.now frames.old heap.old }
     requires throwable { IsClassAt image.now (class_type (throwable_name image.now.prefix)) throwable }
     requires plain { ArePlain (types_of (typed_of image.now)) }
-    requires used { (named : Named) × IsClassUsed image.now instr.now class frames.old named }
-    ensures { (named : Named) → IsClassUsed image.now instr.now class frames.old named
+    requires used { (named : Named) × IsClassUsed image.now instr.now class named }
+    requires room { length (top_operands frames.old) ≤ top_room frames.old }
+    ensures done { (named : Named) → IsClassUsed image.now instr.now class named
         → IfOk result (λ acted. ActsOnHeap image.now (instruction_of instr.now named) frames.old frames.new heap.old heap.new acted) }
+    ensures known { IfOk result (λ _. AreKnown (types_of (typed_of image.now)) heap.new) }
 {
     match class_use(instr) {
         ClassUse::New => act_new(image, frames, heap, class),

@@ -1,8 +1,10 @@
-ghost use Rattle.std.specs.Prelude.{◌<◌, ◌≤◌, length};
+ghost use Rattle.std.specs.Prelude.{◌<◌, ◌≤◌, length, IfOk};
 ghost use Rattle.dj_model.specs.Instructions.{GetField, PutField};
 ghost use Rattle.dj_model.specs.Types.{Member};
 ghost use Rattle.dj_model.specs.Linking.{FoundField};
 ghost use Rattle.dj_stack.specs.Frames.{top_operands, top_room};
+ghost use Rattle.dj_calls.specs.Known.{AreKnown};
+ghost use Rattle.dj_types.specs.Typed.{types_of};
 ghost use Rattle.dj_types.specs.Members.{all_fields};
 ghost use Rattle.dj_image.specs.Imaged.{program_of, typed_of};
 ghost use Rattle.dj_image.specs.Numbering.{AreSettled};
@@ -14,6 +16,7 @@ use crate::kinds::kind_of;
 use dj_heap::Heap;
 use dj_image::{FieldId, Image};
 use dj_members::{FieldAccess, get_field, put_field};
+use dj_names::NoMemory;
 use dj_stack::Frames;
 
 /// getfield of the field of a number.
@@ -32,17 +35,27 @@ pub fn act_get_field(image: &Image, frames: &mut Frames, heap: &Heap, field: Fie
 }
 
 /// putfield of the field of a number.
-pub fn act_put_field(image: &Image, frames: &mut Frames, heap: &mut Heap, field: FieldId) -> Acted
+pub fn act_put_field(
+    image: &Image,
+    frames: &mut Frames,
+    heap: &mut Heap,
+    field: FieldId,
+) -> Result<Acted, NoMemory>
     requires settled { AreSettled (typed_of image.now) }
     requires known { IsHeap image.now frames.old heap.old }
     requires there { field.number < length (all_fields (program_of image.now)) }
-    ensures { (member : Member) (found : FoundField) → IsMember image.now member found field.number
-        → ActsOnHeap image.now (PutField member) frames.old frames.new heap.old heap.new result }
+    ensures done { (member : Member) (found : FoundField) → IsMember image.now member found field.number
+        → IfOk result (λ acted. ActsOnHeap image.now (PutField member) frames.old frames.new heap.old heap.new acted) }
+    ensures known { IfOk result (λ _. AreKnown (types_of (typed_of image.now)) heap.new) }
 {
     let Some(access) = access_to(image, field) else {
-        return Acted::Stuck;
+        return Ok(Acted::Stuck);
     };
-    flow_acted(put_field(image, frames, heap, access))
+    let Some(flow) = put_field(image, frames, heap, access) else {
+        // Never in a sound program.
+        return Err(NoMemory::Memory);
+    };
+    Ok(flow_acted(Some(flow)))
 }
 
 // Where the field of a number stands in its instances, if it has a kind.

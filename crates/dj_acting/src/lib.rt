@@ -3,6 +3,7 @@
 
 mod acted;
 mod arrays;
+mod asking;
 mod by_number;
 mod classes;
 mod fields;
@@ -19,3 +20,4 @@ mod values;
 
 pub use acted::Acted;
 pub use by_number::act;
+pub use uses::{ClassUse, FieldUse, class_use, field_use};

@@ -1,7 +1,10 @@
-ghost use Rattle.std.specs.Prelude.{◌≡◌, ◌<◌, length};
+ghost use Rattle.std.specs.Prelude.{◌≡◌, ◌≤◌, ◌<◌, length, IfOk};
 ghost use Rattle.dj_model.specs.Instructions.{Named};
 ghost use Rattle.dj_model.specs.Opcodes.{instruction_of};
 ghost use Rattle.dj_model.specs.Linking.{static_count};
+ghost use Rattle.dj_stack.specs.Frames.{top_operands, top_room};
+ghost use Rattle.dj_calls.specs.Known.{AreKnown};
+ghost use Rattle.dj_types.specs.Typed.{types_of};
 ghost use Rattle.dj_types.specs.Members.{all_fields};
 ghost use Rattle.dj_image.specs.Imaged.{program_of, typed_of};
 ghost use Rattle.dj_image.specs.Numbering.{AreSettled};
@@ -17,6 +20,7 @@ use dj_heap::Heap;
 use dj_image::{FieldId, Image};
 use dj_initialising::StaticPlaces;
 use dj_members::Statics;
+use dj_names::NoMemory;
 use dj_ops::Instr;
 use dj_stack::Frames;
 
@@ -29,21 +33,23 @@ pub fn act_field(
     statics: &mut Statics,
     field: FieldId,
     instr: &Instr,
-) -> Acted
+) -> Result<Acted, NoMemory>
     requires settled { AreSettled (typed_of image.now) }
     requires places { ArePlaces (program_of image.now) places.now }
     requires known { IsHeap image.now frames.old heap.old }
     requires counted { length statics.old ≡ static_count (program_of image.now) }
     requires there { field.number < length (all_fields (program_of image.now)) }
-    requires used { (named : Named) × IsFieldUsed image.now instr.now field.number frames.old named }
-    ensures { (named : Named) → IsFieldUsed image.now instr.now field.number frames.old named
-        → ActsOnFields image.now (instruction_of instr.now named) frames.old frames.new heap.old heap.new statics.old statics.new result }
+    requires used { (named : Named) × IsFieldUsed image.now instr.now field.number named }
+    requires room { length (top_operands frames.old) ≤ top_room frames.old }
+    ensures done { (named : Named) → IsFieldUsed image.now instr.now field.number named
+        → IfOk result (λ acted. ActsOnFields image.now (instruction_of instr.now named) frames.old frames.new heap.old heap.new statics.old statics.new acted) }
+    ensures known { IfOk result (λ _. AreKnown (types_of (typed_of image.now)) heap.new) }
 {
     match field_use(instr) {
         FieldUse::GetStatic => act_get_static(image, places, frames, statics, field),
-        FieldUse::PutStatic => act_put_static(image, places, frames, statics, field),
-        FieldUse::Get => act_get_field(image, frames, heap, field),
+        FieldUse::PutStatic => Ok(act_put_static(image, places, frames, statics, field)),
+        FieldUse::Get => Ok(act_get_field(image, frames, heap, field)),
         FieldUse::Put => act_put_field(image, frames, heap, field),
-        FieldUse::Neither => Acted::Stuck,
+        FieldUse::Neither => Ok(Acted::Stuck),
     }
 }

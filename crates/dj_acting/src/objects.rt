@@ -1,4 +1,5 @@
 ghost use Rattle.std.specs.Prelude.{◌≡◌, ◌≤◌, ◌<◌, Some, length, IfOk};
+ghost use Rattle.dj_calls.specs.Known.{AreKnown};
 ghost use Rattle.dj_names.specs.declared.descriptor.Ty.{Ty};
 ghost use Rattle.dj_names.specs.Types.{Name, class_type};
 ghost use Rattle.dj_model.specs.Types.{throwable_name};
@@ -10,6 +11,7 @@ ghost use Rattle.dj_image.specs.Imaged.{program_of, typed_of};
 ghost use Rattle.dj_acting.specs.Acting.{ActsOnHeap, IsClassAt, IsHeap};
 
 use crate::acted::{Acted, flow_acted, thrown_acted};
+use crate::asking::has_room;
 use dj_heap::Heap;
 use dj_image::Image;
 use dj_members::{check_cast, instance_of, new_object, throw_top};
@@ -23,11 +25,16 @@ pub fn act_new(
     heap: &mut Heap,
     class: u32,
 ) -> Result<Acted, NoMemory>
-    requires known { class < length (types_of (typed_of image.now)) }
-    requires room { length (top_operands frames.old) < top_room frames.old }
-    ensures { (name : Name) → name_at (program_of image.now) class ≡ Some name
+    requires known { AreKnown (types_of (typed_of image.now)) heap.old }
+    requires within { class < length (types_of (typed_of image.now)) }
+    ensures done { (name : Name) → name_at (program_of image.now) class ≡ Some name
         → IfOk result (λ acted. ActsOnHeap image.now (New (class_type name)) frames.old frames.new heap.old heap.new acted) }
+    ensures known { (name : Name) → name_at (program_of image.now) class ≡ Some name → IfOk result (λ _. AreKnown (types_of (typed_of image.now)) heap.new) }
 {
+    if !has_room(frames, 1) {
+        // Never in a sound program.
+        return Err(NoMemory::Memory);
+    }
     let flow = new_object(frames, heap, class, image.field_count(class))?;
     Ok(flow_acted(Some(flow)))
 }

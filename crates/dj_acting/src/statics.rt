@@ -1,8 +1,7 @@
-ghost use Rattle.std.specs.Prelude.{◌≡◌, ◌<◌, length};
+ghost use Rattle.std.specs.Prelude.{◌≡◌, ◌<◌, length, IfOk};
 ghost use Rattle.dj_model.specs.Instructions.{GetStatic, PutStatic};
 ghost use Rattle.dj_model.specs.Types.{Member};
 ghost use Rattle.dj_model.specs.Linking.{FoundField, static_count};
-ghost use Rattle.dj_stack.specs.Frames.{top_operands, top_room};
 ghost use Rattle.dj_types.specs.Members.{all_fields};
 ghost use Rattle.dj_image.specs.Imaged.{program_of};
 ghost use Rattle.dj_initialising.specs.Places.{ArePlaces};
@@ -10,10 +9,12 @@ ghost use Rattle.dj_acting.specs.Accesses.{IsStaticAt};
 ghost use Rattle.dj_acting.specs.Acting.{ActsOnStatics, IsMember};
 
 use crate::acted::{Acted, way_acted};
+use crate::asking::has_room;
 use crate::kinds::kind_of;
 use dj_image::{FieldId, Image};
 use dj_initialising::StaticPlaces;
 use dj_members::{Statics, get_static, put_static};
+use dj_names::NoMemory;
 use dj_stack::Frames;
 
 /// getstatic of the field of a number.
@@ -23,19 +24,22 @@ pub fn act_get_static(
     frames: &mut Frames,
     statics: &Statics,
     field: FieldId,
-) -> Acted
+) -> Result<Acted, NoMemory>
     requires places { ArePlaces (program_of image.now) places.now }
     requires counted { length statics.now ≡ static_count (program_of image.now) }
     requires there { field.number < length (all_fields (program_of image.now)) }
     requires found { IsStaticAt image.now field.number }
-    requires room { length (top_operands frames.old) < top_room frames.old }
     ensures { (member : Member) (found : FoundField) → IsMember image.now member found field.number
-        → ActsOnStatics image.now (GetStatic member) frames.old frames.new statics.now statics.now result }
+        → IfOk result (λ acted. ActsOnStatics image.now (GetStatic member) frames.old frames.new statics.now statics.now acted) }
 {
     let Some(kind) = kind_of(image.field(field).desc) else {
-        return Acted::Stuck;
+        return Ok(Acted::Stuck);
     };
-    way_acted(get_static(frames, statics, places.place(field), kind))
+    if !has_room(frames, 1) {
+        // Never in a sound program.
+        return Err(NoMemory::Memory);
+    }
+    Ok(way_acted(get_static(frames, statics, places.place(field), kind)))
 }
 
 /// putstatic of the field of a number.

@@ -23,8 +23,8 @@ pub fn takes_top(image: &Image, frames: &Frames, heap: &Heap) -> bool
     array_takes(image, frames, heap, array, value)
 }
 
-// The operand under so many others of the top frame.
-fn peek(frames: &Frames, below: u16) -> Option<Value>
+/// The operand under so many others of the top frame.
+pub fn peek(frames: &Frames, below: u16) -> Option<Value>
     ensures { result ≡ slice_get (top_operands frames.now) below }
 {
     let depth = frames.depth();

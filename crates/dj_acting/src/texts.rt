@@ -1,10 +1,13 @@
 ghost use Rattle.std.specs.Prelude.{◌≡◌, ◌<◌, ℕ, List, Some, length, slice_get, IfOk};
 ghost use Rattle.dj_model.specs.Instructions.{PushText};
-ghost use Rattle.dj_stack.specs.Frames.{top_operands, top_room};
+ghost use Rattle.dj_calls.specs.Known.{AreKnown};
+ghost use Rattle.dj_types.specs.Typed.{types_of};
+ghost use Rattle.dj_image.specs.Imaged.{typed_of};
 ghost use Rattle.dj_initialising.specs.Store.{AreTexts};
 ghost use Rattle.dj_acting.specs.Acting.{ActsOnLiterals};
 
 use crate::acted::{Acted, flow_acted};
+use crate::asking::has_room;
 use dj_heap::Heap;
 use dj_image::Image;
 use dj_members::{Literals, push_text};
@@ -20,12 +23,17 @@ pub fn act_push_text(
     text: u32,
 ) -> Result<Acted, NoMemory>
     requires texts { AreTexts image.now }
-    requires known { text < length image.now.texts }
+    requires within { text < length image.now.texts }
     requires counted { literals.old.count ≡ length image.now.texts }
-    requires room { length (top_operands frames.old) < top_room frames.old }
-    ensures { (units : List ℕ) → slice_get image.now.texts text ≡ Some units
+    requires known { AreKnown (types_of (typed_of image.now)) heap.old }
+    ensures done { (units : List ℕ) → slice_get image.now.texts text ≡ Some units
         → IfOk result (λ acted. ActsOnLiterals image.now (PushText units) frames.old frames.new heap.old heap.new literals.old literals.new acted) }
+    ensures known { IfOk result (λ _. AreKnown (types_of (typed_of image.now)) heap.new) }
 {
+    if !has_room(frames, 1) {
+        // Never in a sound program.
+        return Err(NoMemory::Memory);
+    }
     let string = Image::string(image);
     let flow = push_text(frames, heap, literals, string, text, image.text(text))?;
     Ok(flow_acted(Some(flow)))

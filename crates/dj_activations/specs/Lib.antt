@@ -1,2 +1,3 @@
 pub mod Activations
+pub mod Instructions
 pub mod Told

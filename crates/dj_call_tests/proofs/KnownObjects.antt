@@ -1,12 +1,12 @@
 -- Objects of a heap are known, one by one.
-use Rattle.std.proofs.Common.{◌≡◌, ℕ, ℤ, zero, suc, ◌+◌, ◌-◌, ◌<◌, ◌≤◌, Bool, true, false, List, [], ◌∷◌, length, All, Option, Some, None, refl, sym, ap, subst, ◌∙◌, arith, inl, inr, IsTrue}
-use Rattle.std.specs.Prelude.{if◌then◌else◌, nat_eq, slice_get, unsigned_abs, option_map, option_and_then}
+use Rattle.std.proofs.Common.{◌≡◌, ℕ, ℤ, zero, suc, ◌+◌, ◌-◌, ◌<◌, ◌≤◌, Bool, true, false, List, [], ◌∷◌, ◌++◌, map, length, All, Option, Some, None, refl, sym, ap, subst, ◌∙◌, arith, inl, inr, IsTrue}
+use Rattle.std.specs.Prelude.{if◌then◌else◌, nat_eq, nat_lt, slice_get, unsigned_abs, option_map, option_and_then}
 use Rattle.std.specs.List.{AllByRecursion}
-use Rattle.std.proofs.lemmas.Bool.{cases_lt, ne_eqb}
+use Rattle.std.proofs.lemmas.Bool.{cases_lt, ltb-true, ne_eqb}
 use Rattle.std.proofs.lemmas.List.Elements.{All-from_recursion, All-get_or}
 use Rattle.std.proofs.lemmas.Option.{none-some, same_Some, slice_get_within, get_or_from_slice_get}
 use Rattle.dj_names.specs.declared.descriptor.Ty.{Ty}
-use Rattle.dj_names.specs.Types.{component_type}
+use Rattle.dj_names.specs.Types.{class_type, component_type}
 use Rattle.dj_names.specs.declared.run.Element.{Element}
 use Rattle.dj_names.specs.declared.run.Element.TheVariants as elements
 use Rattle.dj_names.specs.Heaps.{Object, Instance, Array, Text, class_of}
@@ -16,10 +16,12 @@ use Rattle.dj_heap.specs.Calls.{made_as}
 use Rattle.dj_heap.specs.Lengths.{object_length}
 use Rattle.dj_heap.specs.Heaps.{LimitedHeap, object_in, element_in, contents_of}
 use Rattle.dj_model.specs.Natives.{is_reference}
+use Rattle.dj_model.specs.Program.{Program, Class}
 use Rattle.dj_natives.specs.Numbered.{IsNumberOf, type_at, holds_references, component_of}
-use Rattle.dj_calls.specs.Known.{AreKnown, IsKnown}
+use Rattle.dj_calls.specs.Known.{AreKnown, IsKnown, IsClassType}
 use Rattle.dj_members.specs.Numbering.{AreNumbered}
 use Rattle.dj_call_tests.specs.Arguments.{AreThere, AreThereTo, IsKnownAt}
+use Rattle.dj_call_tests.specs.Few.{few_types, few_program, few_arrays}
 
 -- ---- lists
 
@@ -58,24 +60,47 @@ there_all h r n at long past before k z e =
 -- ---- objects
 
 other_known : (types : List Ty) (count class : ℕ) (object : Object ℕ) (made_so : Made) → class_of object ≡ class → class < length types → made_as object ≡ made_so
-    → (made_so ≡ made.Array elements.Ref → ⊥) → IsKnown types count object
-other_known types count class (Instance k fields) made_so own few is other = record { class = omega (arith, own, few); holds = tt; there = tt }
-other_known types count class (Text k units) made_so own few is other = record { class = omega (arith, own, few); holds = tt; there = tt }
-other_known types count class (Array k elements.Ref contents) made_so own few is other = absurd (other (sym is))
-other_known types count class (Array k elements.Boolean contents) made_so own few is other = record { class = omega (arith, own, few); holds = λ e. absurd cc; there = λ e. absurd cc }
-other_known types count class (Array k elements.Byte contents) made_so own few is other = record { class = omega (arith, own, few); holds = λ e. absurd cc; there = λ e. absurd cc }
-other_known types count class (Array k elements.Char contents) made_so own few is other = record { class = omega (arith, own, few); holds = λ e. absurd cc; there = λ e. absurd cc }
-other_known types count class (Array k elements.Short contents) made_so own few is other = record { class = omega (arith, own, few); holds = λ e. absurd cc; there = λ e. absurd cc }
-other_known types count class (Array k elements.Int contents) made_so own few is other = record { class = omega (arith, own, few); holds = λ e. absurd cc; there = λ e. absurd cc }
-other_known types count class (Array k elements.Long contents) made_so own few is other = record { class = omega (arith, own, few); holds = λ e. absurd cc; there = λ e. absurd cc }
+    → (made_so ≡ made.Instance → ⊥) → (made_so ≡ made.Array elements.Ref → ⊥) → IsKnown types count object
+other_known types count class (Instance k fields) made_so own few is apart other = absurd (apart (sym is))
+other_known types count class (Text k units) made_so own few is apart other = record { class = omega (arith, own, few); holds = tt; there = tt }
+other_known types count class (Array k elements.Ref contents) made_so own few is apart other = absurd (other (sym is))
+other_known types count class (Array k elements.Boolean contents) made_so own few is apart other = record { class = omega (arith, own, few); holds = λ e. absurd cc; there = λ e. absurd cc }
+other_known types count class (Array k elements.Byte contents) made_so own few is apart other = record { class = omega (arith, own, few); holds = λ e. absurd cc; there = λ e. absurd cc }
+other_known types count class (Array k elements.Char contents) made_so own few is apart other = record { class = omega (arith, own, few); holds = λ e. absurd cc; there = λ e. absurd cc }
+other_known types count class (Array k elements.Short contents) made_so own few is apart other = record { class = omega (arith, own, few); holds = λ e. absurd cc; there = λ e. absurd cc }
+other_known types count class (Array k elements.Int contents) made_so own few is apart other = record { class = omega (arith, own, few); holds = λ e. absurd cc; there = λ e. absurd cc }
+other_known types count class (Array k elements.Long contents) made_so own few is apart other = record { class = omega (arith, own, few); holds = λ e. absurd cc; there = λ e. absurd cc }
 
--- an object that is no array of references
+-- an object that is neither an instance nor an array of references
 pub known_other : (types : List Ty) (h : LimitedHeap) (r class : ℕ) (made_so : Made) → option_map class_of (object_in h r) ≡ Some class → class < length types
-    → option_map made_as (object_in h r) ≡ Some made_so → (made_so ≡ made.Array elements.Ref → ⊥) → IsKnownAt types h r
-known_other types h r class made_so own few is other object e =
+    → option_map made_as (object_in h r) ≡ Some made_so → (made_so ≡ made.Instance → ⊥) → (made_so ≡ made.Array elements.Ref → ⊥) → IsKnownAt types h r
+known_other types h r class made_so own few is apart other object e =
     other_known types (length h.heap.objects) class object made_so
     (same_Some (class_of object) class (sym (ap (option_map class_of) e) ∙ own)) few
-    (same_Some (made_as object) made_so (sym (ap (option_map made_as) e) ∙ is)) other
+    (same_Some (made_as object) made_so (sym (ap (option_map made_as) e) ∙ is)) apart other
+
+-- the numbers of classes come first
+class_is : (program : Program) (arrays : List Ty) (class : ℕ) → class < length program → IsClassType (type_at (map (λ (c : Class). class_type c.name) program ++ arrays) class)
+class_is [] arrays class lt = absurd (omega (arith, lt))
+class_is (c ∷ program) arrays zero lt = (c.name, refl)
+class_is (c ∷ program) arrays (suc class) lt = class_is program arrays class (omega (arith, lt))
+
+instance_known : (types : List Ty) (count class : ℕ) (object : Object ℕ) → class_of object ≡ class → class < length types → made_as object ≡ made.Instance
+    → IsClassType (type_at types class) → IsKnown types count object
+instance_known types count class (Instance k fields) own few is of_class =
+    record { class = omega (arith, own, few); holds = subst (λ (k : ℕ). IsClassType (type_at types k)) (sym own) of_class; there = tt }
+instance_known types count class (Array k element contents) own few is of_class = absurd cc
+instance_known types count class (Text k units) own few is of_class = absurd cc
+
+-- an instance of a class
+pub known_instance : (boxed : Bool) (h : LimitedHeap) (r class count : ℕ) → option_map class_of (object_in h r) ≡ Some class → class < length (few_types boxed)
+    → option_map made_as (object_in h r) ≡ Some made.Instance → count ≡ length (few_program boxed) → IsTrue (nat_lt class count) → IsKnownAt (few_types boxed) h r
+known_instance boxed h r class count own few is counted lt object e =
+    let less = ltb-true class count lt in
+    instance_known (few_types boxed) (length h.heap.objects) class object
+    (same_Some (class_of object) class (sym (ap (option_map class_of) e) ∙ own)) few
+    (same_Some (made_as object) made.Instance (sym (ap (option_map made_as) e) ∙ is))
+    (class_is (few_program boxed) (few_arrays boxed) class (omega (arith, less, counted)))
 
 references_hold : (types : List Ty) (class : ℕ) (component : ℕ) → IsNumberOf types (component_of (type_at types class)) (Some component) → holds_references (type_at types class) ≡ true
 references_hold types class component numbered = by (holds_references (type_at types class)) refl numbered where
@@ -85,19 +110,17 @@ references_hold types class component numbered = by (holds_references (type_at t
 
 -- an array of references
 pub known_references : (types : List Ty) (h : LimitedHeap) (r class component : ℕ) → option_map class_of (object_in h r) ≡ Some class → class < length types
-    → IsNumberOf types (component_of (type_at types class)) (Some component) → AreThere h r → IsKnownAt types h r
-known_references types h r class component own few numbered there (Instance k fields) e =
-    let same = same_Some k class (sym (ap (option_map class_of) e) ∙ own) in
-    record { class = omega (arith, same, few); holds = tt; there = tt }
-known_references types h r class component own few numbered there (Text k units) e =
-    let same = same_Some k class (sym (ap (option_map class_of) e) ∙ own) in
-    record { class = omega (arith, same, few); holds = tt; there = tt }
-known_references types h r class component own few numbered there (Array k element contents) e =
+    → option_map made_as (object_in h r) ≡ Some (made.Array elements.Ref) → IsNumberOf types (component_of (type_at types class)) (Some component) → AreThere h r → IsKnownAt types h r
+known_references types h r class component own few is numbered there (Instance k fields) e =
+    let other : made.Instance ≡ made.Array elements.Ref = same_Some made.Instance (made.Array elements.Ref) (sym (ap (option_map made_as) e) ∙ is) in absurd cc
+known_references types h r class component own few is numbered there (Text k units) e =
+    let other : made.Text ≡ made.Array elements.Ref = same_Some made.Text (made.Array elements.Ref) (sym (ap (option_map made_as) e) ∙ is) in absurd cc
+known_references types h r class component own few is numbered there (Array k element contents) e =
     let same : k ≡ class = same_Some k class (sym (ap (option_map class_of) e) ∙ own) in
     record {
       class = omega (arith, same, few);
-      holds = λ is. ap (λ (c : ℕ). holds_references (type_at types c)) same ∙ references_hold types class component numbered;
-      there = λ is. all_places (λ z. unsigned_abs z ≤ length h.heap.objects) contents
+      holds = λ ref. ap (λ (c : ℕ). holds_references (type_at types c)) same ∙ references_hold types class component numbered;
+      there = λ ref. all_places (λ z. unsigned_abs z ≤ length h.heap.objects) contents
           (λ at z found. there at z (ap (λ (o : Option (Object ℕ)). option_and_then (λ contents. slice_get contents at) (option_and_then contents_of o)) e ∙ found));
     }
 

@@ -1,5 +1,5 @@
 ghost use Rattle.std.specs.Prelude.{◌≡◌, ◌<◌, length, IfSome};
-ghost use Rattle.dj_call_tests.specs.Few.{few_types, few_names, few_below, lent_lists, AllAt, IsSuper, IsComponent};
+ghost use Rattle.dj_call_tests.specs.Few.{few_types, few_program, few_names, few_below, lent_lists, AllAt, IsSuper, IsComponent};
 
 use dj_natives::Classes;
 
@@ -215,6 +215,13 @@ impl Few {
         ensures { result ≡ length (few_types self.now.boxed) }
     {
         if self.boxed { 7 } else { 19 }
+    }
+
+    /// How many classes there are; the numbers of arrays come after theirs.
+    pub fn class_count(&self) -> u32
+        ensures { result ≡ length (few_program self.now.boxed) }
+    {
+        if self.boxed { 4 } else { 11 }
     }
 
     /// The number of the class of this name, or of the array of this descriptor.

@@ -1,5 +1,10 @@
 ghost use Rattle.std.specs.Prelude.{◌≡◌, ◌<◌, ◌≤◌, ℕ, ℤ, IsTrue, IsSome, length, unsigned_abs, Some, slice_get};
+ghost use Rattle.std.specs.Option.{option_map};
+ghost use Rattle.dj_names.specs.Heaps.{class_of};
+ghost use Rattle.dj_names.specs.declared.run.Element.TheVariants as elements;
+ghost use Rattle.dj_heap.specs.Calls.{made_as};
 ghost use Rattle.dj_heap.specs.Heaps.{object_in, element_in};
+ghost use Rattle.dj_heap.specs.declared.object.Made.TheVariants as made;
 ghost use Rattle.dj_calls.specs.Known.{AreKnown, IsKnown};
 ghost use Rattle.dj_call_tests.specs.Few.{few_types};
 ghost use Rattle.dj_call_tests.specs.Arguments.{IsKnownAt, AreThere};
@@ -26,7 +31,21 @@ fn are_there(heap: &Heap, r: u32) -> bool
     true
 }
 
-// Whether the object's class has a number, and an array of references is of a class of such arrays.
+// Whether an array of references is of a class of such arrays, and what they are is there.
+fn is_known_array(few: &Few, heap: &Heap, r: u32, class: u32) -> bool
+    requires there { IsSome (object_in heap.now r) }
+    requires own { option_map class_of (object_in heap.now r) ≡ Some class }
+    requires few { class < length (few_types few.now.boxed) }
+    requires array { option_map made_as (object_in heap.now r) ≡ Some (made.Array elements.Ref) }
+    ensures { IsTrue result → IsKnownAt (few_types few.now.boxed) heap.now r }
+{
+    match few.component(class) {
+        Some(_) => are_there(heap, r),
+        None => false,
+    }
+}
+
+// Whether the object's class has a number, that of an instance is no array, and an array of references is of a class of such arrays.
 fn is_known(few: &Few, heap: &Heap, r: u32) -> bool
     requires { IsSome (object_in heap.now r) }
     ensures { IsTrue result → IsKnownAt (few_types few.now.boxed) heap.now r }
@@ -35,12 +54,10 @@ fn is_known(few: &Few, heap: &Heap, r: u32) -> bool
     if few.count() <= class {
         return false;
     }
-    let Made::Array(Element::Ref) = heap.made(r) else {
-        return true;
-    };
-    match few.component(class) {
-        Some(_) => are_there(heap, r),
-        None => false,
+    match heap.made(r) {
+        Made::Instance => class < few.class_count(),
+        Made::Array(Element::Ref) => is_known_array(few, heap, r, class),
+        _ => true,
     }
 }
 

@@ -18,3 +18,4 @@ pub mod CountingFacts
 pub mod Catching
 pub mod CopyAnswers
 mod NumberedFacts
+mod KnownFacts

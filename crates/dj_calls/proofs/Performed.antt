@@ -96,7 +96,7 @@ known_text : (types : List Ty) (n class : ℕ) (units : List ℕ) (ty : Ty) → 
 known_text types n class units ty e = record { class = slice_get_within types class ty e; holds = tt; there = tt }
 
 known_instance : (types : List Ty) (n class : ℕ) (fields others : List ℕ) → IsKnown types n (Instance class fields) → IsKnown types n (Instance class others)
-known_instance types n class fields others known = record { class = known.class; holds = tt; there = tt }
+known_instance types n class fields others known = record { class = known.class; holds = known.holds; there = tt }
 
 pub known_at : (types : List Ty) (h : LimitedHeap) (r : ℕ) (o : Object ℕ) → object_in h r ≡ Some o → AreKnown types h → IsKnown types (length h.heap.objects) o
 known_at types h r o e known =

@@ -7,15 +7,20 @@ use Rattle.dj_names.specs.declared.run.Value.{Value}
 use Rattle.dj_names.specs.declared.native.NativeId.{NativeId}
 use Rattle.dj_names.specs.declared.native.NativeId.TheVariants as natives
 use Rattle.dj_names.specs.Heaps.{Object, Instance, Array, Text, class_of}
+use Rattle.dj_names.specs.Types.{Name, class_type}
 use Rattle.dj_names.specs.Values.{value_kind}
 use Rattle.dj_heap.specs.Heaps.{LimitedHeap, object_in}
 use Rattle.dj_model.specs.Natives.{is_reference, reference, asks}
 use Rattle.dj_model.specs.NativeKinds.{native_signature}
 use Rattle.dj_natives.specs.Numbered.{type_at, holds_references}
 
--- what holds references is of a class of such arrays
+-- the type is that of a class
+abbrev pub IsClassType : Ty → Type 0
+IsClassType ty = (name : Name) × (ty ≡ class_type name)
+
+-- an instance is of no array, and an array of references is of a class of such arrays
 abbrev pub HoldsKnown : List Ty → Object ℕ → Type 0
-HoldsKnown types (Instance class fields) = ⊤
+HoldsKnown types (Instance class fields) = IsClassType (type_at types class)
 HoldsKnown types (Array class element contents) = IsTrue (is_reference element) → holds_references (type_at types class) ≡ true
 HoldsKnown types (Text class units) = ⊤
 

@@ -2,4 +2,5 @@ pub mod NumberLaws
 pub mod RowLaws
 pub mod GatherLaws
 pub mod PlaceLaws
+pub mod CallLaws
 mod DirectoryFacts

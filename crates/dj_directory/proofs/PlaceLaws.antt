@@ -1,5 +1,5 @@
 -- The place of a member by its texts, by that of its row.
-use Rattle.std.proofs.Common.{◌≡◌, ℕ, zero, suc, ◌+◌, ◌<◌, ◌≤◌, ◌&&◌, ◌⊎◌, Bool, true, false, cond, List, [], ◌∷◌, length, Contains, Option, Some, None, IfSome, refl, sym, ap, ◌∙◌, subst, arith, add-one, inl, inr}
+use Rattle.std.proofs.Common.{◌≡◌, ℕ, zero, suc, ◌+◌, ◌<◌, ◌≤◌, ◌^◌, ◌&&◌, ◌⊎◌, Bool, true, false, cond, List, [], ◌∷◌, length, Contains, Option, Some, None, IfSome, refl, sym, ap, ◌∙◌, subst, arith, add-one, inl, inr}
 use Rattle.std.specs.Prelude.{slice_get, map}
 use Rattle.std.specs.Option.{option_map}
 use Rattle.std.proofs.lemmas.Bool.{cases_lt}
@@ -14,9 +14,9 @@ use Rattle.dj_declared.specs.Files.{desc_in}
 use Rattle.dj_declared.specs.Members.{IsDescriptor, method_place, field_place}
 use Rattle.dj_declared.proofs.DescTests.{same_name_is, same_name_itself, same_desc_is, same_desc_itself}
 use Rattle.dj_classes.specs.Tables.{methods_of, methods_at, fields_at}
-use Rattle.dj_directory.specs.Numberings.{Numbering, number_among, number_of}
+use Rattle.dj_directory.specs.Numberings.{DeclareFields, DeclareMethods, Numbering, number_among, number_of}
 use Rattle.dj_directory.specs.declared.rows.MemberRow.{MemberRow}
-use Rattle.dj_directory.specs.Rows.{Named, method_named, field_named, methods_named, fields_named, Members, place_of, Texts, texts_of, number_in, AreDifferent, IsSuch, IsTold, IsRow, AreRows, IsDirectory}
+use Rattle.dj_directory.specs.Rows.{Named, method_named, field_named, methods_named, fields_named, Members, place_of, Texts, texts_of, number_in, AreDifferent, IsSuch, IsTold, IsRow, AreRows, AreRowsWith, IsDirectory}
 use Rattle.dj_directory.proofs.NumberLaws.{number_is}
 
 abbrev later : ℕ → ℕ
@@ -43,7 +43,7 @@ one_member a b e = cc
 none_some : (n : ℕ) → None ≡ Some n → ⊥
 none_some n e = absurd cc
 
-inside : (members : List Named) (place : ℕ) (m : Named) → slice_get members place ≡ Some m → place < length members
+pub inside : (members : List Named) (place : ℕ) (m : Named) → slice_get members place ≡ Some m → place < length members
 inside [] place m at = absurd cc
 inside (x ∷ members) zero m at = omega arith
 inside (x ∷ members) (suc place) m at = let lt = inside members place m at in omega (arith, lt)
@@ -89,7 +89,7 @@ record IsRowOf (texts : Texts) (rows : List MemberRow) (n d : List ℕ) (class p
   name_is : number_in texts n ≡ Some row.name
   desc_is : number_in texts d ≡ Some row.desc
 
-row_in : (texts : Texts) (members : Members) (classes : ℕ) (rows : List MemberRow) → AreRows (number_in texts) members classes rows → (row : MemberRow) → Contains rows row → IsRow (number_in texts) members row
+pub row_in : (texts : Texts) (members : Members) (classes : ℕ) (rows : List MemberRow) → AreRows (number_in texts) members classes rows → (row : MemberRow) → Contains rows row → IsRow (number_in texts) members row
 row_in texts members classes rows are row there = subst (λ (r : MemberRow). IsRow (number_in texts) members r) there.2 (are.each there.0 row there.1)
 
 module _ (texts : Texts) (members : Members) (classes : ℕ) (rows : List MemberRow) (are : AreRows (number_in texts) members classes rows) (n d : List ℕ) (valid : IsDescriptor d) where
@@ -163,6 +163,37 @@ place_within texts members classes rows name desc class (Some place) are told =
     let is = row_in texts members classes rows are told.row told.within in
     inside (members class) place (is.name, is.desc) (sym (ap (λ (k : ℕ). slice_get (members k) told.row.place) told.such.class_is ∙ ap (slice_get (members class)) told.place_is) ∙ is.there)
 
+-- ---- whether there is a member
+
+no_later : (o : Option ℕ) → option_map later o ≡ None → o ≡ None
+no_later None none = refl
+no_later (Some place) none = absurd cc
+
+named_there : (name : Name) (desc : Desc) (members : List Named) (place : ℕ) (m : Named) → slice_get members place ≡ Some m → is_named name desc m.0 m.1 ≡ true → place_of members name desc ≡ None → ⊥
+named_there name desc [] place m at is none = absurd cc
+named_there name desc (x ∷ members) zero m at is none =
+    none_some 0 (sym none ∙ ap (λ (b : Bool). cond b (Some 0) (option_map later (place_of members name desc))) (ap (λ (y : Named). is_named name desc y.0 y.1) (one_member x m at) ∙ is))
+named_there name desc (x ∷ members) (suc place) m at is none = go (is_named name desc x.0 x.1) (named_there name desc members place m at is) none where
+  go : (b : Bool) → (place_of members name desc ≡ None → ⊥) → cond b (Some 0) (option_map later (place_of members name desc)) ≡ None → ⊥
+  go true some none = none_some 0 (sym none)
+  go false some none = some (no_later (place_of members name desc) none)
+
+-- the member at the place that is told has this name and this descriptor
+abbrev IsNamedAt : Name → Desc → List Named → ℕ → Type 0
+IsNamedAt name desc members place = (m : Named) × (slice_get members place ≡ Some m) × (is_named name desc m.0 m.1 ≡ true)
+
+first_there : (name : Name) (desc : Desc) (members : List Named) (place : ℕ) → place_of members name desc ≡ Some place → IsNamedAt name desc members place
+first_there name desc [] place told = absurd (none_some place told)
+first_there name desc (x ∷ members) place told = go (is_named name desc x.0 x.1) refl (first_there name desc members) told where
+  later_there : (o : Option ℕ) → place_of members name desc ≡ o → ((q : ℕ) → place_of members name desc ≡ Some q → IsNamedAt name desc members q) → option_map later o ≡ Some place → IsNamedAt name desc (x ∷ members) place
+  later_there None is rest told = absurd (none_some place told)
+  later_there (Some q) is rest told = let own = rest q is in subst (IsNamedAt name desc (x ∷ members)) (sym (add-one q) ∙ one (later q) place told) (own.0, own.1, own.2)
+
+  go : (b : Bool) → is_named name desc x.0 x.1 ≡ b → ((q : ℕ) → place_of members name desc ≡ Some q → IsNamedAt name desc members q) → cond b (Some 0) (option_map later (place_of members name desc)) ≡ Some place
+      → IsNamedAt name desc (x ∷ members) place
+  go true named rest told = subst (IsNamedAt name desc (x ∷ members)) (one 0 place told) (x, refl, named)
+  go false named rest told = later_there (place_of members name desc) refl rest told
+
 -- ---- what a directory tells
 
 -- the numbers of a directory
@@ -227,3 +258,71 @@ module _ (program : Program) (texts : Texts) (methods fields : List MemberRow) (
     | inl less ↦ sym (field_place_is (fields_at program class) n (desc_in d)) ∙ unnumbered texts (fields_named program) (length program) fields is.fields_are n d valid class less (unknown n d none)
     | inr past ↦ ap (λ (all : List Field). field_place all n (desc_in d)) (no_fields program class past)
   ]
+
+  -- a method of such a row is there
+  pub method_there : (name desc : ℕ) (row : MemberRow) → Contains methods row → row.class < length program
+  method_there name desc row there = elim (cases_lt row.class (length program)) [
+    | inl less ↦ less
+    | inr past ↦
+        (let own = row_in texts (methods_named program) (length program) methods is.methods_are row there in
+        let lt = inside (methods_named program row.class) row.place (own.name, own.desc) own.there in
+        let none : length (methods_named program row.class) ≡ 0 = ap (λ (all : List Method). length (map method_named all)) (no_methods program row.class past) in
+        absurd (omega (arith, lt, none)))
+  ]
+
+  pub methods_declared : (name desc : ℕ) (found : List MemberRow) → length program < 2 ^ 31 → AreRowsWith methods name desc found
+      → (n d : List ℕ) → number_among (texts_of texts) n ≡ Some name → number_among (texts_of texts) d ≡ Some desc → IsDescriptor d → DeclareMethods program n (desc_in d) found
+  methods_declared name desc found few with_them n d n_is d_is valid = record {
+    each = λ row there none.
+        (let own = with_them.each row there in
+        let such : IsSuch name desc row.class row = record { name_is = own.1.0; desc_is = own.1.1; class_is = refl } in
+        let less = method_there name desc row own.0 in
+        let m = named_by texts (methods_named program) (length program) methods is.methods_are n d valid is.different name desc row.class less (known n name n_is) (known d desc d_is) row own.0 such in
+        named_there n (desc_in d) (methods_named program row.class) row.place m.0 m.1.0 m.1.1 (method_place_is (methods_at program row.class) n (desc_in d) ∙ none));
+    all = λ class less none.
+        sym (first_method class name desc None less (λ row there such.
+        none row (with_them.all row there such.name_is such.desc_is (let same = such.class_is in omega (arith, same, less, few))) such.class_is) n d n_is d_is valid);
+    first = λ class place less told.
+        (let at = first_there n (desc_in d) (methods_named program class) place (method_place_is (methods_at program class) n (desc_in d) ∙ told) in
+        let own = row_of texts (methods_named program) (length program) methods is.methods_are n d valid class place at.0 less at.1 at.2 in
+        let such = such_row texts (methods_named program) (length program) methods is.methods_are n d valid is.different name desc class less (known n name n_is) (known d desc d_is) place own in
+        record {
+          row = own.row;
+          within = with_them.all own.row own.within such.name_is such.desc_is (let same = own.class_is in omega (arith, same, less, few));
+          class_is = own.class_is;
+          place_is = own.place_is;
+        });
+  }
+
+  -- and stands among those of its class
+  pub method_at : (row : MemberRow) → Contains methods row → row.place < length (methods_at program row.class)
+  method_at row there =
+      let own = row_in texts (methods_named program) (length program) methods is.methods_are row there in
+      let lt = inside (methods_named program row.class) row.place (own.name, own.desc) own.there in
+      let count = length-map (methods_at program row.class) method_named in
+      omega (arith, lt, count)
+
+  -- a field of such a row is there
+  pub field_there : (name desc : ℕ) (row : MemberRow) → Contains fields row → row.class < length program
+  field_there name desc row there = elim (cases_lt row.class (length program)) [
+    | inl less ↦ less
+    | inr past ↦
+        (let own = row_in texts (fields_named program) (length program) fields is.fields_are row there in
+        let lt = inside (fields_named program row.class) row.place (own.name, own.desc) own.there in
+        let none : length (fields_named program row.class) ≡ 0 = ap (λ (all : List Field). length (map field_named all)) (no_fields program row.class past) in
+        absurd (omega (arith, lt, none)))
+  ]
+
+  pub fields_declared : (name desc : ℕ) (found : List MemberRow) → length program < 2 ^ 31 → AreRowsWith fields name desc found
+      → (n d : List ℕ) → number_among (texts_of texts) n ≡ Some name → number_among (texts_of texts) d ≡ Some desc → IsDescriptor d → DeclareFields program n (desc_in d) found
+  fields_declared name desc found few with_them n d n_is d_is valid = record {
+    each = λ row there none.
+        (let own = with_them.each row there in
+        let such : IsSuch name desc row.class row = record { name_is = own.1.0; desc_is = own.1.1; class_is = refl } in
+        let less = field_there name desc row own.0 in
+        let f = named_by texts (fields_named program) (length program) fields is.fields_are n d valid is.different name desc row.class less (known n name n_is) (known d desc d_is) row own.0 such in
+        named_there n (desc_in d) (fields_named program row.class) row.place f.0 f.1.0 f.1.1 (field_place_is (fields_at program row.class) n (desc_in d) ∙ none));
+    all = λ class less none.
+        sym (first_field class name desc None less (λ row there such.
+        none row (with_them.all row there such.name_is such.desc_is (let same = such.class_is in omega (arith, same, less, few))) such.class_is) n d n_is d_is valid);
+  }

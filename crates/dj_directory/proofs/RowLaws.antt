@@ -1,11 +1,11 @@
 -- The least place of a row with given numbers, by halving.
-use Rattle.std.proofs.Common.{◌≡◌, ℕ, ◌+◌, ◌*◌, ◌<◌, ◌≤◌, true, false, ltb, List, length, Contains, get_or, Option, Some, None, sym, ap, ◌∙◌, subst, arith, inl, inr}
+use Rattle.std.proofs.Common.{◌≡◌, ℕ, ◌+◌, ◌-◌, ◌*◌, ◌<◌, ◌≤◌, true, false, ltb, List, length, Contains, get_or, take, drop, Option, Some, None, sym, ap, ◌∙◌, subst, arith, inl, inr}
 use Rattle.std.specs.List.Sorted.{IsPartitionPoint, IsPartitionedBy}
 use Rattle.std.proofs.lemmas.Bool.{ltb-true, ltb-false, cases_lt}
-use Rattle.std.proofs.lemmas.List.{get_or_default}
+use Rattle.std.proofs.lemmas.List.{get_or_default, get_or-drop, get_or-take, length-drop, length-take-le}
 use Rattle.std.proofs.lemmas.List.Sorted.{IsPartitionedBy-ltb}
 use Rattle.dj_directory.specs.declared.rows.MemberRow.{MemberRow}
-use Rattle.dj_directory.specs.Rows.{pair_of, key_of, Fits, AreInOrder, IsSuch, IsAnswer, IsTold}
+use Rattle.dj_directory.specs.Rows.{pair_of, key_of, Fits, AreInOrder, AreRowsWith, IsSuch, IsAnswer, IsTold}
 
 pub parted : (rows : List MemberRow) (key : ℕ) → AreInOrder rows → IsPartitionedBy (λ row. ltb (key_of row) key) rows
 parted rows key order = IsPartitionedBy-ltb key_of rows key order.ascend
@@ -124,4 +124,84 @@ module _ (rows : List MemberRow) (order : AreInOrder rows) (name desc class : �
           let own = such_key name desc class row answer.0 in
           let is = answer.1 in
           omega (arith, le, key, own, is));
+    }
+
+-- ---- all rows of two numbers
+
+abbrev pub IsPointAt : List MemberRow → ℕ → ℕ → Type 0
+IsPointAt rows key i = IsPartitionPoint (λ row. ltb (key_of row) key ≡ true) (λ row. ltb (key_of row) key ≡ false) rows i
+
+pub in_order_rest : (rows : List MemberRow) (n : ℕ) → AreInOrder rows → n ≤ length rows → AreInOrder (drop n rows)
+in_order_rest rows n order le =
+    let count = length-drop n rows in
+    record {
+      fit = λ i d lt. subst Fits (sym (get_or-drop n rows i d)) (order.fit (n + i) d (omega (arith, count, lt, le)));
+      ascend = λ i k d after lt.
+          (let one = ap key_of (get_or-drop n rows i d) in
+          let two = ap key_of (get_or-drop n rows k d) in
+          let rise = order.ascend (n + i) (n + k) d (omega (arith, after)) (omega (arith, count, lt, le)) in
+          omega (arith, one, two, rise));
+    }
+
+pub fit_all : (rows : List MemberRow) (row : MemberRow) → AreInOrder rows → Contains rows row → Fits row
+fit_all rows row order there = subst Fits there.2 (order.fit there.0 row there.1)
+
+low_key : (name desc : ℕ) (row : MemberRow) → row.name ≡ name → row.desc ≡ desc → target name desc 0 ≤ key_of row
+low_key name desc row named described =
+    let one = ap (λ (n : ℕ). pair_of n row.desc) named in
+    let two = ap (λ (d : ℕ). pair_of name d) described in
+    omega (arith, one, two)
+
+high_key : (name desc : ℕ) (row : MemberRow) → Fits row → row.name ≡ name → row.desc ≡ desc → row.class < 4294967295 → key_of row < target name desc 4294967295
+high_key name desc row fits named described lt =
+    let one = ap (λ (n : ℕ). pair_of n row.desc) named in
+    let two = ap (λ (d : ℕ). pair_of name d) described in
+    let place = fits.place in
+    omega (arith, one, two, place, lt)
+
+names_between : (name desc : ℕ) (row : MemberRow) → Fits row → desc < 4294967296 → target name desc 0 ≤ key_of row → key_of row < target name desc 4294967295 → (row.name ≡ name) × (row.desc ≡ desc)
+names_between name desc row fits desc_fits low high =
+    let lt = small row.class row.place fits.class fits.place in
+    let less = small 4294967295 0 (omega arith) (omega arith) in
+    let names = wides (pair_of row.name row.desc) (pair_of row.class row.place) (pair_of name desc) (pair_of 4294967295 0) lt less (omega (arith, low)) (omega (arith, high)) in
+    (firsts row.name row.desc name desc fits.desc desc_fits names, seconds row.name row.desc name desc fits.desc desc_fits names)
+
+pub are_rows_with : (rows rest found : List MemberRow) (name desc first end : ℕ) → AreInOrder rows → desc < 4294967296 → first ≤ length rows → rest ≡ drop first rows → end ≤ length rest → found ≡ take end rest
+    → IsPointAt rows (target name desc 0) first → IsPointAt rest (target name desc 4294967295) end → AreRowsWith rows name desc found
+are_rows_with rows rest found name desc first end order desc_fits within rest_is within_rest found_is low high =
+    let rest_count : length rest ≡ length rows - first = ap length rest_is ∙ length-drop first rows in
+    record {
+      each = λ row there.
+          (let k : ℕ = there.0 in
+          let count : length found ≡ end = ap length found_is ∙ length-take-le end rest within_rest in
+          let lt : k < end = (let in_found = there.1 in omega (arith, in_found, count)) in
+          let in_rest : get_or rest k row ≡ row = sym (ap (λ (rs : List MemberRow). get_or rs k row) found_is ∙ get_or-take end rest k row lt) ∙ there.2 in
+          let at : get_or rows (first + k) row ≡ row = sym (ap (λ (rs : List MemberRow). get_or rs k row) rest_is ∙ get_or-drop first rows k row) ∙ in_rest in
+          let place : first + k < length rows = omega (arith, lt, within_rest, rest_count) in
+          let contained : Contains rows row = (first + k, place, at) in
+          let above = ltb-false (key_of (get_or rows (first + k) row)) (target name desc 0) (low.1 (first + k) row (omega arith) place) in
+          let below = ltb-true (key_of (get_or rest k row)) (target name desc 4294967295) (high.0 k row (omega arith) lt) in
+          let own = ap key_of at in
+          let same = ap key_of in_rest in
+          (contained, names_between name desc row (fit_all rows row order contained) desc_fits (omega (arith, above, own)) (omega (arith, below, same))));
+      all = λ row there named described lt.
+          (let j : ℕ = there.0 in
+          let own = ap key_of there.2 in
+          let le = low_key name desc row named described in
+          let less = high_key name desc row (fit_all rows row order there) named described lt in
+          let after : first ≤ j = elim (cases_lt j first) [
+            | inl before ↦ (let under = ltb-true (key_of (get_or rows j row)) (target name desc 0) (low.0 j row (omega arith) before) in absurd (omega (arith, under, own, le)))
+            | inr after ↦ after
+          ] in
+          let sum : first + (j - first) ≡ j = omega (arith, after) in
+          let in_rest : get_or rest (j - first) row ≡ row =
+          ap (λ (rs : List MemberRow). get_or rs (j - first) row) rest_is ∙ get_or-drop first rows (j - first) row ∙ ap (λ (n : ℕ). get_or rows n row) sum ∙ there.2 in
+          let place : j - first < length rest = (let in_rows = there.1 in omega (arith, in_rows, after, rest_count)) in
+          let same = ap key_of in_rest in
+          let before : j - first < end = elim (cases_lt (j - first) end) [
+            | inl before ↦ before
+            | inr past ↦ (let over = ltb-false (key_of (get_or rest (j - first) row)) (target name desc 4294967295) (high.1 (j - first) row past place) in absurd (omega (arith, over, same, less)))
+          ] in
+          let count : length found ≡ end = ap length found_is ∙ length-take-le end rest within_rest in
+          (j - first, omega (arith, before, count), ap (λ (rs : List MemberRow). get_or rs (j - first) row) found_is ∙ get_or-take end rest (j - first) row before ∙ in_rest));
     }

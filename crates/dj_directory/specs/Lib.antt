@@ -1,2 +1,3 @@
 pub mod Numberings
 pub mod Rows
+pub mod Calls

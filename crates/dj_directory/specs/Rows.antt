@@ -178,3 +178,10 @@ pub record IsDirectory (program : Program) (texts : Texts) (methods fields : Lis
   pub different : AreDifferent texts
   pub methods_are : AreRows (number_in texts) (methods_named program) (length program) methods
   pub fields_are : AreRows (number_in texts) (fields_named program) (length program) fields
+
+-- ---- all rows of two numbers
+
+-- these are the rows of these numbers, but for those of a class whose number is the highest
+pub record AreRowsWith (rows : List MemberRow) (name desc : ℕ) (found : List MemberRow) : Type 0 where
+  pub each : (row : MemberRow) → Contains found row → Contains rows row × ((row.name ≡ name) × (row.desc ≡ desc))
+  pub all : (row : MemberRow) → Contains rows row → row.name ≡ name → row.desc ≡ desc → row.class < 4294967295 → Contains found row

@@ -1,12 +1,14 @@
-ghost use Rattle.std.specs.Prelude.{◌≡◌, ℕ, ◌<◌, ◌⊎◌, List, Some, None, length, IfOk, IfSome};
+ghost use Rattle.std.specs.Prelude.{◌≡◌, ℕ, ◌<◌, ◌⊎◌, Contains, List, Some, None, length, IfOk, IfSome};
 ghost use Rattle.dj_declared.specs.Files.{desc_in};
 ghost use Rattle.dj_declared.specs.Members.{IsDescriptor, method_place, field_place};
 ghost use Rattle.dj_classes.specs.Tables.{methods_at, fields_at};
-ghost use Rattle.dj_directory.specs.Numberings.{number_of};
+ghost use Rattle.dj_directory.specs.Calls.{AreMethods};
+ghost use Rattle.dj_directory.specs.Numberings.{DeclareFields, DeclareMethods, number_of};
+ghost use Rattle.dj_directory.specs.declared.rows.MemberRow.{MemberRow};
 
 use crate::gather::add_class;
 use crate::numbers::number_in;
-use crate::rows::{MemberRow, place_in, put_in_order};
+use crate::rows::{MemberRow, place_in, put_in_order, rows_with};
 use dj_classes::ClassTable;
 use dj_names::NoMemory;
 use std::alloc::Global;
@@ -54,6 +56,13 @@ impl<'a> Directory<'a> {
         })
     }
 
+    /// The rows of all methods, in the order of the numbers of their texts, their classes and their places.
+    pub fn into_methods(self) -> Vec<MemberRow>
+        ensures { AreMethods self.entry.program result.items }
+    {
+        self.methods
+    }
+
     /// The number of a text, where it is the name or the descriptor of a member.
     pub fn number(&self, text: &[u8]) -> Option<u32>
         ensures { result ≡ number_of self.now text.now }
@@ -84,6 +93,25 @@ impl<'a> Directory<'a> {
         ensures within { IfSome result (λ place. place < length (fields_at self.now.program class)) }
     {
         place_in(&self.fields, name, desc, class)
+    }
+
+    /// The rows of the methods whose name and descriptor have these numbers.
+    pub fn methods_of(&self, name: u32, desc: u32) -> &[MemberRow]
+        ensures there { (row : MemberRow) → Contains result.now row → row.class < length self.now.program }
+        ensures within { (row : MemberRow) → Contains result.now row → row.place < length (methods_at self.now.program row.class) }
+        ensures declare { (n d : List ℕ) → number_of self.now n ≡ Some name → number_of self.now d ≡ Some desc → IsDescriptor d → DeclareMethods self.now.program n (desc_in d) result.now }
+    {
+        let _ = self.table.class_count();
+        rows_with(&self.methods, name, desc)
+    }
+
+    /// The rows of the fields whose name and descriptor have these numbers.
+    pub fn fields_of(&self, name: u32, desc: u32) -> &[MemberRow]
+        ensures there { (row : MemberRow) → Contains result.now row → row.class < length self.now.program }
+        ensures declare { (n d : List ℕ) → number_of self.now n ≡ Some name → number_of self.now d ≡ Some desc → IsDescriptor d → DeclareFields self.now.program n (desc_in d) result.now }
+    {
+        let _ = self.table.class_count();
+        rows_with(&self.fields, name, desc)
     }
 
     /// A law: a member is named by texts that have numbers.

@@ -1,7 +1,7 @@
 //! Members by the numbers of their texts, in the order of these.
 ghost use Rattle.std.specs.Prelude.{◌≡◌, ◌≤◌, ltb, true, false, length};
 ghost use Rattle.std.specs.List.Sorted.{IsNonDecreasingBy, IsPartitionPoint, IsPermutation};
-ghost use Rattle.dj_directory.specs.Rows.{pair_of, key_of, AreInOrder, IsTold, IsAnswer};
+ghost use Rattle.dj_directory.specs.Rows.{pair_of, key_of, AreInOrder, AreRowsWith, IsTold, IsAnswer};
 
 /// A member by the numbers of its texts, and where it is declared.
 #[derive(Clone, Copy)]
@@ -16,8 +16,8 @@ pub struct MemberRow {
     pub place: u32,
 }
 
-// Two numbers as one, which is less where the first is less, or the second of equal first ones.
-fn pair_of(first: u32, second: u32) -> u64
+/// Two numbers as one, which is less where the first is less, or the second of equal first ones.
+pub fn pair_of(first: u32, second: u32) -> u64
     ensures { result ≡ pair_of first second }
 {
     first as u64 * 0x1_0000_0000 + second as u64
@@ -75,4 +75,26 @@ pub fn place_in(rows: &[MemberRow], name: u32, desc: u32, class: u32) -> Option<
         return None;
     }
     place_if(rows[at], name, desc, class)
+}
+
+/// The rows with these numbers of texts, by halving. Those of a class whose number is the highest are left out.
+pub fn rows_with(rows: &[MemberRow], name: u32, desc: u32) -> &[MemberRow]
+    requires { AreInOrder rows.now }
+    ensures { AreRowsWith rows.now name desc result.now }
+{
+    let low = key_of(MemberRow {
+        name,
+        desc,
+        class: 0,
+        place: 0,
+    });
+    let high = key_of(MemberRow {
+        name,
+        desc,
+        class: 4_294_967_295,
+        place: 0,
+    });
+    let (_, rest) = rows.split_at(first_not_below(rows, low));
+    let (found, _) = rest.split_at(first_not_below(rest, high));
+    found
 }

@@ -1,5 +1,5 @@
 -- Look-ups read neither the code of methods nor the constants of fields: those in a program without them answer the same.
-use Rattle.std.proofs.Common.{◌≡◌, ℕ, zero, suc, Bool, true, false, List, [], ◌∷◌, map, Option, Some, None, refl, ap, ◌∙◌, ◌⊎◌, inl, inr}
+use Rattle.std.proofs.Common.{◌≡◌, ℕ, zero, suc, ◌&&◌, Bool, true, false, not, List, [], ◌∷◌, map, Option, Some, None, refl, ap, ◌∙◌, ◌⊎◌, inl, inr}
 use Rattle.std.specs.Option.{option_map}
 use Rattle.std.specs.List.{flat_map}
 use Rattle.dj_names.specs.declared.descriptor.Of.{Of}
@@ -7,9 +7,9 @@ use Rattle.dj_names.specs.declared.descriptor.Of.TheVariants as ofs
 use Rattle.dj_names.specs.declared.descriptor.Ty.{Ty}
 use Rattle.dj_names.specs.declared.descriptor.Desc.{Desc}
 use Rattle.dj_names.specs.Types.{Name, same_name}
-use Rattle.dj_model.specs.Types.{Prefix, Member}
+use Rattle.dj_model.specs.Types.{Prefix, Member, constructor_name}
 use Rattle.dj_model.specs.Program.{Program, Class, Method, Field, Body, Abstract, Native, Runs, class_at, method_in, field_in, is_named, superclass_of, interfaces_of, flags_of, method_of, field_of, is_private}
-use Rattle.dj_model.specs.Linking.{most_classes, option_list, chain_of, chain, superclasses, interfaces_from, interfaces_above, is_subclass, is_below, is_subtype, FoundMethod, FoundField, method_or, first_method, field_or, first_field, field_order, any_method, is_plain, member_class, method_chain, or_else, resolve_method, resolve_field, with_body, select, count_fields, fields_before, own_field_count, fields_in, field_count, own_place, place_of}
+use Rattle.dj_model.specs.Linking.{most_classes, option_list, chain_of, chain, superclasses, interfaces_from, interfaces_above, is_subclass, is_below, is_subtype, FoundMethod, FoundField, method_or, first_method, field_or, first_field, field_order, any_method, is_plain, is_not_static, is_among, member_class, method_chain, or_else, resolve_method, resolve_field, with_body, select, special_method, count_fields, fields_before, own_field_count, fields_in, field_count, own_place, place_of}
 use Rattle.dj_declared.specs.Files.{bare_method, bare_field, bare_class}
 
 pub either : (b : Bool) → (b ≡ true) ⊎ (b ≡ false)
@@ -210,6 +210,15 @@ module _ (program : Program) where
       (elim (either (is_private resolved.method.flags)) [
         | inl e ↦ rw e (with_body_bare (Some resolved))
         | inr e ↦ rw e (with_body_bare _)
+      ])
+
+  pub special_bare : (own : Name) (resolved : FoundMethod) → special_method (bare_program program) own (bare_found resolved) ≡ option_map bare_found (special_method program own resolved)
+  unfolding special_method
+  special_bare own resolved =
+      rw (chain_bare own, first_method_bare is_not_static (λ m. refl) resolved.method.name resolved.method.desc (superclasses (chain program own)))
+      (elim (either (not (same_name resolved.method.name constructor_name) && is_among (superclasses (chain program own)) resolved.class)) [
+        | inl e ↦ rw e refl
+        | inr e ↦ rw e refl
       ])
 
   -- ---- fields

@@ -1,6 +1,6 @@
 -- What is told of classes, arrays and members by numbers is the same in a program without code and constants.
 use Rattle.std.proofs.Common.{◌≡◌, ℕ, ◌+◌, List, [], ◌∷◌, ◌++◌, map, take, length, Option, Some, None, refl, ap, ◌∙◌}
-use Rattle.std.specs.Prelude.{slice_get, option_and_then}
+use Rattle.std.specs.Prelude.{slice_get, option_and_then, unwrap_or}
 use Rattle.std.specs.Option.{option_map}
 use Rattle.std.specs.List.{flat_map, list_all}
 use Rattle.std.proofs.lemmas.List.{map-append, length-map, take-map}
@@ -13,12 +13,13 @@ use Rattle.dj_names.specs.Descriptors.{type_text}
 use Rattle.dj_names.specs.Library.{stop_class}
 use Rattle.dj_model.specs.Types.{Prefix, string_name}
 use Rattle.dj_model.specs.Program.{Program, Class, Method, Field, Body, Abstract, Native, Runs, flags_of, superclass_of, interfaces_of, fields_of}
-use Rattle.dj_model.specs.Linking.{FoundMethod, FoundField, resolve_method, resolve_field, select, is_subtype, field_count, place_of}
+use Rattle.dj_model.specs.Linking.{FoundMethod, FoundField, resolve_method, resolve_field, select, special_method, is_subtype, field_count, place_of}
 use Rattle.dj_declared.specs.Files.{bare_method, bare_field, bare_class}
 use Rattle.dj_classes.specs.Tables.{name_of, name_at, class_number, class_numbers, methods_of, methods_at, fields_at}
+use Rattle.dj_linking.specs.Linked.{class_name}
 use Rattle.dj_types.specs.Typed.{Typed, texts_of, types_of, text_number, type_at, flags_at, super_at, interfaces_at, component_at, is_subtype_at, string_at, chars_at, stop_under, stop_at, is_known_of, is_array_of}
-use Rattle.dj_types.specs.Members.{methods_in, fields_in, all_methods, all_fields, member_at, resolved_method, resolved_field, selected, method_number, field_number, found_method_number, found_field_number, methods_before, fields_before, native_of, native_at}
-use Rattle.dj_image.proofs.Bare.{bare_program, bare_found, bare_found_field, superclass_bare, interfaces_bare, flags_bare, subtype_bare, resolve_method_bare, resolve_field_bare, select_bare, field_count_bare, place_of_bare}
+use Rattle.dj_types.specs.Members.{methods_in, fields_in, all_methods, all_fields, member_at, resolved_method, resolved_field, selected, special_of, method_number, field_number, found_method_number, found_field_number, methods_before, fields_before, native_of, native_at}
+use Rattle.dj_image.proofs.Bare.{bare_program, bare_found, bare_found_field, superclass_bare, interfaces_bare, flags_bare, subtype_bare, resolve_method_bare, resolve_field_bare, select_bare, special_bare, field_count_bare, place_of_bare}
 
 -- ---- classes
 
@@ -256,6 +257,18 @@ module _ (typed : Typed) where
       (resolve_field (bare_program typed.program) typed.prefix (record (member_at typed class name desc) { class = ty }))) (type_at_bare class)
       ∙ ap (found_field_number (bare_program typed.program)) (resolve_field_bare typed.program typed.prefix (member_at typed class name desc))
       ∙ found_field_bare typed.program (resolved_field typed class name desc)
+
+  special_in_bare : (own : Name) (found : Option FoundMethod) → option_and_then (special_method (bare_program typed.program) own) (option_map bare_found found) ≡ option_map bare_found (option_and_then (special_method typed.program own) found)
+  special_in_bare own None = refl
+  special_in_bare own (Some found) = special_bare typed.program own found
+
+  pub special_of_bare : (method class : ℕ) → found_method_number (bare_program typed.program) (special_of (bare_typed typed) method class) ≡ found_method_number typed.program (special_of typed method class)
+  special_of_bare method class =
+      ap (λ (name : Option Name). found_method_number (bare_program typed.program)
+      (option_and_then (special_method (bare_program typed.program) (unwrap_or name [])) (slice_get (all_methods (bare_program typed.program)) method))) (name_at_bare typed.program class)
+      ∙ ap (λ (found : Option FoundMethod). found_method_number (bare_program typed.program) (option_and_then (special_method (bare_program typed.program) (class_name typed.program class)) found)) (method_there_bare typed.program method)
+      ∙ ap (found_method_number (bare_program typed.program)) (special_in_bare (class_name typed.program class) (slice_get (all_methods typed.program) method))
+      ∙ found_method_bare typed.program (special_of typed method class)
 
   select_in_bare : (ty : Ty) (found : Option FoundMethod)
       → option_and_then (λ (f : FoundMethod). select (bare_program typed.program) typed.prefix f ty) (option_map bare_found found)

@@ -1,5 +1,6 @@
 -- A program with its code and constants differs from the one without them in these only, so what is told of the one is told of the other.
 use Rattle.std.proofs.Common.{◌≡◌, ℕ, ◌<◌, List, [], ◌∷◌, map, length, Option, Some, None, refl, sym, ap, ◌∙◌, subst, IsTrue}
+use Rattle.std.proofs.lemmas.List.{length-map}
 use Rattle.std.specs.Prelude.{slice_get, nat_lt, if◌then◌else◌, unwrap_or, ◌+◌}
 use Rattle.std.specs.Option.{option_map}
 use Rattle.std.specs.Global.{Vec}
@@ -18,7 +19,7 @@ use Rattle.dj_program.specs.Views.{parts_of}
 use Rattle.dj_program.specs.declared.code.MethodCode.{MethodCode}
 use Rattle.dj_types.specs.declared.types.MemberOf.{MemberOf}
 use Rattle.dj_types.specs.Typed.{Typed, texts_of, types_of, text_number, flags_at, super_at, interfaces_at, component_at, is_subtype_at, string_at, chars_at, stop_at}
-use Rattle.dj_types.specs.Members.{all_methods, all_fields, field_count_at, resolved_method, resolved_field, selected, found_method_number, found_field_number, methods_before, fields_before, IsMethodThere, IsFieldThere, IsNthMethod, IsNthField, native_at}
+use Rattle.dj_types.specs.Members.{all_methods, all_fields, field_count_at, resolved_method, resolved_field, selected, special_of, found_method_number, found_field_number, methods_before, fields_before, IsMethodThere, IsFieldThere, IsNthMethod, IsNthField, native_at}
 use Rattle.dj_image.specs.declared.parts.ClassParts.{ClassParts}
 use Rattle.dj_image.specs.Sources.{with_code, with_codes, with_values, class_of_source, program_of_sources}
 use Rattle.dj_image.specs.Parts.{source_of, sources_of, FitMethods, FitClass, FitClasses}
@@ -245,6 +246,15 @@ module _ {a b : Typed} (like : IsLike a b) where
       → found_method_number a.program (selected a method class) ≡ found_method_number b.program (selected b method class)
   selected_like method class =
       moved (λ t. found_method_number t.program (selected t method class)) (λ t. laws.selected_bare t method class) a b like
+
+  pub class_within_like : (class : ℕ) → class < length a.program → class < length b.program
+  class_within_like class within =
+      subst (λ (n : ℕ). class < n) (moved (λ t. length t.program) (λ t. length-map t.program bare_class) a b like) within
+
+  pub special_like : (method class : ℕ)
+      → found_method_number a.program (special_of a method class) ≡ found_method_number b.program (special_of b method class)
+  special_like method class =
+      moved (λ t. found_method_number t.program (special_of t method class)) (λ t. laws.special_of_bare t method class) a b like
 
   pub native_like : (number : ℕ) → native_at a.program number ≡ native_at b.program number
   native_like number = moved (λ t. native_at t.program number) (λ t. laws.native_at_bare t.program number) a b like

@@ -1,5 +1,5 @@
 -- The tables of what constants are of all classes, by plain values.
-use Rattle.std.proofs.Common.{◌≡◌, ℕ, zero, suc, ◌<◌, List, [], ◌∷◌, map, length, Option, Some, None, refl, sym, ap, ◌∙◌, subst, codes, pos, arith, slice_get, inl, inr}
+use Rattle.std.proofs.Common.{◌≡◌, ℕ, zero, suc, ◌<◌, List, [], ◌∷◌, map, length, Option, Some, None, refl, sym, ap, ◌∙◌, subst, codes, pos, arith, slice_get, inl, inr, Contains}
 use Rattle.dj_names.specs.declared.descriptor.Ty.{Ty}
 use Rattle.std.specs.Global.{Vec}
 use Rattle.std.proofs.lemmas.Bool.{false≢true}
@@ -8,6 +8,7 @@ use Rattle.dj_names.specs.declared.descriptor.Base.TheVariants as bases
 use Rattle.dj_names.specs.Tests.{units_read}
 use Rattle.dj_names.specs.Types.{Name, base_array, sandbox_prefix}
 use Rattle.dj_names.specs.UnitReading.{unit_read, long_read, two_read}
+use Rattle.dj_model.specs.Program.{Class, Method, Field}
 use Rattle.dj_pool.specs.Pool.{Constant, Utf8, Integer, Text}
 use Rattle.dj_program.specs.Naming.{units_in, named_at, named_by}
 use Rattle.dj_program.specs.declared.code.MethodCode.{MethodCode}
@@ -17,12 +18,13 @@ use Rattle.dj_image.specs.declared.operand.Operand.TheVariants as operands
 use Rattle.dj_image.specs.declared.parts.ClassParts.{ClassParts}
 use Rattle.dj_image.specs.declared.parts.FieldValue.{FieldValue}
 use Rattle.dj_image.specs.declared.parts.FieldValue.TheVariants as begins
-use Rattle.dj_image.specs.Imaged.{Imaged}
+use Rattle.dj_image.specs.Imaged.{Imaged, IsNumbered, program_of}
 use Rattle.dj_image.specs.Operands.{named_operand, named_class, made_class}
-use Rattle.dj_image.specs.Parts.{sources_of}
+use Rattle.dj_image.specs.Parts.{source_of, sources_of}
+use Rattle.dj_image.specs.Sources.{class_of_source}
 use Rattle.dj_image.specs.Tables.{imaged_of, IsOperandTable, IsNamedTable, IsMadeTable, AreOperandTables, AreNamedTables, AreMadeTables, field_operand_of, AreConstantTables, AreTables}
 use Rattle.dj_image.proofs.FitFacts.{bare, bare_parts, bare_fits}
-use Rattle.dj_image.proofs.Members.{member_none, member_cases}
+use Rattle.dj_image.proofs.Members.{member_first, member_later, member_none, member_cases}
 
 -- ---- the tables of one class, of an int alone and of nothing
 
@@ -176,10 +178,10 @@ abbrev other_class : Name
 other_class = codes "A"
 
 abbrev string_alone : Typed
-string_alone = record { program = bare string_class ∷ []; prefix = []; arrays = base_array bases.Char ∷ [] }
+string_alone = record { program = bare string_class ∷ []; prefix = []; arrays = base_array bases.Byte ∷ base_array bases.Char ∷ [] }
 
 -- the classes are beside their parts, and the texts are those that are told
-imaged : (p : ClassParts) → imaged_of string_alone (p ∷ []) ((115 ∷ []) ∷ []) ≡ record { sources = sources_of string_alone.program (p ∷ []); prefix = []; arrays = base_array bases.Char ∷ []; texts = (115 ∷ []) ∷ [] }
+imaged : (p : ClassParts) → imaged_of string_alone (p ∷ []) ((115 ∷ []) ∷ []) ≡ record { sources = sources_of string_alone.program (p ∷ []); prefix = []; arrays = base_array bases.Byte ∷ base_array bases.Char ∷ []; texts = (115 ∷ []) ∷ [] }
 imaged p = refl
 
 under_prefix : (p : ClassParts) → (imaged_of (record string_alone { prefix = sandbox_prefix }) (p ∷ []) []).prefix ≡ sandbox_prefix
@@ -193,6 +195,58 @@ module _ (codes : Vec (Option MethodCode)) (descs : Vec ℕ) (values : Vec (Opti
   abbrev Are : Typed → List ClassParts → Type 0
   Are types parts = AreTables types parts [] (t ∷ []) (n ∷ []) (m ∷ []) (u ∷ [])
 
+  abbrev alone : Imaged
+  alone = imaged_of string_alone (own ∷ []) []
+
+  one_deep : (ty : Ty) → Contains (base_array bases.Byte ∷ base_array bases.Char ∷ []) ty → ty.dims ≡ 1
+  one_deep ty there = elim (member_cases (base_array bases.Byte) (base_array bases.Char ∷ []) ty there) [
+    | inl is ↦ sym (ap (λ (t : Ty). t.dims) is)
+    | inr later ↦ elim (member_cases (base_array bases.Char) [] ty later) [
+      | inl is ↦ sym (ap (λ (t : Ty). t.dims) is)
+      | inr none ↦ absurd (member_none ty none)
+    ]
+  ]
+
+  -- the class has no method and no field
+  no_method : (class : Class) (method : Method) → Contains (program_of alone) class → Contains class.methods method → ⊥
+  unfolding class_of_source sources_of
+  no_method class method there has = elim (member_cases (class_of_source (source_of (bare string_class) own)) [] class there) [
+    | inl is ↦ member_none method (subst (λ (c : Class). Contains c.methods method) (sym is) has)
+    | inr none ↦ member_none class none
+  ]
+
+  no_field : (class : Class) (field : Field) → Contains (program_of alone) class → Contains class.fields field → ⊥
+  unfolding class_of_source sources_of
+  no_field class field there has = elim (member_cases (class_of_source (source_of (bare string_class) own)) [] class there) [
+    | inl is ↦ member_none field (subst (λ (c : Class). Contains c.fields field) (sym is) has)
+    | inr none ↦ member_none class none
+  ]
+
+  is_numbered : IsNumbered alone
+  is_numbered = record {
+    arrays = λ ty. (
+      λ there. elim (member_cases (base_array bases.Byte) (base_array bases.Char ∷ []) ty there) [
+        | inl is ↦ inl (sym is)
+        | inr later ↦ elim (member_cases (base_array bases.Char) [] ty later) [ inl is ↦ inr (inl (sym is)) | inr none ↦ absurd (member_none ty none) ]
+      ],
+      λ numbered. elim numbered [
+        | inl is ↦ subst (Contains (base_array bases.Byte ∷ base_array bases.Char ∷ [])) (sym is) (member_first (base_array bases.Byte) (base_array bases.Char ∷ []))
+        | inr (inl is) ↦ subst (Contains (base_array bases.Byte ∷ base_array bases.Char ∷ [])) (sym is)
+            (member_later (base_array bases.Byte) (base_array bases.Char ∷ []) (base_array bases.Char) (member_first (base_array bases.Char) []))
+        | inr (inr used) ↦ absurd (no_method used.1.class used.1.method used.1.there used.1.own)
+      ],
+    );
+    rise = refl;
+    texts = λ text. (
+      λ there. absurd (member_none text there),
+      λ begins. elim begins [
+        | inl pushed ↦ absurd (no_method pushed.class pushed.method pushed.there pushed.own)
+        | inr value ↦ absurd (no_field value.class value.field value.there value.own)
+      ],
+    );
+    once = λ a b text here there. absurd (none-some text here);
+  }
+
   all_told : Are string_alone (own ∷ [])
   all_told = record {
     fit = (bare_fits string_class codes descs values no_codes no_values, tt);
@@ -202,10 +256,9 @@ module _ (codes : Vec (Option MethodCode)) (descs : Vec ℕ) (values : Vec (Opti
     constants_are = (u_is ∙ sym (ap (map (field_operand_of (imaged_of string_alone (own ∷ []) []) [])) no_values), tt);
     string = refl;
     chars = refl;
-    closed = λ ty there deep. elim (member_cases (base_array bases.Char) [] ty there) [
-      | inl is ↦ let dims : 1 ≡ ty.dims = ap (λ (t : Ty). t.dims) is in absurd (omega (arith, deep, dims))
-      | inr later ↦ absurd (member_none ty later)
-    ];
+    closed = λ ty there deep. let dims : ty.dims ≡ 1 = one_deep ty there in absurd (omega (arith, deep, dims));
+    numbered = is_numbered;
+    few = omega arith;
   }
 
   -- not without the class String, without arrays of chars, or where a class has no parts

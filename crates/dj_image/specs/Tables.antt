@@ -1,5 +1,5 @@
 -- The code's own: what an image keeps of constants.
-use Rattle.std.specs.Prelude.{◌≡◌, ℕ, ◌+◌, ◌<◌, ◌≤◌, ⊤, Contains, List, [], ◌∷◌, map, length, Option, Some, slice_get, is_some, IsTrue}
+use Rattle.std.specs.Prelude.{◌≡◌, ℕ, ◌+◌, ◌<◌, ◌≤◌, ◌^◌, ⊤, Contains, List, [], ◌∷◌, map, length, Option, Some, slice_get, is_some, IsTrue}
 use Rattle.std.specs.Global.{Vec}
 use Rattle.std.specs.Option.{option_map}
 use Rattle.dj_names.specs.declared.descriptor.Ty.{Ty}
@@ -10,7 +10,7 @@ use Rattle.dj_types.specs.Typed.{Typed, chars_at}
 use Rattle.dj_image.specs.declared.operand.Operand.{Operand}
 use Rattle.dj_image.specs.declared.parts.ClassParts.{ClassParts}
 use Rattle.dj_image.specs.declared.parts.FieldValue.{FieldValue}
-use Rattle.dj_image.specs.Imaged.{Imaged}
+use Rattle.dj_image.specs.Imaged.{Imaged, IsNumbered}
 use Rattle.dj_image.specs.Operands.{named_operand, named_class, made_class, value_operand}
 use Rattle.dj_image.specs.Parts.{constant_of_value, sources_of, FitClasses, HasString}
 
@@ -70,3 +70,5 @@ pub record AreTables (types : Typed) (parts : List ClassParts) (texts : List (Li
   pub string : HasString types.program types.prefix
   pub chars : IsTrue (is_some (chars_at types))
   pub closed : AreClosed types.arrays
+  pub numbered : IsNumbered (imaged_of types parts texts)
+  pub few : length texts < 2 ^ 32

@@ -4,8 +4,8 @@ ghost use Rattle.dj_model.specs.Linking.{place_of};
 ghost use Rattle.dj_declared.specs.Files.{bare_class};
 ghost use Rattle.dj_declared.specs.Members.{IsDescriptor};
 ghost use Rattle.dj_types.specs.Typed.{texts_of, types_of, text_number, flags_at, super_at, interfaces_at, component_at, is_subtype_at, string_at, chars_at, stop_at};
-ghost use Rattle.dj_types.specs.Members.{all_methods, all_fields, field_count_at, resolved_method, resolved_field, selected, found_method_number, found_field_number, IsMethodThere, IsFieldThere, IsNthMethod, IsNthField, number_of_method, number_of_field};
-ghost use Rattle.dj_image.specs.Imaged.{program_of, typed_of};
+ghost use Rattle.dj_types.specs.Members.{all_methods, all_fields, field_count_at, resolved_method, resolved_field, selected, special_of, found_method_number, found_field_number, IsMethodThere, IsFieldThere, IsNthMethod, IsNthField, number_of_method, number_of_field};
+ghost use Rattle.dj_image.specs.Imaged.{program_of, typed_of, IsNumbered};
 ghost use Rattle.dj_image.specs.Codes.{HasInstr, HasRange, IsOperandAt, IsNamedAt, IsCaughtAt, IsConstantAt, IsBodyAt};
 ghost use Rattle.dj_image.specs.Shaped.{AreShapePartsAt};
 
@@ -245,6 +245,15 @@ impl Image {
         self.types.select(method, class)
     }
 
+    /// The method that `invokespecial` takes in a class for the one to which its operand resolves (JVMS 6.5).
+    pub fn special(&self, method: MethodId, class: u32) -> Option<MethodId>
+        requires there { method.number < length (all_methods (program_of self.now)) }
+        requires class { class < length (program_of self.now) }
+        ensures { option_map number_of_method result ≡ found_method_number (program_of self.now) (special_of (typed_of self.now) method.number class) }
+    {
+        self.types.special(method, class)
+    }
+
     /// The body of a method.
     pub fn body(&self, method: MethodId) -> Body<'_>
         requires { method.number < length (all_methods (program_of self.now)) }
@@ -315,6 +324,13 @@ impl Image {
             Some(operand) => operand,
             None => unreachable!(),
         }
+    }
+
+    /// How many texts there are.
+    pub fn text_count(&self) -> u32
+        ensures { result ≡ length self.now.texts }
+    {
+        self.texts.len() as u32
     }
 
     /// The units of a text.

@@ -56,6 +56,7 @@ fn image_from(
     requires string { HasString types.program types.prefix }
     requires chars { IsTrue (is_some (chars_at types)) }
     requires closed { AreClosed types.arrays }
+    requires numbered { IsNumbered (imaged_of types parts.items texts.items) }
     ensures { IfOk result (λ image. image ≡ imaged_of types parts.items texts.items) }
 {
     let tables = tables_of(alloc, &types, &texts, object, &parts)?;

@@ -1,4 +1,4 @@
-ghost use Rattle.dj_image.specs.Imaged.{typed_of};
+ghost use Rattle.dj_image.specs.Imaged.{typed_of, IsNumbered};
 ghost use Rattle.dj_image.specs.Numbering.{AreSettled};
 
 use crate::image::Image;
@@ -13,6 +13,13 @@ impl Image {
         self.types.are_arrays();
         self.types.are_plain();
         self.types.linker().classes().names_differ();
+    }
+
+    /// A law: the arrays and the texts that have numbers are exactly those that the program uses, and each text has one number.
+    pub fn is_numbered(&self)
+        ensures { IsNumbered self.now }
+    {
+        let _ = &self.texts;
     }
 }
 

@@ -119,6 +119,7 @@ nothing_set imaged field place operand st at int long text texts are found there
   effect = λ terms s e. nothing_told imaged found operand (constant_is imaged field operand at found there) int long text (λ units begins. texts.there units (value_of imaged field found units there begins)) place terms (stored imaged st s);
   limit = refl;
   are = are;
+  known = λ all. all;
 }
 
 -- the constant of a static field stands at its place
@@ -132,6 +133,7 @@ static_filled imaged places field place member before after result are there sta
       ∙ (fills found at).effect terms s e;
   limit = (fills found at).limit;
   are = (fills found at).are;
+  known = (fills found at).known;
 } where
   own : is_static found.field.flags ≡ true
   own = ap is_static (sym (there.flags ∙ ap (λ (x : FoundField). x.field.flags) (same_Some there.found found (sym there.there ∙ at)))) ∙ static
@@ -167,6 +169,7 @@ field_next imaged class fields at f whole a b is leads = record {
       ∙ field_first imaged class f (drop (at + 1) fields) terms (stored imaged b s);
   limit = leads.limit;
   are = leads.are;
+  known = leads.known;
 }
 
 pub class_on : (imaged : Imaged) (class at number : ℕ) (whole : Terms → State → Initialised) (a b c : Store) (f : IsFieldOf (program_of imaged) class at number)
@@ -195,6 +198,7 @@ class_end imaged class at whole a b end leads = record {
       ∙ none_left imaged (names imaged class) terms (stored imaged b s);
   limit = leads.limit;
   are = leads.are;
+  known = leads.known;
 }
 
 -- ---- one class more
@@ -220,6 +224,7 @@ class_next imaged classes turn class whole a b differ within lt is leads = recor
       ∙ class_first imaged class (drop (turn + 1) (reverse classes)) terms (stored imaged b s) differ within;
   limit = leads.limit;
   are = leads.are;
+  known = leads.known;
 }
 
 pub classes_on : (imaged : Imaged) (classes : List ℕ) (turn class : ℕ) (whole : Terms → State → Initialised) (a b c : Store) → DoNamesDiffer (program_of imaged) → class < length (program_of imaged)
@@ -248,4 +253,5 @@ classes_end imaged classes turn whole a b end leads = record {
       ∙ no_classes imaged terms (stored imaged b s);
   limit = leads.limit;
   are = leads.are;
+  known = leads.known;
 }

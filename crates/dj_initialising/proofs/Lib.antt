@@ -2,6 +2,7 @@ pub mod FlagLaws
 pub mod Walks
 pub mod PlaceLaws
 pub mod Members
+pub mod KnownLaws
 pub mod StoreLaws
 pub mod FieldLaws
 pub mod InitialiserLaws

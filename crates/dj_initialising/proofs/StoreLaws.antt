@@ -1,5 +1,5 @@
 -- What constants of static fields make of a machine's heap, static fields and literals is what they do in the model.
-use Rattle.std.proofs.Common.{◌≡◌, ℕ, ℤ, zero, suc, ◌<◌, Bool, true, false, List, [], ◌∷◌, length, set, Option, Some, None, refl, sym, ap, subst, ◌∙◌, if◌then◌else◌}
+use Rattle.std.proofs.Common.{◌≡◌, ℕ, ℤ, zero, suc, ◌<◌, Bool, true, false, List, [], ◌∷◌, length, set, Option, Some, None, refl, sym, ap, subst, ◌∙◌, arith, if◌then◌else◌}
 use Rattle.std.specs.Prelude.{slice_get, unwrap_or}
 use Rattle.std.specs.Option.{option_map}
 use Rattle.std.specs.Cmp.Lexicographic.{bytes_decides}
@@ -21,6 +21,7 @@ use Rattle.dj_model.specs.Members as members
 use Rattle.dj_model.specs.Members.{with_literal}
 use Rattle.dj_model.specs.Initialisation.{Initialised, Ready, Fails, then_ready, with_text, with_static}
 use Rattle.dj_heap.specs.Heaps.{LimitedHeap}
+use Rattle.dj_calls.specs.Known.{AreKnown}
 use Rattle.dj_members.specs.Literals as literals
 use Rattle.dj_members.specs.Literals.{Differ, Keeps, LiteralTable, kept_by, kept_map, literals_map, text_at}
 use Rattle.dj_members.specs.declared.literals.Kept as keeping
@@ -38,6 +39,8 @@ use Rattle.dj_image.specs.declared.operand.Operand.TheVariants as operands
 use Rattle.dj_initialising.specs.declared.filled.Filled.{Filled}
 use Rattle.dj_initialising.specs.declared.filled.Filled.TheVariants as filled
 use Rattle.dj_initialising.specs.Store.{Store, store, stored, IsStore, AreTexts, Leads, Fills, FillsConstant, one_constant}
+use Rattle.dj_initialising.proofs.Members.{types_longer}
+use Rattle.dj_initialising.proofs.KnownLaws.{kept_known}
 
 abbrev Doing : Type 0
 Doing = Terms → State → Initialised
@@ -45,7 +48,7 @@ Doing = Terms → State → Initialised
 -- ---- one after the other
 
 pub leads_begun : (imaged : Imaged) (whole : Terms → State → Initialised) (a : Store) → IsStore imaged a → Leads imaged whole whole a a
-leads_begun imaged whole a are = record { effect = λ terms s e. refl; limit = refl; are = are }
+leads_begun imaged whole a are = record { effect = λ terms s e. refl; limit = refl; are = are; known = λ all. all }
 
 pub leads_on : (imaged : Imaged) (whole one next : Terms → State → Initialised) (a b c : Store) → Leads imaged whole (λ terms s. then_ready (next terms) (one terms s)) a b
     → Fills imaged one b c filled.Done → Leads imaged whole next a c
@@ -53,6 +56,7 @@ leads_on imaged whole one next a b c first second = record {
   effect = λ terms s e. first.effect terms s e ∙ ap (then_ready (next terms)) (second.effect terms s (e ∙ ap Some (sym first.limit)));
   limit = second.limit ∙ first.limit;
   are = second.are;
+  known = λ all. second.known (first.known all);
 }
 
 pub leads_to_full : (imaged : Imaged) (whole one next : Terms → State → Initialised) (a b c : Store) (used size : ℕ) → Leads imaged whole (λ terms s. then_ready (next terms) (one terms s)) a b
@@ -61,6 +65,7 @@ leads_to_full imaged whole one next a b c used size first second = record {
   effect = λ terms s e. first.effect terms s e ∙ ap (then_ready (next terms)) (second.effect terms s (e ∙ ap Some (sym first.limit)));
   limit = second.limit ∙ first.limit;
   are = second.are;
+  known = λ all. second.known (first.known all);
 }
 
 -- ---- numbers
@@ -74,6 +79,7 @@ with_value imaged constant value place bits heap statics now table is told_bits 
       ∙ ap (λ (items : List ℕ). Ready (stored imaged (store heap items table) s)) (sym (put ∙ ap (set statics place) told_bits));
   limit = refl;
   are = record { statics = ap length put ∙ length-set statics place bits ∙ are.statics; count = are.count; texts = are.texts };
+  known = λ all. all;
 }
 
 abbrev FillsAs : Imaged → ℕ → Option Constant → LimitedHeap → List ℕ → LiteralTable → LimitedHeap → List ℕ → LiteralTable → Filled → Type 0
@@ -85,6 +91,12 @@ string_type : (imaged : Imaged) (class : ℕ) → Some class ≡ string_at (type
 string_type imaged class is =
     type_of_class (program_of imaged) imaged.arrays class (class_number-within (program_of imaged) (string_name imaged.prefix) class (sym is))
     ∙ ap (λ (o : Option Name). class_type (unwrap_or o [])) (name_at-number (program_of imaged) (string_name imaged.prefix) class (sym is))
+
+string_within : (imaged : Imaged) (class : ℕ) → Some class ≡ string_at (typed_of imaged) → class < length (types_of (typed_of imaged))
+string_within imaged class is =
+    let within = class_number-within (program_of imaged) (string_name imaged.prefix) class (sym is) in
+    let longer = types_longer (typed_of imaged) in
+    omega (arith, within, longer)
 
 pub units_told : (texts : List (List ℕ)) (text : ℕ) (units : List ℕ) → slice_get texts text ≡ Some units → text_at texts text ≡ units
 units_told texts text units is = ap (λ (o : Option (List ℕ)). unwrap_or o []) is
@@ -120,6 +132,7 @@ module _ (imaged : Imaged) (class text place : ℕ) (units : List ℕ) (before a
       count = k.count ∙ are.count;
       texts = texts_kept (Some before.limit) class text (length imaged.texts) units before.heap table.made _ are.texts known k.effect;
     };
+    known = kept_known types (Some before.limit) class text units before.heap table.made (record { object = r; heap = after.heap; literals = now.made }) (string_within imaged class string) k.effect;
   }
 
   pub text_full : (used size : ℕ) → Keeps class text units before after table now (kept.HeapFull used size)
@@ -128,6 +141,7 @@ module _ (imaged : Imaged) (class text place : ℕ) (units : List ℕ) (before a
     effect = λ terms s e. text_effect (kept.HeapFull used size) k terms s e ∙ ended terms s;
     limit = k.limit;
     are = record { statics = are.statics; count = k.count ∙ are.count; texts = subst (λ (t : LiteralTable). literals.AreTexts (length imaged.texts) t.made) (sym k.full.3) are.texts };
+    known = subst (λ (h : LimitedHeap). AreKnown types h) (sym k.full.2);
   } where
     ended : (terms : Terms) (s : State)
         → Fails (outcomes.HeapFull before.heap.used (text_size (text_at imaged.texts text))) (stored imaged (store before statics table) s)

@@ -9,6 +9,7 @@ use Rattle.dj_model.specs.Linking.{FoundField, place_of_static, static_count}
 use Rattle.dj_model.specs.State.{State, Terms}
 use Rattle.dj_model.specs.Initialisation.{Initialised, Ready, Fails, with_constant, with_constants, constants_of}
 use Rattle.dj_heap.specs.Heaps.{LimitedHeap}
+use Rattle.dj_calls.specs.Known.{AreKnown}
 use Rattle.dj_members.specs.Literals as literals
 use Rattle.dj_members.specs.Literals.{Differ, LiteralTable, literals_map}
 use Rattle.dj_classes.specs.Tables.{fields_at}
@@ -55,6 +56,8 @@ pub record Leads (imaged : Imaged) (whole rest : Terms → State → Initialised
   pub effect : (terms : Terms) (s : State) → terms.limit ≡ Some before.heap.limit → whole terms (stored imaged before s) ≡ rest terms (stored imaged after s)
   pub limit : after.heap.limit ≡ before.heap.limit
   pub are : IsStore imaged after
+  -- new objects are texts alone
+  pub known : AreKnown (types_of (typed_of imaged)) before.heap → AreKnown (types_of (typed_of imaged)) after.heap
 
 abbrev pub told : Filled → State → Initialised
 told filled.Done s = Ready s

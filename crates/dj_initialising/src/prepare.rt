@@ -1,6 +1,8 @@
 ghost use Rattle.std.specs.Prelude.{◌<◌, length, IfOk};
 ghost use Rattle.dj_model.specs.Sound.{IsProgram};
-ghost use Rattle.dj_image.specs.Imaged.{program_of};
+ghost use Rattle.dj_calls.specs.Known.{AreKnown};
+ghost use Rattle.dj_types.specs.Typed.{types_of};
+ghost use Rattle.dj_image.specs.Imaged.{program_of, typed_of};
 ghost use Rattle.dj_initialising.specs.Flags.{AreFlags};
 ghost use Rattle.dj_initialising.specs.Places.{ArePlaces};
 ghost use Rattle.dj_initialising.specs.Initialisers.{AreInitialisers};
@@ -74,8 +76,9 @@ pub fn initialise(
     requires there { class < length (program_of image.now) }
     requires flags { AreFlags (program_of image.now) flags.old }
     requires are { IsStore image.now (store heap.old statics.old literals.old) }
-    ensures { IfOk result (λ prepared. Prepares image.now class
+    ensures prepares { IfOk result (λ prepared. Prepares image.now class
         (parts flags.old (store heap.old statics.old literals.old) frames.old) (parts flags.new (store heap.new statics.new literals.new) frames.new) prepared) }
+    ensures known { AreKnown (types_of (typed_of image.now)) heap.old → IfOk result (λ _. AreKnown (types_of (typed_of image.now)) heap.new) }
 {
     if flags.has_begun(class) {
         return Ok(Prepared::Ready);

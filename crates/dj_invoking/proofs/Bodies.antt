@@ -1,15 +1,21 @@
 -- What runs, as the readers of an image tell it.
-use Rattle.std.proofs.Common.{◌≡◌, ℕ, List, ◌∷◌, reverse, take, drop, Option, Some, true, refl, sym, ap, subst, ◌∙◌, Bor, None, Result, Ok, Err, IfOk}
+use Rattle.std.proofs.Common.{◌≡◌, ℕ, Bool, List, ◌∷◌, length, map, nat_eq, reverse, take, drop, Option, Some, true, refl, sym, ap, subst, ◌∙◌, Bor, None, Result, Ok, Err, IfOk, arith}
+use Rattle.std.proofs.lemmas.Bool.Decides.{nat_tests}
+use Rattle.std.proofs.lemmas.List.{length-map, length-reverse, length-take}
 use Rattle.std.proofs.lemmas.Option.{same_Some}
 use Rattle.dj_names.specs.declared.native.NativeId.{NativeId}
 use Rattle.dj_names.specs.declared.descriptor.Desc.{Desc}
 use Rattle.dj_names.specs.Types.{parameters_of}
-use Rattle.dj_model.specs.Program.{Body, Abstract, Native, Runs, Code}
+use Rattle.dj_names.specs.Values.{value_kind}
+use Rattle.dj_model.specs.Program.{Body, Abstract, Native, Runs, Code, is_static}
+use Rattle.dj_model.specs.Shape.{is_static_mode}
 use Rattle.dj_model.specs.Instructions.{Mode, Virtual, Special, Static, Interface}
 use Rattle.dj_model.specs.Linking.{FoundMethod}
 use Rattle.dj_program.specs.Codes.{code_in}
 use Rattle.dj_program.specs.declared.code.MethodCode.{MethodCode}
 use Rattle.dj_stack.specs.Frames.{StackFrame, top_operands}
+use Rattle.dj_types.specs.Members.{IsMethodThere}
+use Rattle.dj_types.specs.declared.types.MemberOf.{MemberOf}
 use Rattle.dj_types.specs.declared.types.MethodId.{MethodId}
 use Rattle.dj_image.specs.declared.image.Body.TheVariants as variants
 use Rattle.dj_image.specs.Imaged.{Imaged, program_of, typed_of}
@@ -22,7 +28,7 @@ use Rattle.dj_invoking.specs.declared.choosing.Mode.TheVariants as modes
 use Rattle.dj_invoking.specs.Choosing.{IsMethod, told_mode}
 use Rattle.dj_invoking.specs.Entering.{entered, Enters as EntersFrame}
 use Rattle.dj_invoking.specs.Natives.{AreClasses, AreNatives, AreTyped, row_at}
-use Rattle.dj_invoking.specs.Invoking.{Site, Steps, Invokes, RunsBody}
+use Rattle.dj_invoking.specs.Invoking.{Site, Steps, Invokes, RunsBody, taken_kinds, taken_values}
 use Rattle.dj_invoking.proofs.Sites.{calls_code}
 
 same_body : (imaged : Imaged) (method : MethodId) (found other : FoundMethod) → IsMethod (program_of imaged) method found → IsMethod (program_of imaged) method other
@@ -119,3 +125,27 @@ static_mode Static e = refl
 static_mode Virtual e = absurd cc
 static_mode Special e = absurd cc
 static_mode (Interface count) e = absurd cc
+
+-- ---- static methods
+
+pub called_so : (imaged : Imaged) (method : MethodId) (told : MemberOf) (static : Bool) → IsMethodThere (typed_of imaged) method.number told → is_static told.flags ≡ static
+    → (found : FoundMethod) → IsMethod (program_of imaged) method found → is_static found.method.flags ≡ static
+called_so imaged method told static there e found is =
+    let same : there.found ≡ found = same_Some there.found found (sym there.there ∙ is) in
+    ap (λ (f : FoundMethod). is_static f.method.flags) (sym same) ∙ (ap is_static (sym there.flags) ∙ e)
+
+-- the receiver is one operand more
+pub static_call : (s : Site) (taken count : ℕ) (found : FoundMethod) → RunsBody s taken count found → nat_eq taken count ≡ is_static_mode s.mode
+static_call s taken count found runs = by s.mode runs.values where
+  many : length (map value_kind (taken_values s taken)) ≡ taken
+  many =
+      let within = runs.within in
+      let fewer = length-take taken (top_operands s.frames) in
+      let reversed = length-reverse (take taken (top_operands s.frames)) in
+      length-map (taken_values s taken) value_kind ∙ omega (arith, within, fewer, reversed)
+
+  by : (mode : Mode) → map value_kind (taken_values s taken) ≡ taken_kinds mode runs.kinds → nat_eq taken count ≡ is_static_mode mode
+  by Static e = let long = ap length e in let count_is = runs.count_is in let n = many in grind (arith, nat_tests, long, count_is, n)
+  by Virtual e = let long = ap length e in let count_is = runs.count_is in let n = many in grind (arith, nat_tests, long, count_is, n)
+  by Special e = let long = ap length e in let count_is = runs.count_is in let n = many in grind (arith, nat_tests, long, count_is, n)
+  by (Interface k) e = let long = ap length e in let count_is = runs.count_is in let n = many in grind (arith, nat_tests, long, count_is, n)

@@ -13,21 +13,22 @@ use Rattle.dj_names.specs.Types.{Name, class_type}
 use Rattle.dj_heap.specs.Heaps.{LimitedHeap, object_in}
 use Rattle.dj_model.specs.Types.{Prefix, Member}
 use Rattle.dj_model.specs.Program.{Program}
-use Rattle.dj_model.specs.Linking.{FoundMethod, is_subtype, resolve_method, select}
+use Rattle.dj_model.specs.Linking.{FoundMethod, is_subtype, resolve_method, select, special_method}
 use Rattle.dj_model.specs.Performing.{class_in, class_at_number, is_instance}
 use Rattle.dj_model.specs.Members.{asked_class}
 use Rattle.dj_model.proofs.MappedHeaps.{object_at_mapped, class_of_mapped}
 use Rattle.dj_effects.proofs.ArrayFacts.{not_null}
 use Rattle.dj_classes.specs.Tables.{name_of, name_at}
+use Rattle.dj_linking.specs.Linked.{class_name}
 use Rattle.dj_types.specs.Typed.{Typed, types_of, type_at, is_subtype_at}
-use Rattle.dj_types.specs.Members.{found_method_number, selected}
+use Rattle.dj_types.specs.Members.{found_method_number, selected, special_of}
 use Rattle.dj_types.specs.declared.types.MethodId.{MethodId}
 use Rattle.dj_image.specs.Imaged.{Imaged, program_of, typed_of}
 use Rattle.dj_invoking.specs.declared.choosing.Chosen.{Chosen}
 use Rattle.dj_invoking.specs.declared.choosing.Chosen.TheVariants as chosen
 use Rattle.dj_invoking.specs.Choosing.{IsNumber, IsThere, special_choice, Choice, IsNull, IsBroken, IsMethod, IsMethodOrNone, IsChosen, RefusesWith, chosen_method, received_choice, taken_method}
 use Rattle.dj_invoking.specs.Receivers.{AreNumbered, AreObjects, IsObject, typed_heap}
-use Rattle.dj_invoking.proofs.Found.{told_method, resolved_own, selected_there, own_there}
+use Rattle.dj_invoking.proofs.Found.{told_method, resolved_own, selected_there, special_there, own_there}
 
 -- ---- classes of objects
 
@@ -134,6 +135,18 @@ selected_told imaged heap method m resolved r k id e there class is =
     (is ∙ ap (found_method_number program) taken)
 
 -- ---- special calls
+
+-- the method of a number that invokespecial takes
+pub special_told : (imaged : Imaged) (own : ℕ) (method : MethodId) (m : Member) (resolved : FoundMethod) (id : Option MethodId)
+    → resolve_method (program_of imaged) imaged.prefix m ≡ Some resolved → IsMethod (program_of imaged) method resolved
+    → option_map (λ (m : MethodId). m.number) id ≡ found_method_number (program_of imaged) (special_of (typed_of imaged) method.number own)
+    → IsMethodOrNone (program_of imaged) id (special_method (program_of imaged) (class_name (program_of imaged) own) resolved)
+special_told imaged own method m resolved id e there is =
+    let program : Program = program_of imaged in
+    let taken : special_of (typed_of imaged) method.number own ≡ special_method program (class_name program own) resolved = ap (option_and_then (special_method program (class_name program own))) there in
+    told_method program id (special_method program (class_name program own) resolved)
+    (λ f found. own_there program resolved f (special_there program (class_name program own) resolved f (resolved_own program imaged.prefix m resolved e) found))
+    (is ∙ ap (found_method_number program) taken)
 
 -- the method of whose class the receiver has to be
 pub record IsAsked (program : Program) (asked : MethodId) (resolved : FoundMethod) (found : Option FoundMethod) : Type 0 where

@@ -1,12 +1,8 @@
 -- Calls on a receiver, as the code makes them.
-use Rattle.std.proofs.Common.{◌≡◌, ◌<◌, ℕ, zero, suc, ◌+◌, true, List, [], ◌∷◌, length, reverse, drop, Some, None, sym, ap, subst, ◌∙◌}
-use Rattle.std.specs.Prelude.{slice_get}
+use Rattle.std.proofs.Common.{◌≡◌, ℕ, ◌+◌, true, List, length, reverse, Some, None, sym, ap, subst, ◌∙◌}
 use Rattle.dj_names.specs.declared.descriptor.Kind.{Kind}
-use Rattle.dj_names.specs.declared.run.Value.{Value}
-use Rattle.dj_names.specs.declared.run.Value.TheVariants as values
 use Rattle.dj_names.specs.declared.run.Raised.TheVariants as raises
 use Rattle.dj_names.specs.declared.run.Outcome.TheVariants as outcomes
-use Rattle.dj_names.specs.Heaps.{Heap}
 use Rattle.dj_names.specs.Types.{parameters_of}
 use Rattle.dj_model.specs.Linking.{FoundMethod, resolve_method}
 use Rattle.dj_model.specs.State.{Raise, Goes, End}
@@ -17,25 +13,11 @@ use Rattle.dj_image.specs.Imaged.{program_of}
 use Rattle.dj_invoking.specs.declared.choosing.Mode.TheVariants as modes
 use Rattle.dj_invoking.specs.declared.choosing.Chosen.TheVariants as chosen
 use Rattle.dj_invoking.specs.Operands.{fit, receiver_in}
-use Rattle.dj_invoking.specs.Receivers.{AreObjects, IsObject, typed_heap}
+use Rattle.dj_invoking.specs.Receivers.{typed_heap}
 use Rattle.dj_invoking.specs.Choosing.{IsMethod, IsChosen, told_mode, choice_of}
 use Rattle.dj_invoking.specs.Invoking.{Site, CallIs, GoesOn, RunsBody, left_values, left_frames}
-use Rattle.dj_invoking.proofs.OperandFacts.{with_receiver}
 use Rattle.dj_invoking.proofs.Found.{resolved_own, resolved_described}
 use Rattle.dj_invoking.proofs.Sites.{is_null, is_broken, is_method, call_no_receiver, runs_received, goes_null, goes_broken}
-
-first_of_drop : (xs ys : List Value) (at : ℕ) (x : Value) → drop at xs ≡ x ∷ ys → slice_get xs at ≡ Some x
-first_of_drop [] ys zero x e = absurd cc
-first_of_drop [] ys (suc at) x e = absurd cc
-first_of_drop (y ∷ xs) ys zero x e = ap (λ (l : List Value). slice_get l 0) e
-first_of_drop (y ∷ xs) ys (suc at) x e = first_of_drop xs ys at x e
-
-pub receiver_object : (heap : Heap ℕ) (operands : List Value) (at r : ℕ) → AreObjects heap operands → Some r ≡ receiver_in (drop at operands) → IsObject heap r
-receiver_object heap operands at r objects e =
-    let h = with_receiver operands at r (sym e) in objects at (values.Ref r) (first_of_drop operands (drop (at + 1) operands) at (values.Ref r) h.0)
-
-pub receiver_within : (operands : List Value) (at r : ℕ) → Some r ≡ receiver_in (drop at operands) → at < length operands
-receiver_within operands at r e = (with_receiver operands at r (sym e)).2
 
 module _ (s : Site) (resolved : FoundMethod) (kinds : List Kind) (count : ℕ) (n : count ≡ length kinds)
     (found : resolve_method (program_of s.imaged) s.imaged.prefix s.member ≡ Some resolved) (kinds_are : kinds_of (parameters_of s.member.desc) ≡ Some kinds)

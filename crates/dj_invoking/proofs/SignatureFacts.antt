@@ -1,14 +1,11 @@
 -- The kinds of a method's parameters.
-use Rattle.std.proofs.Common.{◌≡◌, ℕ, List, Option, Some, None, refl, sym, ap, subst, ◌∙◌}
-use Rattle.std.specs.Option.{option_map}
+use Rattle.std.proofs.Common.{◌≡◌, List, Option, Some, None, sym, ap, ◌∙◌}
 use Rattle.std.proofs.lemmas.Option.{none-some, same_Some}
 use Rattle.dj_names.specs.declared.descriptor.Kind.{Kind}
 use Rattle.dj_names.specs.declared.descriptor.Desc.{Desc}
 use Rattle.dj_names.specs.declared.descriptor.Desc.TheVariants as descs
-use Rattle.dj_names.specs.declared.descriptor.Ty.{Ty}
 use Rattle.dj_names.specs.Descriptors.{type_kind}
 use Rattle.dj_names.specs.Types.{parameters_of}
-use Rattle.dj_model.specs.Program.{Runs, Code}
 use Rattle.dj_model.specs.Linking.{FoundMethod}
 use Rattle.dj_model.specs.Members.{kinds_of}
 use Rattle.dj_model.specs.Kinds.{Signature, signature_with, with_result, call_signature}
@@ -18,7 +15,6 @@ use Rattle.dj_image.specs.declared.shaped.ShapeParts.{ShapeParts}
 use Rattle.dj_image.specs.Imaged.{Imaged, program_of}
 use Rattle.dj_image.specs.Shaped.{AreShapeParts}
 use Rattle.dj_invoking.specs.Choosing.{IsMethod}
-use Rattle.dj_invoking.specs.Operands.{parameters_in}
 
 -- the call that is kept is of the method's descriptor
 pub call_told : (imaged : Imaged) (method : MethodId) (found : FoundMethod) (parts : ShapeParts) → AreShapeParts imaged method.number parts → IsMethod (program_of imaged) method found

@@ -15,7 +15,8 @@ use Rattle.dj_names.specs.Heaps.{Heap}
 use Rattle.dj_names.specs.Types.{Name, class_type, parameters_of}
 use Rattle.dj_model.specs.Types.{Prefix}
 use Rattle.dj_model.specs.Instructions.{Mode, Virtual, Special, Static, Interface}
-use Rattle.dj_model.specs.Program.{Program, Body, Abstract, Native, Runs, Code}
+use Rattle.dj_model.specs.Program.{Program, Body, Abstract, Native, Runs, Code, is_static}
+use Rattle.dj_model.specs.Shape.{is_static_mode}
 use Rattle.dj_model.specs.Linking.{FoundMethod, declared_of, resolve_method, select, special_method}
 use Rattle.dj_model.specs.State.{Terms, Part, Raise, Goes, Call, End, Effect, goes}
 use Rattle.dj_model.specs.Performing.{is_instance, class_at_number, native}
@@ -276,9 +277,9 @@ module _ (s : Site) (taken count : ℕ) (found : FoundMethod) (runs : RunsBody s
       ∙ (ap (λ (b : Bool). if b then native (program_of s.imaged) s.imaged.prefix terms (left_part s taken p) id (runs.receiver ++ taken_values s count) else Some (broken (left_part s taken p))) is
       ∙ ap (λ (args : List Value). if b then native (program_of s.imaged) s.imaged.prefix terms (left_part s taken p) id args else Some (broken (left_part s taken p))) runs.all)))
 
-  pub native_is : (id : NativeId) → found.method.body ≡ Native id
+  pub native_is : (id : NativeId) → found.method.body ≡ Native id → is_static found.method.flags ≡ is_static_mode s.mode
       → true ≡ are_instances (program_of s.imaged) s.imaged.prefix (typed_heap s.imaged s.heap) (parameters_of s.member.desc) (taken_values s count) → IsNative s s.frames id taken
-  native_is id body is = record {
+  native_is id body static is = record {
     within = runs.within;
     does = native_if id true body (sym is);
     frames = refl;
@@ -286,6 +287,7 @@ module _ (s : Site) (taken count : ℕ) (found : FoundMethod) (runs : RunsBody s
     its = runs.its;
     body = body;
     described = runs.described;
+    static = static;
     parameters = runs.kinds;
     parameters_are = runs.kinds_are;
     values = runs.values;

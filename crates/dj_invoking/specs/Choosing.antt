@@ -1,8 +1,6 @@
 -- What a call takes: a method that runs, or how the run goes on in its place.
 use Rattle.std.specs.Prelude.{◌≡◌, ◌<◌, ℕ, ⊤, length, List, Option, Some, None, nat_eq, if◌then◌else◌, slice_get}
-use Rattle.std.specs.Option.{option_map}
 use Rattle.dj_names.specs.declared.descriptor.Ty.{Ty}
-use Rattle.dj_names.specs.declared.descriptor.Desc.{Desc}
 use Rattle.dj_names.specs.declared.run.Value.{Value}
 use Rattle.dj_names.specs.declared.run.Raised.TheVariants as raises
 use Rattle.dj_names.specs.Heaps.{Heap}
@@ -10,7 +8,7 @@ use Rattle.dj_names.specs.Types.{Name, class_type}
 use Rattle.dj_model.specs.Types.{Prefix}
 use Rattle.dj_model.specs.Instructions as model
 use Rattle.dj_model.specs.Instructions.{Virtual, Special, Static, Interface}
-use Rattle.dj_model.specs.Program.{Program, Class, method_in}
+use Rattle.dj_model.specs.Program.{Program}
 use Rattle.dj_model.specs.Linking.{FoundMethod, select, special_method}
 use Rattle.dj_model.specs.State.{Terms, Part, Raise, Goes, Effect, goes}
 use Rattle.dj_model.specs.Performing.{is_instance, class_at_number}
@@ -90,11 +88,6 @@ abbrev pub IsMethodOrNone : Program → Option MethodId → Option FoundMethod �
 IsMethodOrNone program None None = ⊤
 IsMethodOrNone program (Some id) (Some found) = IsMethod program id found
 IsMethodOrNone program id found = ⊥
-
--- the first method of a class with this name and this descriptor
-abbrev pub named_in : Option Class → Name → Desc → Option FoundMethod
-named_in None name desc = None
-named_in (Some c) name desc = option_map (λ m. record { class = c.name; method = m }) (method_in c.methods name desc)
 
 abbrev pub chosen_method : Option MethodId → Chosen
 chosen_method None = chosen.Link

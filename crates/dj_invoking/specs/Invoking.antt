@@ -10,7 +10,8 @@ use Rattle.dj_names.specs.Values.{value_kind}
 use Rattle.dj_names.specs.Types.{Name, parameters_of}
 use Rattle.dj_model.specs.Types.{Member}
 use Rattle.dj_model.specs.Instructions.{Mode, Static}
-use Rattle.dj_model.specs.Program.{Code, Native, Runs, method_at}
+use Rattle.dj_model.specs.Program.{Code, Native, Runs, is_static, method_at}
+use Rattle.dj_model.specs.Shape.{is_static_mode}
 use Rattle.dj_model.specs.Linking.{FoundMethod, declared_of}
 use Rattle.dj_model.specs.State.{Terms, Part, Flow, Raise, Goes, Call, End, Effect, goes}
 use Rattle.dj_model.specs.Performing.{native}
@@ -103,6 +104,8 @@ pub record IsNative (s : Site) (new : List StackFrame) (id : NativeId) (count : 
   pub its : method_at (program_of s.imaged) (declared_of found) ≡ Some found.method
   pub body : found.method.body ≡ Native id
   pub described : found.method.desc ≡ s.member.desc
+  -- it is static where it is called without a receiver
+  pub static : is_static found.method.flags ≡ is_static_mode s.mode
   pub parameters : List Kind
   pub parameters_are : kinds_of (parameters_of s.member.desc) ≡ Some parameters
   pub values : map value_kind (taken_values s count) ≡ taken_kinds s.mode parameters

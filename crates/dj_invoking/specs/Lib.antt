@@ -4,3 +4,4 @@ pub mod Invoking
 pub mod Natives
 pub mod Operands
 pub mod Receivers
+pub mod Sites

@@ -1,4 +1,4 @@
-ghost use Rattle.std.specs.Prelude.{◌≡◌, ◌≤◌, List, Some, None, length, get_or, reverse, take, slice_get};
+ghost use Rattle.std.specs.Prelude.{◌≡◌, ◌≤◌, List, Some, None, true, length, get_or, reverse, take, slice_get};
 ghost use Rattle.dj_names.specs.declared.descriptor.Kind.TheVariants as kinds;
 ghost use Rattle.dj_names.specs.declared.descriptor.Ty.{Ty};
 ghost use Rattle.dj_names.specs.Values.{value_kind};
@@ -15,6 +15,36 @@ use dj_heap::Heap;
 use dj_image::Image;
 use dj_names::Value;
 use dj_stack::Frames;
+
+/// Whether a reference is null or that of an object.
+pub fn is_there(heap: &Heap, r: u32) -> bool
+    ensures { result ≡ true → IsObject heap.now.heap r }
+{
+    r <= heap.count()
+}
+
+// Whether a value is no reference, or is null or that of an object.
+fn has_object(heap: &Heap, value: Value) -> bool
+    ensures { result ≡ true → HasObject heap.now.heap value }
+{
+    match value {
+        Value::Ref(r) => is_there(heap, r),
+        _ => true,
+    }
+}
+
+/// Whether each of so many upper operands that is a reference is null or that of an object.
+pub fn are_there(heap: &Heap, frames: &Frames, count: u16) -> bool
+    requires within { count ≤ length (top_operands frames.now) }
+    ensures { result ≡ true → AreObjects heap.now.heap (take count (top_operands frames.now)) }
+{
+    for at in 0..count {
+        if !has_object(heap, operand(frames, at)) {
+            return false;
+        }
+    }
+    true
+}
 
 // Whether a value is no reference, or is null or that of an object of the class.
 fn is_argument(image: &Image, heap: &Heap, value: Value, class: Option<u32>) -> bool
@@ -67,7 +97,7 @@ pub fn are_instances(
     count: u16,
 ) -> bool
     requires numbered { AreNumbered image.now heap.now.heap }
-    requires objects { AreObjects heap.now.heap (top_operands frames.now) }
+    requires objects { AreObjects heap.now.heap (take count (top_operands frames.now)) }
     requires within { count ≤ length (top_operands frames.now) }
     ensures { (types : List Ty) → AreTyped image.now (top_operands frames.now) count classes.now types
         → result ≡ model.are_instances (program_of image.now) image.now.prefix (typed_heap image.now heap.now.heap) types (reverse (take count (top_operands frames.now))) }

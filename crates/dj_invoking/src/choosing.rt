@@ -1,16 +1,13 @@
-ghost use Rattle.std.specs.Prelude.{◌≡◌, ◌<◌, None, Some, IfSome, length, slice_get};
+ghost use Rattle.std.specs.Prelude.{◌≡◌, ◌<◌, None, Some, IfSome, length};
 ghost use Rattle.dj_model.specs.Instructions as model;
 ghost use Rattle.dj_model.specs.Types.{Member};
 ghost use Rattle.dj_model.specs.Linking.{FoundMethod, resolve_method, special_method};
-ghost use Rattle.dj_declared.specs.Files.{desc_in};
-ghost use Rattle.dj_declared.specs.Members.{IsDescriptor};
 ghost use Rattle.dj_linking.specs.Linked.{class_name};
 ghost use Rattle.dj_types.specs.Members.{all_methods};
 ghost use Rattle.dj_image.specs.Imaged.{program_of};
-ghost use Rattle.dj_invoking.specs.Choosing.{IsNumber, IsThere, IsMethod, IsMethodOrNone, IsChosen, RefusesWith, choice_of, chosen_method, named_in, special_choice, told_mode, virtual_choice};
+ghost use Rattle.dj_invoking.specs.Choosing.{IsNumber, IsThere, IsMethod, IsMethodOrNone, IsChosen, RefusesWith, choice_of, chosen_method, special_choice, told_mode, virtual_choice};
 ghost use Rattle.dj_invoking.specs.Receivers.{AreNumbered, IsObject, typed_heap};
 
-use dj_classes::Place;
 use dj_heap::Heap;
 use dj_image::{Image, MethodId};
 
@@ -78,21 +75,6 @@ fn choose_selected(image: &Image, heap: &Heap, method: MethodId, r: u32) -> Chos
     }
 }
 
-// The first method of a class with this name and this descriptor.
-fn first_named(image: &Image, class: u32, name: &[u8], desc: &[u8]) -> Option<MethodId>
-    requires { IsDescriptor desc.now }
-    ensures there { IfSome result (IsNumber (program_of image.now)) }
-    ensures first { IsMethodOrNone (program_of image.now) result (named_in (slice_get (program_of image.now) class) name.now (desc_in desc.now)) }
-{
-    let linker = image.linker();
-    let classes = linker.classes();
-    if classes.class_count() <= class {
-        return None;
-    }
-    let at = classes.method_named(class, name, desc)?;
-    image.method_at(class, at)
-}
-
 // The method that invokespecial takes in a class.
 fn special(image: &Image, own: u32, method: MethodId) -> Option<MethodId>
     requires there { method.number < length (all_methods (program_of image.now)) }
@@ -101,17 +83,7 @@ fn special(image: &Image, own: u32, method: MethodId) -> Option<MethodId>
     ensures taken { (m : Member) (resolved : FoundMethod) → resolve_method (program_of image.now) image.now.prefix m ≡ Some resolved → IsMethod (program_of image.now) method resolved
         → IsMethodOrNone (program_of image.now) result (special_method (program_of image.now) (class_name (program_of image.now) own) resolved) }
 {
-    let told = image.method(method);
-    let linker = image.linker();
-    let classes = linker.classes();
-    classes.names_differ();
-    let member = classes.method_named(told.class, told.name, told.desc)?;
-    let resolved = Place {
-        class: told.class,
-        member,
-    };
-    let place = linker.special_method(own, resolved, told.name, told.desc)?;
-    first_named(image, place.class, told.name, told.desc)
+    image.special(method, own)
 }
 
 // What invokespecial takes in a class.

@@ -4,20 +4,23 @@ ghost use Rattle.dj_names.specs.Types.{Name, parameters_of};
 ghost use Rattle.dj_model.specs.Types.{Member};
 ghost use Rattle.dj_model.specs.Instructions as model;
 ghost use Rattle.dj_model.specs.Members.{kinds_of};
+ghost use Rattle.dj_model.specs.Program.{is_static};
 ghost use Rattle.dj_model.specs.Linking.{FoundMethod, resolve_method};
 ghost use Rattle.dj_stack.specs.Frames.{top_operands};
 ghost use Rattle.dj_linking.specs.Linked.{class_name};
+ghost use Rattle.dj_calls.specs.Known.{AreKnown};
+ghost use Rattle.dj_types.specs.Typed.{types_of};
 ghost use Rattle.dj_types.specs.Members.{all_methods};
-ghost use Rattle.dj_image.specs.Imaged.{program_of};
+ghost use Rattle.dj_image.specs.Imaged.{program_of, typed_of};
 ghost use Rattle.dj_invoking.specs.declared.choosing.Mode.TheVariants as modes;
 ghost use Rattle.dj_invoking.specs.Choosing.{IsMethod, told_mode};
 ghost use Rattle.dj_invoking.specs.Operands.{fit, with_operands};
-ghost use Rattle.dj_invoking.specs.Receivers.{AreNumbered, AreObjects};
+ghost use Rattle.dj_invoking.specs.Receivers.{AreNumbered};
 ghost use Rattle.dj_invoking.specs.Natives.{AreNatives};
 ghost use Rattle.dj_invoking.specs.Invoking.{Invokes, RunsBody, Steps, site};
 
 use crate::answers::Invoked;
-use crate::arguments::are_instances;
+use crate::arguments::{are_instances, are_there, is_there};
 use crate::choosing::{Chosen, Mode, choose};
 use crate::entering::{Room, enter};
 use crate::natives::Natives;
@@ -69,6 +72,22 @@ fn enter_code(
     }
 }
 
+// Whether a method is static as a call asks.
+#[tactic(auto, using(crate::proofs::Bodies::called_so))]
+fn is_called_so(image: &Image, method: MethodId, static_call: bool) -> bool
+    requires { method.number < length (all_methods (program_of image.now)) }
+    ensures { result ≡ true → (found : FoundMethod) → IsMethod (program_of image.now) method found → is_static found.method.flags ≡ static_call }
+{
+    is_static(image.method(method).flags) == static_call
+}
+
+// Whether these are the flags of a static method (JVMS table 4.6-A).
+fn is_static(flags: u16) -> bool
+    ensures { result ≡ is_static flags }
+{
+    flags & 0x0008 != 0
+}
+
 // A method runs on so many operands, of which the upper ones are of its parameters.
 fn run_method(
     image: &Image,
@@ -83,7 +102,6 @@ fn run_method(
     requires there { method.number < length (all_methods (program_of image.now)) }
     requires natives { AreNatives image.now natives.now }
     requires numbered { AreNumbered image.now heap.now.heap }
-    requires objects { AreObjects heap.now.heap (top_operands frames.old) }
     requires taken { taken ≤ length (top_operands frames.old) }
     requires count { count ≤ taken }
     ensures { (mode : model.Mode) (own : Name) (m : Member) (found : FoundMethod) → IsMethod (program_of image.now) method found
@@ -94,6 +112,13 @@ fn run_method(
         Body::Abstract => Ok(give_up(frames, taken, Invoked::Link)),
         Body::Code(code) => enter_code(frames, arguments, method, code, taken),
         Body::Native(id) => {
+            // In a sound program a method is static where it is called without a receiver, and each reference is null or that of an object.
+            if !is_called_so(image, method, taken == count) {
+                return Err(NoMemory::Memory);
+            }
+            if !are_there(heap, frames, count) {
+                return Err(NoMemory::Memory);
+            }
             if are_instances(image, heap, frames, natives.classes_of(method), count) {
                 Ok(Invoked::Native(id, taken))
             } else {
@@ -119,7 +144,6 @@ fn invoke_on(
     requires own { own < length (program_of image.now) }
     requires natives { AreNatives image.now natives.now }
     requires numbered { AreNumbered image.now heap.now.heap }
-    requires objects { AreObjects heap.now.heap (top_operands frames.old) }
     ensures { (called : model.Mode) (m : Member) (resolved : FoundMethod) (kinds : List Kind) → told_mode called ≡ mode → (mode ≡ modes.Static → ⊥)
         → resolve_method (program_of image.now) image.now.prefix m ≡ Some resolved → IsMethod (program_of image.now) method resolved
         → kinds_of (parameters_of m.desc) ≡ Some kinds → count ≡ length kinds → fit (reverse kinds) (top_operands frames.old) ≡ true
@@ -128,6 +152,10 @@ fn invoke_on(
     let Some(r) = receiver(frames, count) else {
         return Ok(None);
     };
+    // In a sound program each reference is null or that of an object.
+    if !is_there(heap, r) {
+        return Err(NoMemory::Memory);
+    }
     match choose(image, heap, mode, own, method, r) {
         Chosen::Method(found) => {
             let invoked = run_method(
@@ -163,8 +191,7 @@ pub fn invoke(
     requires there { method.number < length (all_methods (program_of image.now)) }
     requires own { own < length (program_of image.now) }
     requires natives { AreNatives image.now natives.now }
-    requires numbered { AreNumbered image.now heap.now.heap }
-    requires objects { AreObjects heap.now.heap (top_operands frames.old) }
+    requires known { AreKnown (types_of (typed_of image.now)) heap.now }
     ensures { (called : model.Mode) (m : Member) (resolved : FoundMethod) → told_mode called ≡ mode
         → resolve_method (program_of image.now) image.now.prefix m ≡ Some resolved → IsMethod (program_of image.now) method resolved
         → kinds_of (parameters_of m.desc) ≡ Some kinds.now

@@ -9,6 +9,7 @@ mod invoking;
 mod natives;
 mod operands;
 mod signatures;
+mod site;
 
 pub use answers::Invoked;
 pub use choosing::{Chosen, Mode, choose};
@@ -17,3 +18,4 @@ pub use invoking::invoke;
 pub use natives::{Natives, NativesError};
 pub use operands::{copy_operands, drop_operands, fit, receiver};
 pub use signatures::parameters;
+pub use site::{CallSite, call_at, is_call};

@@ -35,11 +35,10 @@ fn judge_linked(
 {
     let table = lent.linker.classes();
     let kept = judge_constants(alloc, lent.linker, lent.directory, &view.pool)?;
-    let above = classes_above(alloc, table, class_name(view))?;
     let known = Known {
         table,
         unmakeable: lent.unmakeable,
-        above: &above,
+        own: classes_above(lent.linker, class_name(view)),
         kept: &kept,
     };
     judge_methods(alloc, view, texts, Some(&known))

@@ -111,26 +111,26 @@ misused_decides program instr k m =
     (names_decide m.name initialiser_name))
 
 own_same : (own : Name) (pool : List Constant) (known : Known) (ty : Ty) → IsKnown own pool known → class_at known.table.now (class_of_type ty) ≢ None
-    → is_own_or_above_class known.above.now (judged_class known.table.now ty) ≡ is_own_or_above known.table.now own ty
-own_same own pool known ty is there = ap (λ (b : Bool). nat_eq ty.dims 0 && b) (above_named known.above.now known.table.now own (class_of_type ty) is.above there)
+    → is_own_or_above_class known.own (judged_class known.table.now ty) ≡ is_own_or_above known.table.now own ty
+own_same own pool known ty is there = ap (λ (b : Bool). nat_eq ty.dims 0 && b) (above_named known.own known.table.now own (class_of_type ty) is.above there)
 
 far_decides : (own : Name) (pool : List Constant) (known : Known) (instr : Instr) (k : Constant) (m : Member) → IsKnown own pool known → class_at known.table.now (class_of_type m.class) ≢ None
-    → Decides (is_far_special known.above.now instr (judged_class known.table.now m.class) (judged_member known.table.now k m)) (IsFarSpecial known.table.now own instr m)
+    → Decides (is_far_special known.own instr (judged_class known.table.now m.class) (judged_member known.table.now k m)) (IsFarSpecial known.table.now own instr m)
 far_decides own pool known instr k m is there =
     let program = known.table.now in
     let n = judged_member program k m in
-    let far = not (is_own_or_above_class known.above.now (judged_class program m.class)) in
+    let far = not (is_own_or_above_class known.own (judged_class program m.class)) in
     Decides-like (is_special instr && (not n.is_constructor && far)) (λ all. (all.0, all.1.0, all.1.1)) (λ all. (all.0, (all.1, all.2)))
     (Decides-and (is_special instr) (not n.is_constructor && far) (itself (is_special instr))
     (Decides-and (not n.is_constructor) far (Decides-not n.is_constructor (names_decide m.name constructor_name))
     (Decides-at far (not (is_own_or_above program own m.class)) (ap not (own_same own pool known m.class is there)) (not_decides (is_own_or_above program own m.class)))))
 
 member_told : (own : Name) (pool : List Constant) (known : Known) (instr : Instr) (k : Constant) (m : Member) → IsKnown own pool known → class_at known.table.now (class_of_type m.class) ≢ None
-    → Decides (is_misused_member instr (judged_member known.table.now k m) || is_far_special known.above.now instr (judged_class known.table.now m.class) (judged_member known.table.now k m)) (IsUnlinkedMember known.table.now own instr k m)
+    → Decides (is_misused_member instr (judged_member known.table.now k m) || is_far_special known.own instr (judged_class known.table.now m.class) (judged_member known.table.now k m)) (IsUnlinkedMember known.table.now own instr k m)
 member_told own pool known instr k m is there =
     let program = known.table.now in
     let misused = is_misused_member instr (judged_member program k m) in
-    let far = is_far_special known.above.now instr (judged_class program m.class) (judged_member program k m) in
+    let far = is_far_special known.own instr (judged_class program m.class) (judged_member program k m) in
     Decides-like (misused || far) to from (Decides-or misused far (misused_decides program instr k m) (far_decides own pool known instr k m is there)) where
       to : (IsOtherwiseStatic known.table.now instr k m ⊎ (IsMisusedConstructor instr m ⊎ IsInitialiser m)) ⊎ IsFarSpecial known.table.now own instr m → IsUnlinkedMember known.table.now own instr k m
       to (inl (inl a)) = inl a
@@ -147,7 +147,7 @@ member_told own pool known instr k m is there =
 -- the class of a constant's member is that of the constant
 member_both : (own : Name) (pool : List Constant) (known : Known) (instr : Instr) (k : Constant) (ty : Option Ty) (names : Option (List ℕ × List ℕ)) → IsKnown own pool known
     → (IsSomeAnd ty (λ t. class_at known.table.now (class_of_type t) ≡ None) → ⊥)
-    → Decides (is_unlinked_member known.above.now instr (option_map (judged_class known.table.now) ty) (option_map (judged_member known.table.now k) (option_map member_of (both ty names)))) (IsSomeAnd (option_map member_of (both ty names)) (IsUnlinkedMember known.table.now own instr k))
+    → Decides (is_unlinked_member known.own instr (option_map (judged_class known.table.now) ty) (option_map (judged_member known.table.now k) (option_map member_of (both ty names)))) (IsSomeAnd (option_map member_of (both ty names)) (IsUnlinkedMember known.table.now own instr k))
 member_both own pool known instr k None None is there = (λ e. absurd cc, λ none. absurd none)
 member_both own pool known instr k None (Some names) is there = (λ e. absurd cc, λ none. absurd none)
 member_both own pool known instr k (Some ty) None is there = (λ e. absurd cc, λ none. absurd none)
@@ -184,7 +184,7 @@ constant_told own pool known instr k is =
     let program = known.table.now in
     let n = judged program pool k in
     let made = makes instr && is_abstract_class program n.class in
-    let member = is_unlinked_member known.above.now instr n.class n.member in
+    let member = is_unlinked_member known.own instr n.class n.member in
     let class = is_unlinked_class program instr n.tag n.class in
     Decides-like (is_unlinked_named known instr n) to from
     (or_else (lacks_class n.class || lacks_member n.member) (member || (class || made))

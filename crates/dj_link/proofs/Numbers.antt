@@ -7,7 +7,8 @@ use Rattle.dj_names.specs.Types.{Name, same_name}
 use Rattle.dj_model.specs.Program.{Program, Class, class_at, flags_of}
 use Rattle.dj_model.specs.Linking.{chain, is_among}
 use Rattle.dj_classes.specs.Tables.{class_number, name_at}
-use Rattle.dj_link.specs.Known.{is_marked, flags_at, is_unmakeable, AreUnmakeable, AreAbove}
+use Rattle.dj_link.specs.Known.{is_marked, flags_at, is_unmakeable, AreUnmakeable, AreAbove, is_above}
+use Rattle.dj_link.specs.declared.above.OwnClass.{OwnClass}
 
 after_first : (c : Class) (program : Program) (number : Option ℕ) → option_and_then (slice_get (c ∷ program)) (option_map suc number) ≡ option_and_then (slice_get program) number
 after_first c program None = refl
@@ -78,8 +79,8 @@ marked_named marks program name are =
     marked_in marks program (class_number program name) are ∙ ap (λ (o : Option Class). unwrap_or (option_map is_unmakeable o) false) (sym (class_at_number program name))
 
 -- of a class that is there, whether it is the own one or above it
-pub above_named : (marks : List Bool) (program : Program) (own name : Name) → AreAbove program own marks → class_at program name ≢ None → is_marked marks (class_number program name) ≡ is_among (chain program own) name
-above_named marks program own name are there = by (class_number program name) refl where
-  by : (number : Option ℕ) → class_number program name ≡ number → is_marked marks number ≡ is_among (chain program own) name
+pub above_named : (own_class : OwnClass) (program : Program) (own name : Name) → AreAbove program own own_class → class_at program name ≢ None → is_above own_class (class_number program name) ≡ is_among (chain program own) name
+above_named own_class program own name are there = by (class_number program name) refl where
+  by : (number : Option ℕ) → class_number program name ≡ number → is_above own_class number ≡ is_among (chain program own) name
   by None e = absurd (there (no_class program name e))
   by (Some k) e = are k name (number_named program name k e)

@@ -6,7 +6,7 @@ use Rattle.dj_names.specs.Types.{Name}
 use Rattle.dj_ops.specs.declared.instruction.Instr.{Instr}
 use Rattle.dj_pool.specs.Pool.{Constant, constant_at}
 use Rattle.dj_model.specs.Program.{Program, Class}
-use Rattle.dj_model.specs.Linking.{chain, is_among}
+use Rattle.dj_classes.specs.Tables.{class_number}
 use Rattle.dj_link.specs.Foreign.{IsForeign, IsForeignConstant}
 use Rattle.dj_link.specs.Unlinked.{IsUnlinked, IsUnlinkedCatch}
 use Rattle.dj_link.specs.Lines.{IsFirstOf}
@@ -14,13 +14,11 @@ use Rattle.dj_link.specs.Judged.{judged, kept_at}
 use Rattle.dj_link.specs.declared.named.NamedConstant.{NamedConstant}
 use Rattle.dj_link.specs.declared.known.Known.{Known}
 use Rattle.dj_link.specs.Known.{is_unmakeable, is_foreign, is_unlinked, is_foreign_catch, is_unlinked_catch, IsKnown}
+use Rattle.dj_link.proofs.AboveLaws.{above_is}
 use Rattle.dj_link.proofs.Judging.{foreign_instr, unlinked_instr, foreign_catch, unlinked_catch}
 
 abbrev bor : {X : Type 0} → X → Bor X
 bor x = record { ref_ptr = (0, 0); now = x }
-
-abbrev is_own_or_above : Program → Name → Class → Bool
-is_own_or_above program own c = is_among (chain program own) c.name
 
 abbrev kept_of : Program → List Constant → Constant → Option NamedConstant
 kept_of program pool k = Some (judged program pool k)
@@ -30,7 +28,7 @@ abbrev pub known_of : Program → Name → List Constant → Known
 known_of program own pool = record {
   table = bor program;
   unmakeable = bor (map is_unmakeable program);
-  above = bor (map (is_own_or_above program own) program);
+  own = record { linker = bor (record { program = program; prefix = [] }); number = class_number program own };
   kept = bor (None ∷ map (kept_of program pool) pool);
 }
 
@@ -43,18 +41,10 @@ constants_known program pool zero = refl
 constants_known program pool (suc index) =
     ap (option_and_then (λ (x : Option NamedConstant). x)) (slice_get-map (kept_of program pool) pool index) ∙ some_kept program pool (slice_get pool index)
 
-some_name : (a b : Name) → Some a ≡ Some b → a ≡ b
-some_name a b e = cc
-
-own_known : (program : Program) (own name : Name) (c : Option Class) → option_map (λ (x : Class). x.name) c ≡ Some name → unwrap_or (option_map (is_own_or_above program own) c) false ≡ is_among (chain program own) name
-own_known program own name None e = absurd cc
-own_known program own name (Some c) e = ap (is_among (chain program own)) (some_name c.name name e)
-
 pub is_known : (program : Program) (own : Name) (pool : List Constant) → IsKnown own pool (known_of program own pool)
 is_known program own pool = record {
   constants = constants_known program pool;
-  above = λ class name e.
-      ap (λ (b : Option Bool). unwrap_or b false) (slice_get-map (is_own_or_above program own) program class) ∙ own_known program own name (slice_get program class) e;
+  above = above_is program own (class_number program own) refl;
   unmakeable = slice_get-map is_unmakeable program;
 }
 

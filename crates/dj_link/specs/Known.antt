@@ -17,6 +17,7 @@ use Rattle.dj_check.specs.Methods.{CatchesError}
 use Rattle.dj_link.specs.Unlinked.{differ, asks_static, is_special}
 use Rattle.dj_link.specs.Lines.{IsUntold, IsFirstOf}
 use Rattle.dj_link.specs.Judged.{AreJudged, kept_at}
+use Rattle.dj_link.specs.declared.above.OwnClass.{OwnClass}
 use Rattle.dj_link.specs.declared.named.Tag.{Tag}
 use Rattle.dj_link.specs.declared.named.Tag.TheVariants as tags
 use Rattle.dj_link.specs.declared.named.NamedClass.{NamedClass}
@@ -43,9 +44,19 @@ is_unmakeable c = not (has_method_named c.methods constructor_name) || is_interf
 abbrev pub AreUnmakeable : Program → List Bool → Type 0
 AreUnmakeable program marks = (class : ℕ) → slice_get marks class ≡ option_map is_unmakeable (slice_get program class)
 
--- a class is marked where it is the class of this name or one of its superclasses
-abbrev pub AreAbove : Program → Name → List Bool → Type 0
-AreAbove program own marks = (class : ℕ) (name : Name) → name_at program class ≡ Some name → is_marked marks (Some class) ≡ is_among (chain program own) name
+-- of two classes that are there, whether the second is the first or one of its superclasses
+abbrev pub is_named_above : Program → Option Name → Option Name → Bool
+is_named_above program None other = false
+is_named_above program (Some own) None = false
+is_named_above program (Some own) (Some name) = is_among (chain program own) name
+
+-- whether the class of a number is the own one or one of its superclasses
+abbrev pub is_above : OwnClass → Option ℕ → Bool
+is_above own number = is_named_above own.linker.now.program (option_and_then (name_at own.linker.now.program) own.number) (option_and_then (name_at own.linker.now.program) number)
+
+-- the own class is that of this name
+abbrev pub AreAbove : Program → Name → OwnClass → Type 0
+AreAbove program name own = (class : ℕ) (other : Name) → name_at program class ≡ Some other → is_above own (Some class) ≡ is_among (chain program name) other
 
 -- ---- what a constant names
 
@@ -139,18 +150,18 @@ takes_tag instr tag = false
 
 -- ---- rule 18, of an instruction and its constant
 
-abbrev pub is_own_or_above_class : List Bool → NamedClass → Bool
-is_own_or_above_class above class = nat_eq class.dims 0 && is_marked above class.number
+abbrev pub is_own_or_above_class : OwnClass → NamedClass → Bool
+is_own_or_above_class own class = nat_eq class.dims 0 && is_above own class.number
 
-abbrev pub is_far_special : List Bool → Instr → NamedClass → NamedMember → Bool
-is_far_special above instr class m = is_special instr && (not m.is_constructor && not (is_own_or_above_class above class))
+abbrev pub is_far_special : OwnClass → Instr → NamedClass → NamedMember → Bool
+is_far_special own instr class m = is_special instr && (not m.is_constructor && not (is_own_or_above_class own class))
 
 abbrev pub is_misused_member : Instr → NamedMember → Bool
 is_misused_member instr m = differ (asks_static instr) m.is_static || ((m.is_constructor && not (is_special instr)) || m.is_initialiser)
 
-abbrev pub is_unlinked_member : List Bool → Instr → Option NamedClass → Option NamedMember → Bool
-is_unlinked_member above instr (Some class) (Some m) = is_misused_member instr m || is_far_special above instr class m
-is_unlinked_member above instr class m = false
+abbrev pub is_unlinked_member : OwnClass → Instr → Option NamedClass → Option NamedMember → Bool
+is_unlinked_member own instr (Some class) (Some m) = is_misused_member instr m || is_far_special own instr class m
+is_unlinked_member own instr class m = false
 
 abbrev pub has_wrong_kind : Program → Tag → NamedClass → Bool
 has_wrong_kind program tags.Method class = is_interface_class program class
@@ -164,7 +175,7 @@ is_unlinked_class program instr tag (Some class) = has_wrong_kind program tag cl
 abbrev pub is_unlinked_named : Known → Instr → NamedConstant → Bool
 is_unlinked_named known instr n =
     (lacks_class n.class || lacks_member n.member)
-    || (is_unlinked_member known.above.now instr n.class n.member
+    || (is_unlinked_member known.own instr n.class n.member
     || (is_unlinked_class known.table.now instr n.tag n.class
     || (makes instr && is_abstract_class known.table.now n.class)))
 
@@ -210,7 +221,7 @@ is_unlinked_catch known index = not (nat_eq index 0) && is_unlinked_catch_by (ke
 -- what is known is right, in a class file of this class and with this pool
 pub record IsKnown (own : Name) (pool : List Constant) (known : Known) : Type 0 where
   pub constants : AreJudged known.table.now pool known.kept.now
-  pub above : AreAbove known.table.now own known.above.now
+  pub above : AreAbove known.table.now own known.own
   pub unmakeable : AreUnmakeable known.table.now known.unmakeable.now
 
 -- ---- lines

@@ -1,40 +1,51 @@
-ghost use Rattle.std.specs.Prelude.{◌≡◌, ◌<◌, IfOk, replicate, false};
-ghost use Rattle.dj_link.specs.Known.{AreAbove};
+ghost use Rattle.std.specs.Prelude.{◌≡◌};
+ghost use Rattle.dj_classes.specs.Tables.{name_at};
+ghost use Rattle.dj_link.specs.Known.{AreAbove, is_above, is_named_above};
 
-use crate::error::LinkError;
-use dj_linking::ClassTable;
-use std::alloc::Global;
+use dj_linking::Linker;
 
-// No chain of superclasses is longer.
-const LONGEST: u64 = 1 << 32;
-
-// No class is marked.
-fn no_marks(alloc: Global, count: u32) -> Result<Vec<bool>, LinkError>
-    ensures { IfOk result (λ marks. marks.items ≡ replicate count false) }
-{
-    let mut marks = Vec::new(alloc);
-    for _class in 0..count {
-        marks.push(false)?;
-    }
-    Ok(marks)
+/// The class of a file, of which it is asked what stands above it.
+#[derive(Clone, Copy)]
+pub struct OwnClass<'a> {
+    /// The classes.
+    pub linker: &'a Linker,
+    /// The number of the file's class, where it is there.
+    pub number: Option<u32>,
 }
 
-/// By their numbers, whether a class is the one of this name or one of its superclasses. A class is walked through once, also where superclasses go round.
-pub fn classes_above(alloc: Global, table: &ClassTable, own: &[u8]) -> Result<Vec<bool>, LinkError>
-    ensures { IfOk result (λ marks. AreAbove table.now own.now marks.items) }
+// Whether the class of a number is that of the other one or one of its superclasses, where both are there.
+fn is_numbered_above(linker: &Linker, own: u32, class: u32) -> bool
+    ensures { result ≡ is_named_above linker.now.program (name_at linker.now.program own) (name_at linker.now.program class) }
 {
-    table.names_differ();
-    let mut marks = no_marks(alloc, table.class_count())?;
-    let mut next = table.class_named(own);
-    for _step in 0..LONGEST {
-        let Some(class) = next else {
-            return Ok(marks);
-        };
-        if marks[class as usize] {
-            return Ok(marks);
-        }
-        marks[class as usize] = true;
-        next = table.super_of(class);
+    let count = linker.classes().class_count();
+    if own >= count {
+        return false;
     }
-    Ok(marks)
+    if class >= count {
+        return false;
+    }
+    linker.is_own_or_superclass(own, class)
+}
+
+/// Whether the class of a number is the file's own or one of its superclasses.
+pub fn is_above(own: OwnClass<'_>, class: Option<u32>) -> bool
+    ensures { result ≡ is_above own.entry class }
+{
+    let Some(number) = own.number else {
+        return false;
+    };
+    let Some(class) = class else {
+        return false;
+    };
+    is_numbered_above(own.linker, number, class)
+}
+
+/// The class of this name and its superclasses.
+pub fn classes_above<'a>(linker: &'a Linker, own: &[u8]) -> OwnClass<'a>
+    ensures { AreAbove linker.now.program own.now result }
+{
+    OwnClass {
+        linker,
+        number: linker.classes().class_named(own),
+    }
 }

@@ -50,11 +50,10 @@ fn add_class_lines(
 {
     let texts = judge_texts(alloc, view)?;
     let kept = judge_constants(alloc, linker, directory, &view.pool)?;
-    let above = classes_above(alloc, linker.classes(), own_name(view))?;
     let known = Known {
         table: linker.classes(),
         unmakeable,
-        above: &above,
+        own: classes_above(linker, own_name(view)),
         kept: &kept,
     };
     let mut marks = Vec::new(alloc);

@@ -1,8 +1,8 @@
 ghost use Rattle.std.specs.Prelude.{◌≡◌};
 ghost use Rattle.dj_link.specs.Known.{is_far_special, is_unlinked_member, has_wrong_kind, is_unlinked_class, is_unlinked_named, is_foreign, is_unlinked, is_unlinked_by, is_foreign_catch, is_unlinked_catch, is_unlinked_catch_by, named_by, is_own_or_above_class};
 
+use crate::above::{OwnClass, is_above};
 use crate::asks::{index_of, is_misused_member, is_special, makes, makes_array, takes_tag};
-use crate::classes::is_marked;
 use crate::kept::{
     is_abstract_class, is_foreign_named, is_interface_class, is_unmakeable_class, kept_at,
     lacks_class, lacks_member,
@@ -36,31 +36,31 @@ pub fn is_foreign(known: &Known<'_>, instr: &Instr) -> bool
 }
 
 // Whether the type is the file's own class or one of its superclasses.
-fn is_own_or_above_class(above: &[bool], class: NamedClass) -> bool
-    ensures { result ≡ is_own_or_above_class above.now class }
+fn is_own_or_above_class(own: OwnClass<'_>, class: NamedClass) -> bool
+    ensures { result ≡ is_own_or_above_class own.entry class }
 {
-    class.dims == 0 && is_marked(above, class.number)
+    class.dims == 0 && is_above(own, class.number)
 }
 
 // Whether it is invokespecial of another method than a constructor that is neither in the own class nor in a superclass.
-fn is_far_special(above: &[bool], instr: &Instr, class: NamedClass, member: NamedMember) -> bool
-    ensures { result ≡ is_far_special above.now instr.now class member }
+fn is_far_special(own: OwnClass<'_>, instr: &Instr, class: NamedClass, member: NamedMember) -> bool
+    ensures { result ≡ is_far_special own.entry instr.now class member }
 {
-    is_special(instr) && !member.is_constructor && !is_own_or_above_class(above, class)
+    is_special(instr) && !member.is_constructor && !is_own_or_above_class(own, class)
 }
 
 // Whether the member isn't what the instruction asks.
 fn is_unlinked_member(
-    above: &[bool],
+    own: OwnClass<'_>,
     instr: &Instr,
     class: Option<NamedClass>,
     member: Option<NamedMember>,
 ) -> bool
-    ensures { result ≡ is_unlinked_member above.now instr.now class member }
+    ensures { result ≡ is_unlinked_member own.entry instr.now class member }
 {
     match (class, member) {
         (Some(class), Some(member)) => {
-            is_misused_member(instr, member) || is_far_special(above, instr, class, member)
+            is_misused_member(instr, member) || is_far_special(own, instr, class, member)
         }
         _ => false,
     }
@@ -95,7 +95,7 @@ fn is_unlinked_named(known: &Known<'_>, instr: &Instr, named: NamedConstant) -> 
 {
     lacks_class(named.class)
         || lacks_member(named.member)
-        || is_unlinked_member(known.above, instr, named.class, named.member)
+        || is_unlinked_member(known.own, instr, named.class, named.member)
         || is_unlinked_class(known.table, instr, named.tag, named.class)
         || (makes(instr) && is_abstract_class(known.table, named.class))
 }

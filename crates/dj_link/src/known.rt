@@ -1,3 +1,4 @@
+use crate::above::OwnClass;
 use crate::named::NamedConstant;
 use dj_linking::ClassTable;
 
@@ -8,8 +9,8 @@ pub struct Known<'a> {
     pub table: &'a ClassTable,
     /// By their numbers, whether no object of a class can be made.
     pub unmakeable: &'a [bool],
-    /// By their numbers, whether a class is the file's or one of its superclasses.
-    pub above: &'a [bool],
+    /// The file's class.
+    pub own: OwnClass<'a>,
     /// What each constant of the file's pool names.
     pub kept: &'a [Option<NamedConstant>],
 }

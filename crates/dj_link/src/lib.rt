@@ -18,7 +18,7 @@ mod named;
 mod passes;
 mod statics;
 
-pub use above::classes_above;
+pub use above::{OwnClass, classes_above};
 pub use classes::unmakeable_classes;
 pub use constants::judge_constants;
 pub use error::LinkError;

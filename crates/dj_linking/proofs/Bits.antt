@@ -1,14 +1,15 @@
 -- Sets of numbers as bits of words.
-use Rattle.std.proofs.Common.{◌≡◌, ℕ, ◌*◌, ◌/◌, ◌%◌, ◌^◌, ◌<◌, Bool, true, false, List, [], ◌∷◌, ◌++◌, length, set, get_or, replicate, nat_eq, bit_and, bit_or, w64, sym, ◌∙◌, ap, subst, inl, inr, arith, get_or-set_other, get_or-set_same, eqb-true, eq-eqb, if◌then◌else◌}
+use Rattle.std.proofs.Common.{◌≡◌, ℕ, ◌*◌, ◌/◌, ◌%◌, ◌^◌, ◌<◌, ◌≤◌, Bool, true, false, List, [], ◌∷◌, ◌++◌, length, set, get_or, replicate, nat_eq, bit_and, bit_or, w64, refl, sym, ◌∙◌, ap, subst, inl, inr, arith, get_or-set_other, get_or-set_same, eqb-true, eq-eqb, if◌then◌else◌}
 use Rattle.std.specs.Global.{Vec}
 use Rattle.std.specs.Int.{bit_at}
 use Rattle.std.proofs.lemmas.Bool.{cases_lt, false≢true, eqb-false}
-use Rattle.std.proofs.lemmas.List.{get_or_past, length-map, map-set}
+use Rattle.std.proofs.lemmas.List.{get_or_past, length-append, length-map, map-append, map-set}
 use Rattle.std.proofs.lemmas.Nat.Bits.{bit_at-lt, bit_at-zero, bit_at_and, bit_at_set_other, bit_at_set_same}
-use Rattle.std.proofs.Math.ListN.{length-replicate, length-set}
+use Rattle.std.proofs.Math.ListN.{get_or-append, length-replicate, length-set}
+use Rattle.std.proofs.Math.Seq.{get_or-append_seam}
 use Rattle.dj_model.proofs.MappedNames.{either}
 use Rattle.dj_linking.specs.Numbers.{has, with_above, with_all, with_new, AreBelow, lists_of}
-use Rattle.dj_linking.specs.Bits.{AreBits, HaveBits, in_bits, words_for}
+use Rattle.dj_linking.specs.Bits.{AreBits, HaveBits, HaveRows, in_bits, words_for}
 use Rattle.dj_linking.proofs.Lists.{all_there, has_right, has_self}
 use Rattle.dj_linking.proofs.Marks.{get_none, has_push_other, item_is}
 
@@ -130,3 +131,63 @@ alone_new lists rows marks list more row class have marked new is same there =
 
 pub bits_row : (lists : List (List ℕ)) (rows : List (Vec ℕ)) (marks : List Bool) (class : ℕ) (found : Vec ℕ) (row : List ℕ) → HaveBits lists (lists_of rows) marks → class < length marks → found ≡ get_or rows class found → row ≡ found.items → row ≡ get_or (lists_of rows) class []
 bits_row lists rows marks class found row have lt is same = let count = length-map rows (λ (l : Vec ℕ). l.items) in same ∙ item_is rows class found (omega (arith, count, have.rows_count, lt)) is
+
+-- ---- bits of lists
+
+pub no_rows : (lists rows : List (Vec ℕ)) → lists ≡ [] → HaveRows (lists_of lists) (lists_of rows)
+no_rows lists rows none = subst (λ (ls : List (Vec ℕ)). HaveRows (lists_of ls) (lists_of rows)) (sym none) (record { each = λ k lt some. absurd (omega (arith, lt)) })
+
+module _ (lists rows : List (List ℕ)) (list : List ℕ) (have : HaveRows lists rows) where
+  -- those of the lists before
+  still_rows : (k : ℕ) (words : List ℕ) → k < length lists → words ≡ get_or rows k [] → 0 < length words → AreBits (get_or (lists ++ list ∷ []) k []) words
+  still_rows k words before is some =
+      subst (λ (xs : List ℕ). AreBits xs words) (sym (get_or-append lists (list ∷ []) [] k before))
+      (subst (AreBits (get_or lists k [])) (sym is) (have.each k before (subst (λ (ws : List ℕ). 0 < length ws) is some)))
+
+  last_place : (k : ℕ) → k < length (lists ++ list ∷ []) → length lists ≤ k → k ≡ length lists
+  last_place k lt after = let count = length-append lists (list ∷ []) in omega (arith, lt, after, count)
+
+  row_put : (words : List ℕ) → AreBits list words → length lists < length rows → HaveRows (lists ++ list ∷ []) (set rows (length lists) words)
+  row_put words are lt = record {
+    each = λ k within some. elim (cases_lt k (length lists)) [
+      | inl before ↦ still_rows k (get_or (set rows (length lists) words) k []) before (get_or-set_other rows (length lists) k words [] (λ e. omega (arith, before, e))) some
+      | inr after ↦
+          subst (λ (j : ℕ). AreBits (get_or (lists ++ list ∷ []) j []) (get_or (set rows (length lists) words) j [])) (sym (last_place k within after))
+          (subst (λ (xs : List ℕ). AreBits xs (get_or (set rows (length lists) words) (length lists) [])) (sym (get_or-append_seam lists list [] []))
+          (subst (AreBits list) (sym (get_or-set_same rows (length lists) words [] lt)) are))
+    ];
+  }
+
+  row_left_out : length rows ≤ length lists → HaveRows (lists ++ list ∷ []) rows
+  row_left_out past = record {
+    each = λ k within some. elim (cases_lt k (length lists)) [
+      | inl before ↦ still_rows k (get_or rows k []) before refl some
+      | inr after ↦
+          (let last = last_place k within after in
+          let none : get_or rows k [] ≡ [] = get_or_past rows k [] (omega (arith, last, past)) in
+          let zero = ap length none in
+          absurd (omega (arith, some, zero)))
+    ];
+  }
+
+-- the same by the lists as the code holds them
+
+lists_with : (lists : List (Vec ℕ)) (list : Vec ℕ) → lists_of (lists ++ list ∷ []) ≡ lists_of lists ++ list.items ∷ []
+lists_with lists list = map-append (λ (l : Vec ℕ). l.items) lists (list ∷ [])
+
+pub bits_put : (lists others rows : List (Vec ℕ)) (list words : Vec ℕ) (place : ℕ) → HaveRows (lists_of lists) (lists_of rows) → AreBits list.items words.items → others ≡ lists ++ list ∷ [] → place ≡ length lists → place < length rows
+    → HaveRows (lists_of others) (lists_of (set rows place words))
+bits_put lists others rows list words place have are is at lt =
+    let many = length-map lists (λ (l : Vec ℕ). l.items) in
+    let count = length-map rows (λ (l : Vec ℕ). l.items) in
+    let index : place ≡ length (lists_of lists) = omega (arith, many, at) in
+    subst (λ (ls : List (List ℕ)). HaveRows ls (lists_of (set rows place words))) (sym (ap lists_of is ∙ lists_with lists list))
+    (subst (λ (rs : List (List ℕ)). HaveRows (lists_of lists ++ list.items ∷ []) rs) (sym (map-set (λ (l : Vec ℕ). l.items) rows place words ∙ ap (λ (n : ℕ). set (lists_of rows) n words.items) index))
+    (row_put (lists_of lists) (lists_of rows) list.items have words.items are (omega (arith, index, count, lt))))
+
+pub bits_left_out : (lists others rows : List (Vec ℕ)) (list : Vec ℕ) → HaveRows (lists_of lists) (lists_of rows) → others ≡ lists ++ list ∷ [] → length rows ≤ length lists → HaveRows (lists_of others) (lists_of rows)
+bits_left_out lists others rows list have is past =
+    let many = length-map lists (λ (l : Vec ℕ). l.items) in
+    let count = length-map rows (λ (l : Vec ℕ). l.items) in
+    subst (λ (ls : List (List ℕ)). HaveRows ls (lists_of rows)) (sym (ap lists_of is ∙ lists_with lists list))
+    (row_left_out (lists_of lists) (lists_of rows) list.items have (omega (arith, many, count, past)))

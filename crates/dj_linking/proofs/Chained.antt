@@ -3,6 +3,7 @@ use Rattle.std.proofs.Common.{◌≡◌, ℕ, zero, suc, ◌+◌, ◌-◌, ◌<�
 use Rattle.std.specs.Prelude.{Err, IfOk, Ok, OnOk, Result, option_and_then}
 use Rattle.std.specs.Global.{Vec}
 use Rattle.std.specs.List.{flat_map}
+use Rattle.std.specs.Option.{option_map}
 use Rattle.std.proofs.lemmas.Bool.{cases_lt, false≢true, eqb-false}
 use Rattle.std.proofs.lemmas.Option.{get_or_from_slice_get, same_Some, slice_get_within, none-some}
 use Rattle.std.proofs.lemmas.List.{get_or_past, length-map, nil_from_length}
@@ -29,7 +30,7 @@ one_up program n class next is = ap (λ (o : Option ℕ). class ∷ numbers_up n
 pub up_one : (program : Program) (class : ℕ) → numbers_up most_classes program (Some class) ≡ class ∷ numbers_up most_above program (super_number program class)
 up_one program class = ap (λ (n : ℕ). numbers_up n program (Some class)) one_more_level ∙ one_up program most_above class (super_number program class) refl
 
-short_more : (program : Program) (levels class : ℕ) → IsShort program levels class → IsShort program (levels + 1) class
+pub short_more : (program : Program) (levels class : ℕ) → IsShort program levels class → IsShort program (levels + 1) class
 short_more program levels class short = record {
   same = λ n.
       (let more : n + (levels + 1) ≡ (n + 1) + levels = omega arith in
@@ -59,7 +60,7 @@ short_next program levels class next is short = record {
       ∙ sym (ap (λ (m : ℕ). numbers_up m program (Some class)) one ∙ one_up program levels class (Some next) is));
 }
 
-short_at : (program : Program) (levels class m : ℕ) → IsShort program levels class → levels ≤ m → numbers_up m program (Some class) ≡ numbers_up levels program (Some class)
+pub short_at : (program : Program) (levels class m : ℕ) → IsShort program levels class → levels ≤ m → numbers_up m program (Some class) ≡ numbers_up levels program (Some class)
 short_at program levels class m short le =
     let whole : m ≡ (m - levels) + levels = omega arith in
     ap (λ (n : ℕ). numbers_up n program (Some class)) whole ∙ short.same (m - levels)
@@ -68,7 +69,7 @@ up_first : (program : Program) (class : ℕ) → super_number program class ≡ 
 up_first program class is =
     ap (λ (n : ℕ). numbers_up n program (Some class)) one_more_level ∙ one_up program most_above class None is ∙ ap (λ (ks : List ℕ). class ∷ ks) (no_numbers_up most_above program)
 
-up_next : (program : Program) (levels class next : ℕ) → super_number program class ≡ Some next → IsShort program levels next → levels < 2 ^ 32
+pub up_next : (program : Program) (levels class next : ℕ) → super_number program class ≡ Some next → IsShort program levels next → levels < 2 ^ 32
     → numbers_up most_classes program (Some class) ≡ class ∷ numbers_up most_classes program (Some next)
 up_next program levels class next is short lt =
     let most = most_above_is in
@@ -100,7 +101,7 @@ once_shared program row levels class next is short lt empty =
     ∙ all_of_places [] (flat_map row (numbers_up most_classes program (Some next))))
 
 -- a class and its superclasses are there
-up_within : (n : ℕ) (program : Program) (next : Option ℕ) → IfSome next (λ k. k < length program) → AreBelow (length program) (numbers_up n program next)
+pub up_within : (n : ℕ) (program : Program) (next : Option ℕ) → IfSome next (λ k. k < length program) → AreBelow (length program) (numbers_up n program next)
 unfolding numbers_up
 up_within zero program next within z there = absurd (false≢true there)
 up_within (suc n) program None within z there = absurd (false≢true there)
@@ -219,6 +220,14 @@ list_told program row lists places class list are told = go (get_or places class
   go : (o : Option ℕ) → get_or places class None ≡ o → Some list ≡ option_and_then (slice_get lists) o → list ≡ once_up program row class
   go None is told = absurd (none-some list (sym told))
   go (Some p) is told = same_Some list (once_up program row class) (told ∙ are.each class p is)
+
+-- whether it has a number
+pub has_told : (program : Program) (row : ℕ → List ℕ) (lists : List (List ℕ)) (places : List (Option ℕ)) (class number : ℕ) (there : Bool) → AreChained program row lists places
+    → Some there ≡ option_map (λ list. has list number) (option_and_then (slice_get lists) (get_or places class None)) → there ≡ has (once_up program row class) number
+has_told program row lists places class number there are told = go (option_and_then (slice_get lists) (get_or places class None)) refl told where
+  go : (o : Option (List ℕ)) → option_and_then (slice_get lists) (get_or places class None) ≡ o → Some there ≡ option_map (λ list. has list number) o → there ≡ has (once_up program row class) number
+  go None is told = absurd (none-some there (sym told))
+  go (Some list) is told = same_Some there (has list number) told ∙ ap (λ (xs : List ℕ). has xs number) (list_told program row lists places class list are (sym is))
 
 -- ---- one class
 

@@ -120,10 +120,10 @@ walked_out f program start i next walked le =
 
 -- ---- flags
 
-private_test : (flags : ℕ) → nat_eq (bit_and flags 2) 0 ≡ not (is_private flags)
+pub private_test : (flags : ℕ) → nat_eq (bit_and flags 2) 0 ≡ not (is_private flags)
 private_test flags = let bit = and_pow flags 1 in let lt = bit_at-lt flags 1 in grind (arith, nat_tests)
 
-static_test : (flags : ℕ) → nat_eq (bit_and flags 8) 0 ≡ not (is_static flags)
+pub static_test : (flags : ℕ) → nat_eq (bit_and flags 8) 0 ≡ not (is_static flags)
 static_test flags = let bit = and_pow flags 3 in let lt = bit_at-lt flags 3 in grind (arith, nat_tests)
 
 pub interface_test : (flags : ℕ) → nat_eq (bit_and flags 512) 0 ≡ not (is_interface flags)
@@ -207,3 +207,6 @@ of_superclasses f test interfaces others t is told = rw is told
 
 pub static_clear : (flags : ℕ) → bit_and flags 8 ≡ 0 → is_static flags ≡ false
 static_clear flags none = cleared (is_static flags) (bit_and flags 8) (static_test flags) none
+
+pub private_clear : (flags : ℕ) → bit_and flags 2 ≡ 0 → is_private flags ≡ false
+private_clear flags none = cleared (is_private flags) (bit_and flags 2) (private_test flags) none

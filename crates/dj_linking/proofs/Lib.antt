@@ -6,7 +6,10 @@ pub mod Knowing
 pub mod Levels
 pub mod Listed
 pub mod Lists
+pub mod Marking
 pub mod Marks
+pub mod Nearing
+pub mod Ranking
 pub mod Resolution
 pub mod Searches
 pub mod Selections
@@ -15,5 +18,6 @@ pub mod Subclasses
 pub mod Walks
 pub mod Numbered
 pub mod Unnumbered
+pub mod Calling
 mod LinkedFacts
 mod ListedFacts

@@ -11,10 +11,11 @@ use Rattle.dj_classes.specs.Tables.{super_number}
 use Rattle.dj_linking.specs.Numbers.{has, AreBelow, field_found, field_in_class, first_some, most_above, numbers_above, numbers_up, once_above}
 use Rattle.dj_linking.specs.Chained.{field_row, has_field, once_up}
 use Rattle.dj_linking.proofs.Chained.{up_one}
-use Rattle.dj_linking.proofs.Lists.{has_cases, has_here, has_left, has_more}
+use Rattle.dj_linking.proofs.Lists.{has_cases, has_here, has_left, has_more, has_right}
 use Rattle.dj_linking.proofs.Marks.{once_below}
 use Rattle.dj_linking.proofs.Searches.{first_places_found, first_some_alike, first_some_flat}
 use Rattle.dj_linking.proofs.Subclasses.{has_after, has_apart, has_places, in_turn}
+use Rattle.dj_linking.proofs.Walks.{no_numbers_up}
 
 -- ---- methods
 
@@ -82,7 +83,7 @@ has_flat_alike : (f g : ℕ → List ℕ) (k : ℕ) → ((x : ℕ) → has (f x)
 has_flat_alike f g k same [] = refl
 has_flat_alike f g k same (x ∷ xs) = has_both (f x) (flat_map f xs) (g x) (flat_map g xs) k (same x) (has_flat_alike f g k same xs)
 
-pub listed_above : (program : Program) (class other : ℕ)
+listed_above : (program : Program) (class other : ℕ)
     → has (numbers_up most_classes program (Some class) ++ once_up program (once_above program) class) other
     ≡ has (flat_map (λ k. k ∷ numbers_above program k) (numbers_up most_classes program (Some class))) other
 listed_above program class other =
@@ -91,14 +92,31 @@ listed_above program class other =
     (has_places (flat_map (once_above program) up) other ∙ has_flat_alike (once_above program) (numbers_above program) other (λ x. has_places (numbers_above program x) other) up)
     ∙ in_turn (numbers_above program) up other
 
-pub listed_itself : (program : Program) (list : List ℕ) (class other : ℕ) → class ≡ other → has (numbers_up most_classes program (Some class) ++ list) other ≡ true
-listed_itself program list class other same = rw (up_one program class) (has_here (numbers_up most_above program (super_number program class) ++ list) class other same)
+-- what is in the list of a class is above it, and what isn't is one of its superclasses or not
+pub listed_there : (program : Program) (class other : ℕ) → has (once_up program (once_above program) class) other ≡ true
+    → has (flat_map (λ k. k ∷ numbers_above program k) (numbers_up most_classes program (Some class))) other ≡ true
+listed_there program class other there =
+    sym (listed_above program class other) ∙ has_right (numbers_up most_classes program (Some class)) (once_up program (once_above program) class) other there
 
-pub listed_super : (program : Program) (list : List ℕ) (class other : ℕ) → has (numbers_up most_above program (super_number program class)) other ≡ true → has (numbers_up most_classes program (Some class) ++ list) other ≡ true
-listed_super program list class other there =
-    rw (up_one program class) (has_more (numbers_up most_above program (super_number program class) ++ list) class other (has_left (numbers_up most_above program (super_number program class)) list other there))
+so_else : (b c : Bool) → c ≡ false → (if b then true else c) ≡ b
+so_else true c none = refl
+so_else false c none = none
 
-pub listed_among : (program : Program) (list : List ℕ) (class other : ℕ) → (class ≡ other → ⊥) → has (numbers_up most_above program (super_number program class)) other ≡ false
-    → has (numbers_up most_classes program (Some class) ++ list) other ≡ has list other
-listed_among program list class other apart none =
-    rw (up_one program class) (has_apart (numbers_up most_above program (super_number program class) ++ list) class other apart ∙ has_after (numbers_up most_above program (super_number program class)) list other none)
+pub not_listed : (program : Program) (class other : ℕ) → has (once_up program (once_above program) class) other ≡ false
+    → has (numbers_up most_classes program (Some class)) other ≡ has (flat_map (λ k. k ∷ numbers_above program k) (numbers_up most_classes program (Some class))) other
+not_listed program class other none =
+    let up : List ℕ = numbers_up most_classes program (Some class) in
+    sym (so_else (has up other) (has (once_up program (once_above program) class) other) none)
+    ∙ sym (has_append up (once_up program (once_above program) class) other)
+    ∙ listed_above program class other
+
+-- ---- superclasses
+
+pub up_itself : (program : Program) (class other : ℕ) → class ≡ other → has (numbers_up most_classes program (Some class)) other ≡ true
+up_itself program class other same = rw (up_one program class) (has_here (numbers_up most_above program (super_number program class)) class other same)
+
+pub up_apart : (program : Program) (class other : ℕ) → (class ≡ other → ⊥) → has (numbers_up most_classes program (Some class)) other ≡ has (numbers_up most_above program (super_number program class)) other
+up_apart program class other apart = ap (λ (ks : List ℕ). has ks other) (up_one program class) ∙ has_apart (numbers_up most_above program (super_number program class)) class other apart
+
+pub nothing_above : (program : Program) (class other : ℕ) → super_number program class ≡ None → false ≡ has (numbers_up most_above program (super_number program class)) other
+nothing_above program class other none = sym (ap (λ (o : Option ℕ). has (numbers_up most_above program o) other) none ∙ ap (λ (ks : List ℕ). has ks other) (no_numbers_up most_above program))

@@ -11,8 +11,9 @@ use Rattle.dj_model.specs.Program.{Program, Class, Field, Method}
 use Rattle.dj_model.specs.Linking.{most_classes, any_method, FoundMethod, FoundField}
 use Rattle.dj_model.specs.Rows.{class_with, field_with, method_with, code}
 use Rattle.dj_classes.specs.declared.place.Place.{Place}
-use Rattle.dj_linking.specs.Bits.{in_bits, AreBits, words_for, HaveBits}
+use Rattle.dj_linking.specs.Bits.{in_bits, AreBits, words_for, HaveBits, HaveRows}
 use Rattle.dj_linking.specs.Chained.{AreRows, has_field, field_row, once_up, known_count, AreChained, row_at}
+use Rattle.dj_linking.specs.Marked.{is_plain_at, IsCovered}
 use Rattle.dj_linking.specs.Numbers.{has, with_new, first_places, numbers_from, numbers_above, once_above, numbers_up, with_above, AreAbove, marked_count, AreBelow, first_some, method_found, field_found, TellsMethod, TellsField, AreInside, IsNamed}
 
 -- ---- a program
@@ -187,6 +188,22 @@ words_left_out have = let e : 0 ≡ 1 = have.words 0 refl in omega (arith, e)
 bits_of_other : HaveBits ((0 ∷ []) ∷ []) ((0 ∷ []) ∷ []) (true ∷ []) → ⊥
 bits_of_other have = false≢true (have.each 0 refl 0)
 
+abbrev one_list : List (List ℕ)
+one_list = (0 ∷ []) ∷ []
+
+abbrev bare_rows : List (List ℕ)
+bare_rows = [] ∷ []
+
+-- a list without a row
+no_row : HaveRows one_list bare_rows
+no_row = record { each = each } where
+  each : (k : ℕ) → k < length one_list → 0 < length (get_or bare_rows k []) → AreBits (get_or one_list k []) (get_or bare_rows k [])
+  each zero lt some = absurd (omega (arith, some))
+  each (suc k) lt some = absurd (omega (arith, lt))
+
+row_of_other : HaveRows one_list one_list → ⊥
+row_of_other have = false≢true (have.each 0 (omega arith) (omega arith) 0)
+
 -- ---- bounds
 
 below : AreBelow 0 [] × AreBelow 3 (2 ∷ [])
@@ -249,6 +266,19 @@ told_of_none e = none-some (Some found_m) (sym e)
 
 field_past_end : TellsField program (Some (place 1 0)) (Some found_x) → ⊥
 field_past_end e = none-some found_x (same_Some None (Some found_x) e)
+
+-- one that isn't there is not plain
+plain : map (is_plain_at program 0) (0 ∷ 1 ∷ []) ≡ true ∷ false ∷ []
+plain = refl
+
+-- the item 1 is there, and its bit isn't set
+one_not_covered : IsCovered item 2 (1 ∷ []) → ⊥
+one_not_covered covered = none-some 8 (sym (covered 1 (omega arith) refl))
+
+covered_by_two : IsCovered item 2 (3 ∷ [])
+covered_by_two zero lt unset = absurd (false≢true (sym unset))
+covered_by_two (suc zero) lt unset = absurd (false≢true (sym unset))
+covered_by_two (suc (suc k)) lt unset = absurd (omega (arith, lt))
 
 named : IsNamed program (place 0 0) found_m (codes "m") (described_as.Method [] None)
 named = record { there = refl; named = refl; described = refl }

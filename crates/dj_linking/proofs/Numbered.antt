@@ -52,11 +52,11 @@ pub method_told : (program : Program) (class : ℕ) (name : Name) (desc : Desc) 
     → TellsMethod program (Some (record { class = class; member = member })) (method_found program any_method name desc class)
 method_told program class name desc member is = told_method (slice_get program class) member name desc (method_found_at program class name desc (Some member) is)
 
-none_in_class : (test : Method → Bool) (o : Option Class) (name : Name) (desc : Desc) → method_in (methods_of o) name desc ≡ None → None ≡ option_map Some (method_in_class test name desc o)
+pub none_in_class : (test : Method → Bool) (o : Option Class) (name : Name) (desc : Desc) → method_in (methods_of o) name desc ≡ None → None ≡ option_map Some (method_in_class test name desc o)
 none_in_class test None name desc none = refl
 none_in_class test (Some c) name desc none = rw none refl
 
-no_method : (program : Program) (class : ℕ) (name : Name) (desc : Desc) → None ≡ method_place (methods_at program class) name desc → method_in (methods_at program class) name desc ≡ None
+pub no_method : (program : Program) (class : ℕ) (name : Name) (desc : Desc) → None ≡ method_place (methods_at program class) name desc → method_in (methods_at program class) name desc ≡ None
 no_method program class name desc is = told_none (method_in (methods_at program class) name desc) (method_found_at program class name desc None is)
 
 pub no_method_told : (program : Program) (class : ℕ) (name : Name) (desc : Desc) → None ≡ method_place (methods_at program class) name desc → TellsMethod program None (method_found program any_method name desc class)

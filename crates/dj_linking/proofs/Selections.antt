@@ -79,7 +79,7 @@ module _ (program : Program) (place : Place) (found : FoundMethod) (there : meth
   abbrev methods : List Method
   methods = methods_at program place.class
 
-  own : {B : Type 0} (g : Method → B) (x : B) → Some x ≡ option_map g (slice_get methods place.member) → x ≡ g found.method
+  pub own : {B : Type 0} (g : Method → B) (x : B) → Some x ≡ option_map g (slice_get methods place.member) → x ≡ g found.method
   own g x told = elim (found_there program place found there) [
     | Is lt within at ↦ told_of g methods place.member found.method x at told
   ]
@@ -90,7 +90,7 @@ module _ (program : Program) (place : Place) (found : FoundMethod) (there : meth
   pub not_private_there : (flags : ℕ) → Some flags ≡ option_map method_flags (slice_get methods place.member) → bit_and flags 2 ≡ 0 → is_private found.method.flags ≡ false
   not_private_there flags told none = ap is_private (sym (own method_flags flags told)) ∙ private_clear flags none
 
-  described_there : (desc : Name) → IfSome (slice_get methods place.member) (λ m. Describes desc m.desc) → Describes desc found.method.desc
+  pub described_there : (desc : Name) → IfSome (slice_get methods place.member) (λ m. Describes desc m.desc) → Describes desc found.method.desc
   described_there desc told = elim (found_there program place found there) [
     | Is lt within at ↦ subst (λ (o : Option Method). IfSome o (λ m. Describes desc m.desc)) at told
   ]

@@ -129,6 +129,12 @@ subclass_numbers program class ancestor differ lt there =
     ∙ ap (λ (ks : List ℕ). numbers_up most_classes program (Some class) ++ ks) (above_numbers program class differ lt))
     ∙ in_turn (numbers_above program) (numbers_up most_classes program (Some class)) ancestor
 
+pub chain_numbers : (program : Program) (class other : ℕ) → DoNamesDiffer program → class < length program → other < length program
+    → is_among (chain program (class_name program class)) (class_name program other) ≡ has (numbers_up most_classes program (Some class)) other
+chain_numbers program class other differ lt there =
+    among_numbers program (chain program (class_name program class)) (class_name program other) other (number_of_name program other differ there)
+    ∙ ap (λ (ks : List ℕ). has ks other) (numbers_of_class program class differ lt)
+
 -- ---- one number among others
 
 found_among : (k : ℕ) (xs : List ℕ) → is_some (first_some (λ x. where_so k (nat_eq x k)) xs) ≡ has xs k

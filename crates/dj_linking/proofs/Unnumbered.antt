@@ -1,12 +1,12 @@
 -- What no class declares resolves nowhere.
-use Rattle.std.proofs.Common.{◌≡◌, ◌<◌, ℕ, Bool, true, false, List, [], ◌∷◌, ◌+◌, length, Option, Some, None, slice_get, refl, sym, ap, ◌∙◌}
+use Rattle.std.proofs.Common.{◌≡◌, ◌<◌, ℕ, Bool, true, false, List, [], ◌∷◌, ◌+◌, length, Option, Some, None, slice_get, refl, ap, ◌∙◌}
 use Rattle.std.specs.Prelude.{if◌then◌else◌}
 use Rattle.std.specs.Option.{option_map}
 use Rattle.dj_names.specs.declared.descriptor.Desc.{Desc}
 use Rattle.dj_names.specs.Types.{Name}
-use Rattle.dj_model.specs.Program.{Program, Class, Method, Field, method_in, field_in, is_named, is_interface, fields_of, flags_of}
+use Rattle.dj_model.specs.Program.{Class, Method, Field, method_in, field_in, is_named, is_interface, fields_of, flags_of}
 use Rattle.dj_model.specs.Types.{object_name}
-use Rattle.dj_model.specs.Linking.{FoundMethod, FoundField, any_method, is_plain, most_classes, option_list, or_else, method_or, field_or}
+use Rattle.dj_model.specs.Linking.{any_method, is_plain, most_classes, option_list, or_else, method_or, field_or}
 use Rattle.dj_declared.specs.Files.{desc_in}
 use Rattle.dj_declared.specs.Members.{method_place, field_place}
 use Rattle.dj_classes.specs.Tables.{class_number, methods_at, methods_of, fields_at}

@@ -1,5 +1,5 @@
 -- Sets of numbers as bits of words.
-use Rattle.std.specs.Prelude.{◌≡◌, ℕ, ◌+◌, ◌/◌, ◌%◌, Bool, true, false, List, [], length, nat_eq, get_or}
+use Rattle.std.specs.Prelude.{◌≡◌, ℕ, ◌+◌, ◌<◌, ◌/◌, ◌%◌, Bool, true, false, List, [], length, nat_eq, get_or}
 use Rattle.std.specs.Int.{bit_at}
 use Rattle.dj_linking.specs.Numbers.{has}
 
@@ -20,3 +20,7 @@ pub record HaveBits (lists rows : List (List ℕ)) (marks : List Bool) : Type 0 
   pub rows_count : length rows ≡ length marks
   pub each : (k : ℕ) → get_or marks k false ≡ true → AreBits (get_or lists k []) (get_or rows k [])
   pub words : (k : ℕ) → get_or marks k false ≡ true → length (get_or rows k []) ≡ words_for (length marks)
+
+-- where a list has a row of bits, they are the list's
+pub record HaveRows (lists rows : List (List ℕ)) : Type 0 where
+  pub each : (k : ℕ) → k < length lists → 0 < length (get_or rows k []) → AreBits (get_or lists k []) (get_or rows k [])

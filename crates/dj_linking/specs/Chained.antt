@@ -5,7 +5,7 @@ use Rattle.dj_model.specs.Program.{Program}
 use Rattle.dj_model.specs.Linking.{most_classes}
 use Rattle.dj_classes.specs.Tables.{fields_at}
 use Rattle.dj_linking.specs.declared.chains.Chains.{Chains}
-use Rattle.dj_linking.specs.Numbers.{AreAbove, first_places, lists_of, numbers_up, once_above}
+use Rattle.dj_linking.specs.Numbers.{first_places, lists_of, numbers_up, once_above}
 
 -- ---- rows
 
@@ -64,9 +64,3 @@ AreMethodChains program chains = AreListsOf program (once_above program) chains
 -- for each class those that declare a field: the class, the interfaces above it, its superclass, the interfaces above that, and so on
 abbrev pub AreFieldChains : Program → Chains → Type 0
 AreFieldChains program chains = AreListsOf program (field_row program) chains
-
--- all that resolution looks in
-pub record AreLists (program : Program) (lists : List (List ℕ)) (method_chains field_chains : Chains) : Type 0 where
-  pub above : AreAbove program lists
-  pub methods : AreMethodChains program method_chains
-  pub fields : AreFieldChains program field_chains

@@ -1,5 +1,9 @@
 pub mod Bits
+pub mod Called
 pub mod Chained
 pub mod Linked
+pub mod Marked
+pub mod Nearest
 pub mod Numbers
 pub mod Numbered
+pub mod Ranked

@@ -1,24 +1,15 @@
-ghost use Rattle.std.specs.Prelude.{◌≡◌, ◌<◌, ◌∷◌, ◌++◌, length, Some, flat_map};
+ghost use Rattle.std.specs.Prelude.{◌≡◌, ◌<◌, ◌∷◌, length, Some, flat_map};
 ghost use Rattle.dj_model.specs.Linking.{most_classes};
 ghost use Rattle.dj_linking.specs.Chained.{AreMethodChains};
 ghost use Rattle.dj_linking.specs.Numbers.{AreAbove, has, lists_of, numbers_above, numbers_up};
+ghost use Rattle.dj_linking.specs.Ranked.{AreRanksOf};
 
 use crate::chains::Chains;
 use crate::find::MOST_CLASSES;
-use crate::special::is_superclass;
+use crate::numbers::is_among;
+use crate::ranked::Ranks;
+use crate::special::is_own_or_superclass;
 use dj_classes::ClassTable;
-
-// Whether the class is one of these.
-fn is_among(classes: &[u32], class: u32) -> bool
-    ensures { result ≡ has classes.now class }
-{
-    for other in classes {
-        if *other == class {
-            return true;
-        }
-    }
-    false
-}
 
 // Whether a class is the other one, or that is one of the interfaces above it.
 fn is_at(table: &ClassTable, above: &[Vec<u32>], class: u32, other: u32) -> bool
@@ -51,32 +42,24 @@ fn is_above_by_class(table: &ClassTable, above: &[Vec<u32>], class: u32, other: 
     false
 }
 
-// Whether a class is the other one, or that is one of its superclasses or one of the list.
-fn is_listed(table: &ClassTable, list: &[u32], class: u32, other: u32) -> bool
-    requires { class < length table.now }
-    ensures { result ≡ has (numbers_up most_classes table.now (Some class) ++ list.now) other }
-{
-    if class == other || is_superclass(table, class, other) {
-        return true;
-    }
-    is_among(list, other)
-}
-
 /// Whether a class is the other one, or that is above it.
 pub fn is_above(
     table: &ClassTable,
     above: &[Vec<u32>],
     methods: &Chains,
+    ranks: &Ranks,
     class: u32,
     other: u32,
 ) -> bool
     requires there { class < length table.now }
+    requires ranks { AreRanksOf table.now ranks.now }
     requires above { AreAbove table.now (lists_of above.now) }
     requires methods { AreMethodChains table.now methods.now }
     ensures { result ≡ has (flat_map (λ k. k ∷ numbers_above table.now k) (numbers_up most_classes table.now (Some class))) other }
 {
-    match methods.list_of(class) {
-        Some(list) => is_listed(table, list, class, other),
+    match methods.has(class, other) {
+        Some(true) => true,
+        Some(false) => is_own_or_superclass(table, ranks, class, other),
         // Its superclasses go round.
         None => is_above_by_class(table, above, class, other),
     }

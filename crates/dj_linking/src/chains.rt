@@ -1,10 +1,11 @@
-ghost use Rattle.std.specs.Prelude.{◌≡◌, ◌<◌, ◌^◌, ◌++◌, ◌∷◌, [], length, replicate, set, Some, None, IfOk, OnOk, slice_get, get_or, option_and_then};
-ghost use Rattle.std.specs.Option.{option_map};
-ghost use Rattle.dj_classes.specs.Tables.{super_number};
-ghost use Rattle.dj_linking.specs.Numbers.{AreBelow, AreInside, first_places, lists_of, with_all};
-ghost use Rattle.dj_linking.specs.Chained.{AreLearnt, AreListsOf, row_at};
+ghost use Rattle.std.specs.Prelude.{◌≡◌, IfOk};
+ghost use Rattle.dj_linking.specs.Bits.{HaveRows};
+ghost use Rattle.dj_linking.specs.Numbers.{AreBelow, first_places, lists_of, with_all};
 
-use crate::numbers::Numbers;
+use crate::empty::empty_rows;
+use crate::numbers::{Numbers, is_among};
+use crate::ranked::MOST_ROWS;
+use crate::words::may_have_bit;
 use dj_classes::{ClassTable, TableError};
 use std::alloc::Global;
 
@@ -13,42 +14,57 @@ use std::alloc::Global;
 pub struct Chains {
     pub lists: Vec<Vec<u32>>,
     pub places: Vec<Option<usize>>,
+    // By the places of lists, their numbers as bits. Where there are too many classes there are none.
+    bits: Vec<Vec<u64>>,
+    ghost marked: { HaveRows (lists_of lists.items) (lists_of bits.items) },
 }
 
 // The numbers of both lists, each once, where it comes first.
-fn joined(alloc: Global, bound: usize, row: &[u32], above: &[u32]) -> Result<Vec<u32>, TableError>
+fn joined(alloc: Global, bound: usize, row: &[u32], above: &[u32]) -> Result<Numbers, TableError>
     requires row { AreBelow bound row.now }
     requires above { AreBelow bound above.now }
-    ensures { IfOk result (λ list. list.items ≡ with_all (first_places row.now) above.now) }
+    ensures { IfOk result (λ numbers. numbers.list.items ≡ with_all (first_places row.now) above.now) }
 {
     let mut numbers = Numbers::below(alloc, bound)?;
     numbers.add_all(row)?;
     numbers.add_all(above)?;
-    let Numbers { list, bits: _ } = numbers;
-    Ok(list)
+    Ok(numbers)
 }
 
 impl Chains {
+    ghost use Rattle.std.specs.Prelude.{◌<◌, ◌^◌, ◌++◌, ◌∷◌, [], length, replicate, set, Some, None, IfSome, OnOk, slice_get, get_or, option_and_then};
+    ghost use Rattle.std.specs.Option.{option_map};
+    ghost use Rattle.dj_classes.specs.Tables.{super_number};
+    ghost use Rattle.dj_linking.specs.Numbers.{AreInside, has};
+    ghost use Rattle.dj_linking.specs.Chained.{AreLearnt, AreListsOf, row_at};
+
     // No list is known.
     fn none(alloc: Global, count: usize) -> Result<Chains, TableError>
         ensures lists { IfOk result (λ chains. lists_of chains.lists.items ≡ []) }
         ensures places { IfOk result (λ chains. chains.places.items ≡ replicate count None) }
     {
         let places = vec![in alloc; None; count]?;
+        let with_bits = if count > MOST_ROWS as usize { 0 } else { count };
+        let bits = empty_rows(alloc, with_bits)?;
         Ok(Chains {
             lists: Vec::new(alloc),
             places,
+            bits,
         })
     }
 
     // A class has a list of its own.
-    fn put(&mut self, class: u32, list: Vec<u32>) -> Result<(), TableError>
+    fn put(&mut self, class: u32, numbers: Numbers) -> Result<(), TableError>
         requires { class < length self.old.places.items }
-        ensures lists { OnOk result (lists_of self.new.lists.items ≡ lists_of self.old.lists.items ++ list.items ∷ []) }
+        ensures lists { OnOk result (lists_of self.new.lists.items ≡ lists_of self.old.lists.items ++ numbers.list.items ∷ []) }
         ensures places { OnOk result (self.new.places.items ≡ set self.old.places.items class (Some (length (lists_of self.old.lists.items)))) }
     {
+        let Numbers { list, bits } = numbers;
         let place = self.lists.len();
         self.lists.push(list)?;
+        if place < self.bits.len() {
+            self.bits[place] = bits;
+        }
         self.places[class as usize] = Some(place);
         Ok(())
     }
@@ -78,8 +94,8 @@ impl Chains {
             self.places[class as usize] = Some(place);
             return Ok(());
         }
-        let list = joined(alloc, rows.len(), row, &self.lists[place])?;
-        self.put(class, list)
+        let numbers = joined(alloc, rows.len(), row, &self.lists[place])?;
+        self.put(class, numbers)
     }
 
     // The list of a class, where that of its superclass is known.
@@ -102,8 +118,8 @@ impl Chains {
         if let Some(next) = table.super_of(class) {
             return self.learn_below(alloc, table, rows, class, next);
         }
-        let list = joined(alloc, rows.len(), &rows[class as usize], &[])?;
-        self.put(class, list)
+        let numbers = joined(alloc, rows.len(), &rows[class as usize], &[])?;
+        self.put(class, numbers)
     }
 
     /// The lists of the classes, which come in this order: one that comes before its superclass has none.
@@ -133,6 +149,32 @@ impl Chains {
         match self.lists.get(place) {
             Some(list) => Some(list.as_slice()),
             None => None,
+        }
+    }
+
+    // Whether the list at a place has this number, where it has bits.
+    fn has_bit_at(&self, place: usize, number: u32) -> Option<bool>
+        requires { place < length (lists_of self.now.lists.items) }
+        ensures { IfSome result (λ there. there ≡ has (get_or (lists_of self.now.lists.items) place []) number) }
+    {
+        let row = self.bits.get(place)?;
+        if row.is_empty() {
+            return None;
+        }
+        Some(may_have_bit(row, number))
+    }
+
+    /// Whether the list of a class has this number, where the list is known.
+    pub fn has(&self, class: u32, number: u32) -> Option<bool>
+        requires { class < length self.now.places.items }
+        ensures { result ≡ option_map (λ list. has list number) (option_and_then (slice_get (lists_of self.now.lists.items)) (get_or self.now.places.items class None)) }
+    {
+        let place = self.places[class as usize]?;
+        let list = self.lists.get(place)?;
+        match self.has_bit_at(place, number) {
+            Some(there) => Some(there),
+            // There are too many classes for bits.
+            None => Some(is_among(list, number)),
         }
     }
 }

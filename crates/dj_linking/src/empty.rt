@@ -17,7 +17,8 @@ pub fn empty_lists(alloc: Global, count: usize) -> Result<Vec<Vec<u32>>, TableEr
 
 /// As many rows of words, with nothing in them.
 pub fn empty_rows(alloc: Global, count: usize) -> Result<Vec<Vec<u64>>, TableError>
-    ensures { IfOk result (λ rows. length (lists_of rows.items) ≡ count) }
+    ensures count { IfOk result (λ rows. length (lists_of rows.items) ≡ count) }
+    ensures none { IfOk result (λ rows. lists_of rows.items ≡ replicate count []) }
 {
     let mut rows = Vec::new(alloc);
     for _ in 0..count {

@@ -1,19 +1,32 @@
 //! Members found by the numbers of their names and descriptors.
-ghost use Rattle.std.specs.Prelude.{◌≡◌, ℕ, List, ◌<◌, length, Some, IfSome, slice_get, if◌then◌else◌, ◌∷◌};
+ghost use Rattle.std.specs.Prelude.{◌≡◌, ℕ, List, ◌<◌, ◌≤◌, ◌*◌, true, false, Contains, length, Some, IfSome, MatchOption, slice_get, if◌then◌else◌, ◌∷◌};
 ghost use Rattle.std.specs.Option.{option_map};
 ghost use Rattle.dj_model.specs.Program.{is_interface, flags_of};
 ghost use Rattle.dj_model.specs.Linking.{any_method, is_plain, most_classes, option_list};
 ghost use Rattle.dj_declared.specs.Files.{desc_in};
 ghost use Rattle.dj_declared.specs.Members.{method_flags};
 ghost use Rattle.dj_classes.specs.Tables.{flags_in, super_number, methods_at};
+ghost use Rattle.dj_directory.specs.declared.rows.MemberRow.{MemberRow};
+ghost use Rattle.dj_linking.specs.Bits.{in_bits};
 ghost use Rattle.dj_linking.specs.Chained.{AreFieldChains, AreMethodChains};
+ghost use Rattle.dj_linking.specs.Marked.{IsCovered, is_plain_at};
 ghost use Rattle.dj_linking.specs.Numbered.{AreTexts};
 ghost use Rattle.dj_linking.specs.Numbers.{AreAbove, AreBelow, TellsMethod, TellsField, first_some, method_found, field_found, lists_of, numbers_above, numbers_up};
+ghost use Rattle.dj_linking.specs.Ranked.{AreRanksOf, HasRow};
 
 use crate::chains::Chains;
 use crate::find::{INTERFACE, MOST_CLASSES, PRIVATE, STATIC};
+use crate::nearest::nearest_of;
+use crate::ranked::{MOST_ROWS, Ranks};
+use crate::words::{may_have_bit, put_bit};
 use dj_classes::Place;
-use dj_directory::Directory;
+use dj_directory::{Directory, MemberRow};
+
+// So many classes are looked at one by one before all that declare a member are.
+const SHORT_WALK: u32 = 8;
+
+// Words with a bit for each class, where there are as few as have rows.
+const MARK_WORDS: usize = 128;
 
 // ---- what a table tells of a class
 
@@ -76,6 +89,110 @@ fn field_in(directory: &Directory<'_>, class: u32, name: u32, desc: u32) -> Opti
     Some(Place { class, member })
 }
 
+// ---- classes that declare a member, as bits
+
+// Whether the method of a row is neither private nor static.
+fn is_plain_row(directory: &Directory<'_>, row: MemberRow) -> bool
+    requires there { row.class < length directory.now.program }
+    requires within { row.place < length (methods_at directory.now.program row.class) }
+    ensures { result ≡ is_plain_at directory.now.program row.class row.place }
+{
+    let flags = method_flags(directory, row.class, row.place);
+    flags & PRIVATE == 0 && flags & STATIC == 0
+}
+
+// Marks a class, where it is to be marked.
+fn mark_if(marks: &mut [u64], class: u32, marked: bool)
+    requires { class < length marks.old * 64 }
+    ensures kept { (z : ℕ) → in_bits marks.old z ≡ true → in_bits marks.new z ≡ true }
+    ensures own { marked ≡ true → in_bits marks.new class ≡ true }
+    ensures count { length marks.new ≡ length marks.old }
+{
+    if marked {
+        put_bit(marks, class);
+    }
+}
+
+// Marks the classes of the rows whose method is neither private nor static.
+fn mark_plain(directory: &Directory<'_>, rows: &[MemberRow], marks: &mut [u64])
+    requires there { (row : MemberRow) → Contains rows.now row → row.class < length directory.now.program }
+    requires within { (row : MemberRow) → Contains rows.now row → row.place < length (methods_at directory.now.program row.class) }
+    requires few { length directory.now.program ≤ length marks.old * 64 }
+    ensures { (row : MemberRow) → Contains rows.now row → is_plain_at directory.now.program row.class row.place ≡ true → in_bits marks.new row.class ≡ true }
+{
+    for row in rows {
+        mark_if(marks, row.class, is_plain_row(directory, *row));
+    }
+}
+
+// Marks the classes of the rows.
+fn mark_all(rows: &[MemberRow], marks: &mut [u64])
+    requires { (row : MemberRow) → Contains rows.now row → row.class < length marks.old * 64 }
+    ensures { (row : MemberRow) → Contains rows.now row → in_bits marks.new row.class ≡ true }
+{
+    for row in rows {
+        mark_if(marks, row.class, true);
+    }
+}
+
+// Whether something may be found in a class: it is marked, where any are.
+fn may_be_in(marks: Option<&[u64]>, class: u32) -> bool
+    ensures { result ≡ false → MatchOption marks.entry ⊥ (λ words. in_bits words.now class ≡ false) }
+{
+    match marks {
+        Some(words) => may_have_bit(words, class),
+        None => true,
+    }
+}
+
+// Whether classes are marked before each of these is looked at: few are looked at as they are.
+fn is_worth_marking(directory: &Directory<'_>, classes: &[u32]) -> bool
+    ensures { result ≡ true → length directory.now.program ≤ 8192 }
+{
+    classes.len() > SHORT_WALK as usize && directory.classes().class_count() <= MOST_ROWS
+}
+
+// ---- members of the first of some classes
+
+// The method that a class declares, where it may be there and is neither private nor static.
+fn plain_method_if(
+    directory: &Directory<'_>,
+    marks: Option<&[u64]>,
+    class: u32,
+    name: u32,
+    desc: u32,
+) -> Option<Place>
+    requires there { class < length directory.now.program }
+    requires marked { (n d : List ℕ) → AreTexts directory.now name desc n d → IfSome marks (λ words. IsCovered (method_found directory.now.program is_plain n (desc_in d)) (length directory.now.program) words.now) }
+    ensures { (n d : List ℕ) → AreTexts directory.now name desc n d → TellsMethod directory.now.program result (method_found directory.now.program is_plain n (desc_in d) class) }
+{
+    if may_be_in(marks, class) {
+        plain_method_in(directory, class, name, desc)
+    } else {
+        None
+    }
+}
+
+// The first method of these classes, or of those that are marked, that is neither private nor static.
+fn plain_method_in_turn(
+    directory: &Directory<'_>,
+    marks: Option<&[u64]>,
+    classes: &[u32],
+    name: u32,
+    desc: u32,
+) -> Option<Place>
+    requires below { AreBelow (length directory.now.program) classes.now }
+    requires marked { (n d : List ℕ) → AreTexts directory.now name desc n d → IfSome marks (λ words. IsCovered (method_found directory.now.program is_plain n (desc_in d)) (length directory.now.program) words.now) }
+    ensures { (n d : List ℕ) → AreTexts directory.now name desc n d → TellsMethod directory.now.program result (first_some (method_found directory.now.program is_plain n (desc_in d)) classes.now) }
+{
+    for class in classes {
+        if let Some(place) = plain_method_if(directory, marks, *class, name, desc) {
+            return Some(place);
+        }
+    }
+    None
+}
+
 // The first method of these classes that is neither private nor static.
 fn plain_method_among(
     directory: &Directory<'_>,
@@ -86,8 +203,51 @@ fn plain_method_among(
     requires { AreBelow (length directory.now.program) classes.now }
     ensures { (n d : List ℕ) → AreTexts directory.now name desc n d → TellsMethod directory.now.program result (first_some (method_found directory.now.program is_plain n (desc_in d)) classes.now) }
 {
+    if !is_worth_marking(directory, classes) {
+        return plain_method_in_turn(directory, None, classes, name, desc);
+    }
+    let rows = directory.methods_of(name, desc);
+    if rows.is_empty() {
+        return None;
+    }
+    let mut marks = [0; MARK_WORDS];
+    mark_plain(directory, rows, &mut marks);
+    plain_method_in_turn(directory, Some(marks.as_slice()), classes, name, desc)
+}
+
+// The field that a class declares, where it may be there.
+fn field_if(
+    directory: &Directory<'_>,
+    marks: Option<&[u64]>,
+    class: u32,
+    name: u32,
+    desc: u32,
+) -> Option<Place>
+    requires there { class < length directory.now.program }
+    requires marked { (n d : List ℕ) → AreTexts directory.now name desc n d → IfSome marks (λ words. IsCovered (field_found directory.now.program n (desc_in d)) (length directory.now.program) words.now) }
+    ensures { (n d : List ℕ) → AreTexts directory.now name desc n d → TellsField directory.now.program result (field_found directory.now.program n (desc_in d) class) }
+{
+    if may_be_in(marks, class) {
+        field_in(directory, class, name, desc)
+    } else {
+        None
+    }
+}
+
+// The first field of these classes, or of those that are marked.
+fn field_in_turn(
+    directory: &Directory<'_>,
+    marks: Option<&[u64]>,
+    classes: &[u32],
+    name: u32,
+    desc: u32,
+) -> Option<Place>
+    requires below { AreBelow (length directory.now.program) classes.now }
+    requires marked { (n d : List ℕ) → AreTexts directory.now name desc n d → IfSome marks (λ words. IsCovered (field_found directory.now.program n (desc_in d)) (length directory.now.program) words.now) }
+    ensures { (n d : List ℕ) → AreTexts directory.now name desc n d → TellsField directory.now.program result (first_some (field_found directory.now.program n (desc_in d)) classes.now) }
+{
     for class in classes {
-        if let Some(place) = plain_method_in(directory, *class, name, desc) {
+        if let Some(place) = field_if(directory, marks, *class, name, desc) {
             return Some(place);
         }
     }
@@ -99,13 +259,19 @@ fn field_among(directory: &Directory<'_>, classes: &[u32], name: u32, desc: u32)
     requires { AreBelow (length directory.now.program) classes.now }
     ensures { (n d : List ℕ) → AreTexts directory.now name desc n d → TellsField directory.now.program result (first_some (field_found directory.now.program n (desc_in d)) classes.now) }
 {
-    for class in classes {
-        if let Some(place) = field_in(directory, *class, name, desc) {
-            return Some(place);
-        }
+    if !is_worth_marking(directory, classes) {
+        return field_in_turn(directory, None, classes, name, desc);
     }
-    None
+    let rows = directory.fields_of(name, desc);
+    if rows.is_empty() {
+        return None;
+    }
+    let mut marks = [0; MARK_WORDS];
+    mark_all(rows, &mut marks);
+    field_in_turn(directory, Some(marks.as_slice()), classes, name, desc)
 }
+
+// ---- up the classes
 
 // The first method of the interfaces above a class that is neither private nor static.
 fn plain_method_above(
@@ -140,8 +306,8 @@ fn field_above(
     }
 }
 
-// The first method of a class and its superclasses.
-fn method_up(directory: &Directory<'_>, class: u32, name: u32, desc: u32) -> Option<Place>
+// Class by class, the first method of a class and its superclasses.
+fn method_up_by_class(directory: &Directory<'_>, class: u32, name: u32, desc: u32) -> Option<Place>
     requires { class < length directory.now.program }
     ensures { (n d : List ℕ) → AreTexts directory.now name desc n d → TellsMethod directory.now.program result (first_some (method_found directory.now.program any_method n (desc_in d)) (numbers_up most_classes directory.now.program (Some class))) }
 {
@@ -154,6 +320,66 @@ fn method_up(directory: &Directory<'_>, class: u32, name: u32, desc: u32) -> Opt
         next = super_of(directory, at);
     }
     None
+}
+
+// What a short walk tells of the first method of a class and its superclasses: the method, or that there is none. Most walks end soon;
+// where this one doesn't, nothing is told.
+fn method_near(directory: &Directory<'_>, class: u32, name: u32, desc: u32) -> Option<Option<Place>>
+    requires { class < length directory.now.program }
+    ensures { IfSome result (λ place. (n d : List ℕ) → AreTexts directory.now name desc n d → TellsMethod directory.now.program place (first_some (method_found directory.now.program any_method n (desc_in d)) (numbers_up most_classes directory.now.program (Some class)))) }
+{
+    let mut next = Some(class);
+    for _ in 0..SHORT_WALK {
+        let Some(at) = next else {
+            return Some(None);
+        };
+        if let Some(place) = method_in(directory, at, name, desc) {
+            return Some(Some(place));
+        }
+        next = super_of(directory, at);
+    }
+    None
+}
+
+// The method of the nearest class that declares it, of a class that has bits and its superclasses.
+fn nearest_method(
+    directory: &Directory<'_>,
+    ranks: &Ranks,
+    class: u32,
+    name: u32,
+    desc: u32,
+) -> Option<Place>
+    requires there { class < length directory.now.program }
+    requires ranks { AreRanksOf directory.now.program ranks.now }
+    requires known { HasRow (lists_of ranks.now.rows.items) class }
+    ensures { (n d : List ℕ) → AreTexts directory.now name desc n d → TellsMethod directory.now.program result (first_some (method_found directory.now.program any_method n (desc_in d)) (numbers_up most_classes directory.now.program (Some class))) }
+{
+    let rows = directory.methods_of(name, desc);
+    let near = nearest_of(directory.classes(), ranks, rows, class)?;
+    method_in(directory, near.class, name, desc)
+}
+
+// The first method of a class and its superclasses.
+fn method_up(
+    directory: &Directory<'_>,
+    ranks: &Ranks,
+    class: u32,
+    name: u32,
+    desc: u32,
+) -> Option<Place>
+    requires there { class < length directory.now.program }
+    requires ranks { AreRanksOf directory.now.program ranks.now }
+    ensures { (n d : List ℕ) → AreTexts directory.now name desc n d → TellsMethod directory.now.program result (first_some (method_found directory.now.program any_method n (desc_in d)) (numbers_up most_classes directory.now.program (Some class))) }
+{
+    if let Some(told) = method_near(directory, class, name, desc) {
+        return told;
+    }
+    if ranks.has_row(directory.classes(), class) {
+        nearest_method(directory, ranks, class, name, desc)
+    } else {
+        // Its superclasses go round, or there are too many classes for bits.
+        method_up_by_class(directory, class, name, desc)
+    }
 }
 
 // Class by class, the first method of the interfaces above a class and its superclasses that is neither private nor static.
@@ -251,18 +477,20 @@ pub fn field_up(
 /// The first method of an interface and Object, or of a class and its superclasses.
 pub fn method_first(
     directory: &Directory<'_>,
+    ranks: &Ranks,
     object: Option<u32>,
     class: u32,
     name: u32,
     desc: u32,
 ) -> Option<Place>
     requires object { IfSome object (λ k. k < length directory.now.program) }
+    requires ranks { AreRanksOf directory.now.program ranks.now }
     requires there { class < length directory.now.program }
     ensures { (n d : List ℕ) → AreTexts directory.now name desc n d → TellsMethod directory.now.program result (first_some (method_found directory.now.program any_method n (desc_in d))
         (if is_interface (flags_of (slice_get directory.now.program class)) then class ∷ option_list object else numbers_up most_classes directory.now.program (Some class))) }
 {
     if flags_of(directory, class) & INTERFACE == 0 {
-        return method_up(directory, class, name, desc);
+        return method_up(directory, ranks, class, name, desc);
     }
     match method_in(directory, class, name, desc) {
         Some(place) => Some(place),

@@ -3,6 +3,7 @@
 
 mod above;
 mod ancestors;
+mod calls;
 mod chains;
 mod costly;
 mod described;
@@ -13,12 +14,15 @@ mod find;
 mod find_numbered;
 mod linker;
 mod methods;
+mod nearest;
 mod numbers;
 mod order;
+mod ranked;
 mod select;
 mod special;
 mod words;
 
 pub use described::{resolve_field_of, resolve_method_of};
 pub use dj_classes::{ClassTable, Place, TableError};
+pub use dj_directory::CallTable;
 pub use linker::{BaseNames, Linker};

@@ -3,8 +3,9 @@ ghost use Rattle.std.specs.Option.{option_map};
 ghost use Rattle.dj_names.specs.declared.descriptor.Ty.{Ty};
 ghost use Rattle.dj_classes.specs.Tables.{class_number, methods_at, method_there, field_there};
 ghost use Rattle.dj_declared.specs.Members.{IsDescriptor};
+ghost use Rattle.dj_directory.specs.Calls.{IsCallTable};
 ghost use Rattle.dj_model.specs.Types.{object_name};
-ghost use Rattle.dj_model.specs.Linking.{FoundMethod, is_subclass, member_class, select, special_method};
+ghost use Rattle.dj_model.specs.Linking.{FoundMethod, chain, is_among, is_subclass, member_class, select, special_method};
 ghost use Rattle.dj_declared.specs.Files.{desc_in};
 ghost use Rattle.dj_linking.specs.Numbers.{IsNamed, TellsMethod};
 ghost use Rattle.dj_linking.specs.Numbered.{AreTexts};
@@ -12,6 +13,7 @@ ghost use Rattle.dj_linking.specs.Linked.{Linked, prefix_of, class_name, resolve
 
 use crate::above::interfaces_above;
 use crate::ancestors::is_above;
+use crate::calls::{instance_method_like, selected_by};
 use crate::chains::Chains;
 use crate::costly::are_costly;
 use crate::downward::downward;
@@ -19,10 +21,11 @@ use crate::fields::field_chains;
 use crate::find::{field_up, method_first, plain_method_up};
 use crate::find_numbered;
 use crate::methods::method_chains;
+use crate::ranked::Ranks;
 use crate::select::selected_method;
-use crate::special::{instance_method_above, is_superclass};
+use crate::special::{instance_method_above, is_own_or_superclass, is_superclass};
 use dj_classes::{ClassTable, Place, TableError};
-use dj_directory::Directory;
+use dj_directory::{CallTable, Directory};
 use dj_names::NoMemory;
 use std::alloc::Global;
 use std::marker::Model;
@@ -44,6 +47,7 @@ pub struct Linker {
     above: Vec<Vec<u32>>,
     methods: Chains,
     fields: Chains,
+    ranks: Ranks,
     // The number of Object, where it is there.
     object: Option<u32>,
     ghost named: { object ≡ class_number table (object_name (prefix_of base)) },
@@ -54,12 +58,12 @@ impl Model for Linker {
 
     ghost Value = { Linked };
 
-    ghost use Rattle.dj_linking.specs.Chained.{AreLists};
+    ghost use Rattle.dj_linking.specs.Ranked.{AreLists};
     ghost use Rattle.dj_linking.specs.Numbers.{lists_of};
 
     ghost view = { λ linker. record { program = linker.table; prefix = prefix_of linker.base } };
 
-    ghost invariant = { λ linker. AreLists linker.table (lists_of linker.above.items) linker.methods linker.fields };
+    ghost invariant = { λ linker. AreLists linker.table (lists_of linker.above.items) linker.methods linker.fields linker.ranks };
 }
 
 // The name of Object.
@@ -81,6 +85,7 @@ impl Linker {
         let order = downward(alloc, &table)?;
         let methods = method_chains(alloc, &table, &order, &above)?;
         let fields = field_chains(alloc, &table, &order, &above)?;
+        let ranks = Ranks::of(alloc, &table, order)?;
         let object = table.class_named(object_of(base));
         Ok(Linker {
             table,
@@ -88,6 +93,7 @@ impl Linker {
             above,
             methods,
             fields,
+            ranks,
             object,
         })
     }
@@ -153,7 +159,7 @@ impl Linker {
         ensures { (n d : List ℕ) → AreTexts directory.now name desc n d → option_map (method_there self.now.program) result ≡ option_map Some (resolved_method self.now class n d) }
     {
         self.table.names_differ();
-        match find_numbered::method_first(directory, self.object, class, name, desc) {
+        match find_numbered::method_first(directory, &self.ranks, self.object, class, name, desc) {
             Some(place) => Some(place),
             None => find_numbered::plain_method_up(
                 directory,
@@ -189,7 +195,24 @@ impl Linker {
         ensures { result ≡ is_subclass self.now.program (class_name self.now.program class) (class_name self.now.program ancestor) }
     {
         self.table.names_differ();
-        is_above(&self.table, &self.above, &self.methods, class, ancestor)
+        is_above(
+            &self.table,
+            &self.above,
+            &self.methods,
+            &self.ranks,
+            class,
+            ancestor,
+        )
+    }
+
+    /// Whether a class is the other one, or has it among its superclasses (JVMS 4.10.1.2).
+    pub fn is_own_or_superclass(&self, class: u32, other: u32) -> bool
+        requires there { class < length self.now.program }
+        requires other { other < length self.now.program }
+        ensures { result ≡ is_among (chain self.now.program (class_name self.now.program class)) (class_name self.now.program other) }
+    {
+        self.table.names_differ();
+        is_own_or_superclass(&self.table, &self.ranks, class, other)
     }
 
     /// The method that `invokespecial` takes in a class for the one to which its operand resolves (JVMS 6.5): the method has this name and this descriptor.
@@ -206,8 +229,30 @@ impl Linker {
             → TellsMethod self.now.program result (special_method self.now.program (class_name self.now.program class) found) }
     {
         self.table.names_differ();
-        if name != b"<init>".as_slice() && is_superclass(&self.table, class, resolved.class) {
+        if name != b"<init>".as_slice()
+            && is_superclass(&self.table, &self.ranks, class, resolved.class)
+        {
             instance_method_above(&self.table, class, name, desc)
+        } else {
+            Some(resolved)
+        }
+    }
+
+    /// The same, of the method's own name and descriptor, in a time that doesn't grow with the chain of superclasses.
+    pub fn special_by(&self, calls: &CallTable, class: u32, resolved: Place) -> Option<Place>
+        requires calls { IsCallTable self.now.program calls.now }
+        requires there { class < length self.now.program }
+        requires declared { resolved.class < length self.now.program }
+        requires within { resolved.member < length (methods_at self.now.program resolved.class) }
+        ensures { (found : FoundMethod) → method_there self.now.program resolved ≡ Some found
+            → TellsMethod self.now.program result (special_method self.now.program (class_name self.now.program class) found) }
+    {
+        self.table.names_differ();
+        let name = self.table.method_name(resolved.class, resolved.member);
+        if name != b"<init>".as_slice()
+            && is_superclass(&self.table, &self.ranks, class, resolved.class)
+        {
+            instance_method_like(&self.table, &self.ranks, calls, resolved, class)
         } else {
             Some(resolved)
         }
@@ -229,5 +274,17 @@ impl Linker {
             → TellsMethod self.now.program result (select self.now.program self.now.prefix found ty) }
     {
         selected_method(&self.table, resolved, class)
+    }
+
+    /// The same, in a time that doesn't grow with the chain of superclasses.
+    pub fn select_by(&self, calls: &CallTable, resolved: Place, class: Option<u32>) -> Option<Place>
+        requires calls { IsCallTable self.now.program calls.now }
+        requires there { resolved.class < length self.now.program }
+        requires within { resolved.member < length (methods_at self.now.program resolved.class) }
+        requires class { IfSome class (λ k. k < length self.now.program) }
+        ensures { (found : FoundMethod) (ty : Ty) → method_there self.now.program resolved ≡ Some found → class ≡ class_number self.now.program (member_class self.now.prefix ty)
+            → TellsMethod self.now.program result (select self.now.program self.now.prefix found ty) }
+    {
+        selected_by(&self.table, &self.ranks, calls, resolved, class)
     }
 }

@@ -6,6 +6,18 @@ use crate::words::{has_bit, has_bits, put_bit};
 use dj_classes::TableError;
 use std::alloc::Global;
 
+/// Whether the number is one of these.
+pub fn is_among(numbers: &[u32], number: u32) -> bool
+    ensures { result ≡ has numbers.now number }
+{
+    for other in numbers {
+        if *other == number {
+            return true;
+        }
+    }
+    false
+}
+
 /// Numbers below a bound, each once, in the order in which they came.
 #[derive(Drop)]
 pub struct Numbers {

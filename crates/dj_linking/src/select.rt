@@ -9,8 +9,8 @@ ghost use Rattle.dj_linking.specs.Numbers.{TellsMethod, first_some, method_found
 use crate::find::{MOST_CLASSES, PRIVATE, plain_method_in};
 use dj_classes::{ClassTable, Place};
 
-// The first method of a class, where it is there, and its superclasses that is neither private nor static.
-fn plain_method_from(
+/// The first method of a class, where it is there, and its superclasses that is neither private nor static.
+pub fn plain_method_from(
     table: &ClassTable,
     class: Option<u32>,
     name: &[u8],

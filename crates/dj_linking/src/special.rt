@@ -1,11 +1,13 @@
-ghost use Rattle.std.specs.Prelude.{◌≡◌, ◌<◌, length};
-ghost use Rattle.dj_model.specs.Linking.{is_not_static};
+ghost use Rattle.std.specs.Prelude.{◌≡◌, ◌<◌, Some, length};
+ghost use Rattle.dj_model.specs.Linking.{is_not_static, most_classes};
 ghost use Rattle.dj_declared.specs.Members.{IsDescriptor};
 ghost use Rattle.dj_declared.specs.Files.{desc_in};
 ghost use Rattle.dj_classes.specs.Tables.{super_number};
 ghost use Rattle.dj_linking.specs.Numbers.{TellsMethod, first_some, has, method_found, most_above, numbers_up};
+ghost use Rattle.dj_linking.specs.Ranked.{AreRanksOf};
 
 use crate::find::STATIC;
+use crate::ranked::Ranks;
 use dj_classes::{ClassTable, Place};
 
 // So many levels are above a class at most.
@@ -48,8 +50,8 @@ pub fn instance_method_above(
     None
 }
 
-/// Whether a class is one of the superclasses of another.
-pub fn is_superclass(table: &ClassTable, class: u32, other: u32) -> bool
+// Class by class, whether a class has the other one among its superclasses.
+fn is_superclass_by_class(table: &ClassTable, class: u32, other: u32) -> bool
     requires { class < length table.now }
     ensures { result ≡ has (numbers_up most_above table.now (super_number table.now class)) other }
 {
@@ -64,4 +66,32 @@ pub fn is_superclass(table: &ClassTable, class: u32, other: u32) -> bool
         next = table.super_of(at);
     }
     false
+}
+
+/// Whether a class has the other one among its superclasses.
+pub fn is_superclass(table: &ClassTable, ranks: &Ranks, class: u32, other: u32) -> bool
+    requires there { class < length table.now }
+    requires ranks { AreRanksOf table.now ranks.now }
+    ensures { result ≡ has (numbers_up most_above table.now (super_number table.now class)) other }
+{
+    let Some(next) = table.super_of(class) else {
+        return false;
+    };
+    match ranks.is_up(table, next, other) {
+        Some(up) => up,
+        // The superclasses go round, or there are too many classes for bits.
+        None => is_superclass_by_class(table, class, other),
+    }
+}
+
+/// Whether a class is the other one or has it among its superclasses.
+pub fn is_own_or_superclass(table: &ClassTable, ranks: &Ranks, class: u32, other: u32) -> bool
+    requires there { class < length table.now }
+    requires ranks { AreRanksOf table.now ranks.now }
+    ensures { result ≡ has (numbers_up most_classes table.now (Some class)) other }
+{
+    if class == other {
+        return true;
+    }
+    is_superclass(table, ranks, class, other)
 }

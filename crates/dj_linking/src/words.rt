@@ -9,6 +9,17 @@ pub fn has_bit(words: &[u64], number: u32) -> bool
     words[number as usize / 64] >> (number % 64) & 1 == 1
 }
 
+/// The same, where there may be fewer bits: a number past them isn't among them.
+pub fn may_have_bit(words: &[u64], number: u32) -> bool
+    ensures { result ≡ in_bits words.now number }
+{
+    if number as usize / 64 < words.len() {
+        has_bit(words, number)
+    } else {
+        false
+    }
+}
+
 /// The number is among those of the bits from now on.
 pub fn put_bit(words: &mut [u64], number: u32)
     requires { number < length words.old * 64 }

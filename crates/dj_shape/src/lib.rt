@@ -21,4 +21,4 @@ mod state;
 pub use dj_program::MethodCode;
 pub use error::ShapeError;
 pub use judge::{ShapeFault, shape};
-pub use pool::{CallKinds, PoolKinds, pool_kinds};
+pub use pool::{CallKinds, ConstantKind, PoolKinds, pool_kinds};

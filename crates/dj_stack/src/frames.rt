@@ -1,4 +1,4 @@
-ghost use Rattle.std.specs.Prelude.{◌≡◌, ◌++◌, ◌∷◌, [], ◌<◌, ◌≤◌, length, map, reverse, set, Some, None, slice_get, IsSome, option_map, IfOk, IfErr, OnOk, OnErr};
+ghost use Rattle.std.specs.Prelude.{◌≡◌, ◌+◌, ◌++◌, ◌∷◌, [], ◌<◌, ◌≤◌, length, map, reverse, set, Some, None, slice_get, IsSome, option_map, IfOk, IfErr, OnOk, OnErr};
 ghost use Rattle.dj_stack.specs.declared.errors.PushError.TheVariants as PushError;
 ghost use Rattle.dj_stack.specs.Frames.{StackFrame, most_frames, below_top, top_operands, top_locals, top_room, top_number, new_frame, SameButOperands, SameButLocals, SameButNumber, frame_at, local_at, operand_at};
 
@@ -94,6 +94,16 @@ impl Frames {
                 None => unreachable!(),
             },
             None => unreachable!(),
+        }
+    }
+
+    /// How many operands more have room in the top frame; none where there is no frame.
+    pub fn spare(&self) -> u16
+        ensures { length (top_operands self.now) + result ≡ top_room self.now }
+    {
+        match &self.top {
+            Some(frame) => frame.room - frame.operands.len() as u16,
+            None => 0,
         }
     }
 

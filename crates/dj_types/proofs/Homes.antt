@@ -10,7 +10,7 @@ use Rattle.dj_names.specs.declared.descriptor.Ty.{Ty}
 use Rattle.dj_names.specs.Types.{Name}
 use Rattle.dj_model.specs.Types.{Prefix, object_name}
 use Rattle.dj_model.specs.Program.{Program, Class, class_at, flags_of, is_interface}
-use Rattle.dj_model.specs.Linking.{FoundMethod, most_classes, chain, interfaces_above, first_method, first_field, field_order, any_method, is_plain, method_chain, or_else, member_class, class_or_object, resolve_method, resolve_field, select}
+use Rattle.dj_model.specs.Linking.{FoundMethod, most_classes, chain, interfaces_above, first_method, first_field, field_order, any_method, is_plain, method_chain, or_else, member_class, class_or_object, resolve_method, resolve_field, select, special_method}
 use Rattle.dj_declared.specs.Files.{desc_in}
 use Rattle.dj_classes.specs.Tables.{class_number, class_numbers}
 use Rattle.dj_classes.proofs.Numbered.{name_at-number}
@@ -111,3 +111,8 @@ pub selected_told : (typed : Typed) (number class : ℕ) (found : FoundMethod) (
     → t ≡ option_map Some (select typed.program typed.prefix found (type_at typed class)) → t ≡ option_map Some (members.selected typed number class)
 selected_told typed number class found t at told =
     told ∙ ap (λ (o : Option FoundMethod). option_map Some (option_and_then (λ (f : FoundMethod). select typed.program typed.prefix f (type_at typed class)) o)) (sym at)
+
+pub special_told : (typed : Typed) (number class : ℕ) (found : FoundMethod) (t : Option (Option FoundMethod)) → slice_get (members.all_methods typed.program) number ≡ Some found
+    → t ≡ option_map Some (special_method typed.program (class_name typed.program class) found) → t ≡ option_map Some (members.special_of typed number class)
+special_told typed number class found t at told =
+    told ∙ ap (λ (o : Option FoundMethod). option_map Some (option_and_then (special_method typed.program (class_name typed.program class)) o)) (sym at)

@@ -19,6 +19,8 @@ use Rattle.dj_types.specs.declared.members.Members.{Members}
 use Rattle.dj_types.specs.declared.shapes.Element.{Element}
 use Rattle.dj_types.specs.declared.shapes.Element.TheVariants as elements
 use Rattle.dj_types.specs.declared.shapes.Shape.{Shape}
+use Rattle.dj_directory.specs.declared.calls.CallTable.{CallTable}
+use Rattle.dj_directory.specs.Calls.{IsCallTable}
 use Rattle.dj_types.specs.Kept.{DoTextsRise, number_among, component_text, number_if, component_in, AreKept, IsTyped}
 use Rattle.dj_types.specs.Members.{field_count_at}
 use Rattle.dj_types.specs.Numbered.{AreMembers}
@@ -241,15 +243,15 @@ plain (suc (suc zero)) name at = ap begins_array (sym (same_Some (codes "I") nam
 plain (suc (suc (suc zero))) name at = ap begins_array (sym (same_Some (codes "java/lang/Object") name at))
 plain (suc (suc (suc (suc k)))) name at = absurd (none-some name at)
 
-module _ (k : Arrays) (m : Members) where
-  all_kept : AreKept program types k → AreMembers program m → IsTyped program types k m
-  all_kept kept members = record { plain = plain; arrays_are = kept; members_are = members }
+module _ (k : Arrays) (m : Members) (c : CallTable) where
+  all_kept : AreKept program types k → AreMembers program m → IsCallTable program c → IsTyped program types k m c
+  all_kept kept members calls = record { plain = plain; arrays_are = kept; members_are = members; calls_are = calls }
 
-  bracket_in_name : IsTyped (record a_class { name = codes "[I" } ∷ []) [] k m → ⊥
+  bracket_in_name : IsTyped (record a_class { name = codes "[I" } ∷ []) [] k m c → ⊥
   bracket_in_name told = true≢false (told.plain 0 (codes "[I") refl)
 
-  arrays_of_none : k.components.items ≡ [] → IsTyped program types k m → ⊥
+  arrays_of_none : k.components.items ≡ [] → IsTyped program types k m c → ⊥
   arrays_of_none is told = let e : 0 ≡ 3 = ap length (sym is ∙ told.arrays_are.components) in omega (arith, e)
 
-  members_of_none : m.field_sums.items ≡ [] → IsTyped program types k m → ⊥
+  members_of_none : m.field_sums.items ≡ [] → IsTyped program types k m c → ⊥
   members_of_none is told = let e : 0 ≡ 4 = sym (ap length is) ∙ told.members_are.sums.long in omega (arith, e)

@@ -8,6 +8,8 @@ use Rattle.dj_names.specs.Types.{Name, component_type}
 use Rattle.dj_names.specs.Descriptors.{type_text}
 use Rattle.dj_model.specs.Program.{Program}
 use Rattle.dj_classes.specs.Tables.{name_of}
+use Rattle.dj_directory.specs.declared.calls.CallTable.{CallTable}
+use Rattle.dj_directory.specs.Calls.{IsCallTable}
 use Rattle.dj_types.specs.declared.arrays.Arrays.{Arrays}
 use Rattle.dj_types.specs.declared.members.Members.{Members}
 use Rattle.dj_types.specs.Typed.{ArePlain, AreArrays, has_references, place_of_text, text_of_type}
@@ -42,7 +44,8 @@ pub record AreKept (program : Program) (types : List Ty) (arrays : Arrays) : Typ
   pub components : arrays.components.items ≡ map (component_in program (map type_text types)) types
 
 -- what is kept beside the classes and the types of the arrays
-pub record IsTyped (program : Program) (types : List Ty) (arrays : Arrays) (members : Members) : Type 0 where
+pub record IsTyped (program : Program) (types : List Ty) (arrays : Arrays) (members : Members) (calls : CallTable) : Type 0 where
   pub plain : ArePlain program
   pub arrays_are : AreKept program types arrays
   pub members_are : AreMembers program members
+  pub calls_are : IsCallTable program calls

@@ -7,11 +7,12 @@ use Rattle.dj_names.specs.declared.native.NativeId.{NativeId}
 use Rattle.dj_names.specs.Descriptors.{Describes}
 use Rattle.dj_model.specs.Types.{Member}
 use Rattle.dj_model.specs.Program.{Program, Class, is_named}
-use Rattle.dj_model.specs.Linking.{FoundMethod, FoundField, resolve_method, resolve_field, select, field_count}
+use Rattle.dj_model.specs.Linking.{FoundMethod, FoundField, resolve_method, resolve_field, select, special_method, field_count}
 use Rattle.dj_declared.specs.Files.{desc_in}
 use Rattle.dj_declared.specs.Members.{method_native}
 use Rattle.dj_classes.specs.Tables.{methods_at, fields_at, name_at}
 use Rattle.dj_classes.specs.declared.place.Place.{Place}
+use Rattle.dj_linking.specs.Linked.{class_name}
 use Rattle.dj_types.specs.declared.types.MethodId.{MethodId}
 use Rattle.dj_types.specs.declared.types.FieldId.{FieldId}
 use Rattle.dj_types.specs.declared.types.MemberOf.{MemberOf}
@@ -43,6 +44,10 @@ resolved_field typed class name desc = resolve_field typed.program typed.prefix 
 abbrev pub selected : Typed → ℕ → ℕ → Option FoundMethod
 selected typed method class =
     option_and_then (λ (found : FoundMethod). select typed.program typed.prefix found (type_at typed class)) (slice_get (all_methods typed.program) method)
+
+-- the method that invokespecial takes in the class of that number for a method of this number
+abbrev pub special_of : Typed → ℕ → ℕ → Option FoundMethod
+special_of typed method class = option_and_then (special_method typed.program (class_name typed.program class)) (slice_get (all_methods typed.program) method)
 
 -- the number of a method that was found: that of the first one of its class with its name and its descriptor
 abbrev pub method_number : List FoundMethod → FoundMethod → Option ℕ

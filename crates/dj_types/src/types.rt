@@ -9,7 +9,7 @@ ghost use Rattle.dj_linking.specs.Linked.{prefix_of};
 ghost use Rattle.dj_types.specs.Typed.{texts_of, types_of, type_at, text_number, flags_at, super_at, interfaces_at, component_at, is_subtype_at, string_at, chars_at, stop_at, ArePlain, AreArrays};
 ghost use Rattle.dj_types.specs.Shapes.{IsElement, shape_type};
 ghost use Rattle.dj_types.specs.Named.{IsDirectoryOf, IsNumbered, IsNumberedBy, IsNamedMethod, IsNamedField};
-ghost use Rattle.dj_types.specs.Members.{all_methods, all_fields, field_count_at, resolved_method, resolved_field, selected, found_method_number, found_field_number, IsMethodThere, IsFieldThere, IsNthMethod, IsNthField, IsMethodPlace, IsFieldPlace, native_at, number_of_method, number_of_field, methods_before, fields_before};
+ghost use Rattle.dj_types.specs.Members.{all_methods, all_fields, field_count_at, resolved_method, resolved_field, selected, special_of, found_method_number, found_field_number, IsMethodThere, IsFieldThere, IsNthMethod, IsNthField, IsMethodPlace, IsFieldPlace, native_at, number_of_method, number_of_field, methods_before, fields_before};
 
 use crate::arrays::{Arrays, check_names, number_in};
 use crate::error::TypesError;
@@ -17,7 +17,7 @@ use crate::members::{Members, count_at, is_descriptor, place_at};
 use crate::named::{MemberName, field_in, method_in};
 use crate::shapes::{Element, Shape, is_subtype};
 use dj_classes::Place;
-use dj_directory::Directory;
+use dj_directory::{CallTable, Directory};
 use dj_linking::{BaseNames, Linker, resolve_field_of, resolve_method_of};
 use dj_names::{NativeId, Ty};
 use std::alloc::Global;
@@ -54,6 +54,7 @@ pub struct Types {
     arrays: Vec<Ty>,
     kept: Arrays,
     members: Members,
+    calls: CallTable,
 }
 
 impl Model for Types {
@@ -65,7 +66,7 @@ impl Model for Types {
 
     ghost view = { λ types. record { program = types.linker.program; prefix = types.linker.prefix; arrays = types.arrays.items } };
 
-    ghost invariant = { λ types. IsTyped types.linker.program types.arrays.items types.kept types.members };
+    ghost invariant = { λ types. IsTyped types.linker.program types.arrays.items types.kept types.members types.calls };
 }
 
 // The name of String.
@@ -90,11 +91,13 @@ impl Types {
         check_names(linker.classes())?;
         let kept = Arrays::of(alloc, linker.classes(), &arrays)?;
         let members = Members::of(alloc, linker.classes())?;
+        let calls = CallTable::of(alloc, linker.classes())?;
         Ok(Types {
             linker,
             arrays,
             kept,
             members,
+            calls,
         })
     }
 
@@ -632,7 +635,19 @@ impl Types {
         ensures { option_map number_of_method result ≡ found_method_number self.now.program (selected self.now method.number class) }
     {
         let class = self.member_class(class);
-        let taken = self.linker.select(self.method_place(method), class)?;
+        let resolved = self.method_place(method);
+        let taken = self.linker.select_by(&self.calls, resolved, class)?;
+        Some(self.first_method(taken))
+    }
+
+    /// The method that `invokespecial` takes in a class for the one to which its operand resolves (JVMS 6.5).
+    pub fn special(&self, method: MethodId, class: u32) -> Option<MethodId>
+        requires there { method.number < length (all_methods self.now.program) }
+        requires class { class < length self.now.program }
+        ensures { option_map number_of_method result ≡ found_method_number self.now.program (special_of self.now method.number class) }
+    {
+        let resolved = self.method_place(method);
+        let taken = self.linker.special_by(&self.calls, class, resolved)?;
         Some(self.first_method(taken))
     }
 }

@@ -1,6 +1,6 @@
 use Rattle.dj_initialising.specs.Store.{store}
 use Rattle.dj_acting.specs.Acting.{machine}
-use Rattle.dj_acting.proofs.OperandFacts.{all_done, beside, if_ok_so, operand_used}
+use Rattle.dj_acting.proofs.OperandFacts.{all_done, beside, heap_is, if_ok_so, operand_used}
 use Rattle.dj_acting.proofs.by_number.act_settled.Goals as goal
 
 pub act_with-requires-clause-beside : goal.act_with-requires-clause-beside
@@ -8,19 +8,22 @@ act_with-requires-clause-beside c =
     beside c.args.image.now c.args.places.now c.args.throwable c.args.method.number c.args.number (machine c.args.frames.now (store c.args.heap.now c.args.statics.now c.args.literals.now))
     c.requires.settled c.are_plain.ensures c.requires.ready
 
+pub act_with-requires-clause-known : goal.act_with-requires-clause-known
+act_with-requires-clause-known c = heap_is c.args.image.now c.args.frames.now c.args.heap.now c.requires.ready.known c.requires.top
+
 pub act_with-requires-clause-used : goal.act_with-requires-clause-used
 act_with-requires-clause-used c = (
   c.instr_of-instr.ensures.0,
   operand_used c.args.image.now c.args.places.now c.args.throwable c.args.method.number c.args.number (machine c.args.frames.now (store c.args.heap.now c.args.statics.now c.args.literals.now))
-      c.requires.ready c.instr_of-instr.result.now c.instr_of-instr.ensures.0 c.instr_of-instr.ensures.1 c.operand-operand.result c.operand-operand.ensures c.requires.resolved,
+      c.requires.ready c.instr_of-instr.result.now c.instr_of-instr.ensures.0 c.instr_of-instr.ensures.1 c.operand-operand.result c.operand-operand.ensures,
 )
 
-pub returns : goal.returns
-returns c =
+pub returns-clause-done : goal.returns-clause-done
+returns-clause-done c =
     if_ok_so c.act_with.result _ _
     (λ acted done. all_done c.args.image.now c.args.places.now c.args.throwable c.args.method.number c.args.number
     (machine c.args.frames.now (store c.args.heap.now c.args.statics.now c.args.literals.now)) c.requires.ready c.instr_of-instr.result.now c.instr_of-instr.ensures.0 c.instr_of-instr.ensures.1
     (machine c.act_with.new.frames (store c.act_with.new.heap c.act_with.new.statics c.act_with.new.literals)) acted done)
-    (c.act_with.ensures c.instr_of-instr.ensures.0
+    (c.act_with.ensures.done c.instr_of-instr.ensures.0
     (operand_used c.args.image.now c.args.places.now c.args.throwable c.args.method.number c.args.number (machine c.args.frames.now (store c.args.heap.now c.args.statics.now c.args.literals.now))
-    c.requires.ready c.instr_of-instr.result.now c.instr_of-instr.ensures.0 c.instr_of-instr.ensures.1 c.operand-operand.result c.operand-operand.ensures c.requires.resolved))
+    c.requires.ready c.instr_of-instr.result.now c.instr_of-instr.ensures.0 c.instr_of-instr.ensures.1 c.operand-operand.result c.operand-operand.ensures))

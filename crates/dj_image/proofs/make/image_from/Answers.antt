@@ -18,4 +18,6 @@ invariant_of-result c =
       string = c.requires.string;
       chars = c.requires.chars;
       closed = c.requires.closed;
+      numbered = c.requires.numbered;
+      few = c.requires.few;
     }

@@ -50,6 +50,17 @@ image_from-requires-clause-closed c =
     λ ty. subst (λ (ps : List ClassParts). Contains arrays ty ↔ IsRow (wholes_of program ps) ty) c.deref.ensures.value (c.in_ok-arrays.ensures.numbered ty) in
     subst (λ (t : Typed). AreClosed t.arrays) (sym c.in_ok-types.ensures) (rows_closed (wholes_of program c.args.parts.items) arrays rows)
 
+pub image_from-requires-clause-numbered : goal.image_from-requires-clause-numbered
+image_from-requires-clause-numbered c =
+    let program = c.args.linker.program in
+    let arrays = c.in_ok-arrays.arrays.items in
+    let texts = c.in_ok-texts.texts.items in
+    let rows : (ty : Ty) → Contains arrays ty ↔ IsRow (wholes_of program c.args.parts.items) ty =
+    λ ty. subst (λ (ps : List ClassParts). Contains arrays ty ↔ IsRow (wholes_of program ps) ty) c.deref.ensures.value (c.in_ok-arrays.ensures.numbered ty) in
+    let same : SameMembers texts (texts_of c.args.parts.items) = subst (λ (ps : List ClassParts). SameMembers texts (texts_of ps)) c.deref-3.ensures.value c.in_ok-texts.ensures.listed in
+    subst (λ (t : Typed). IsNumbered (imaged_of t c.args.parts.items texts)) (sym c.in_ok-types.ensures)
+    (image_numbered program c.args.linker.prefix c.args.parts.items arrays texts c.requires.fit rows c.in_ok-arrays.ensures.arrays.rise c.in_ok-texts.ensures.rise same)
+
 pub returns-clause-sources : goal.returns-clause-sources
 returns-clause-sources c =
     ok_is c.image_from.result (λ (i : Imaged). i.sources ≡ sources_of c.args.linker.program c.args.parts.items) (imaged_of c.in_ok-types.types c.args.parts.items c.in_ok-texts.texts.items) c.image_from.ensures

@@ -6,6 +6,7 @@ use Rattle.dj_stack.specs.Frames.{top_operands}
 use Rattle.dj_image.specs.Imaged.{program_of, typed_of}
 use Rattle.dj_invoking.specs.Natives.{IsClassOf}
 use Rattle.dj_invoking.specs.Receivers.{typed_heap}
+use Rattle.dj_invoking.proofs.References.{object_among}
 use Rattle.dj_invoking.proofs.Instances.{next_argument, all_arguments}
 use Rattle.dj_invoking.proofs.arguments.are_instances.Goals as goal
 
@@ -15,7 +16,7 @@ loop-at-init c = λ types typed. refl
 pub is_argument-requires : goal.is_argument-requires
 is_argument-requires c = record {
   numbered = c.requires.numbered;
-  object = c.requires.objects (c.args.count - 1 - c.loop-at.at) c.operand.result c.operand.ensures;
+  object = object_among c.args.heap.now.heap (top_operands c.args.frames.now) c.args.count (c.args.count - 1 - c.loop-at.at) c.operand.result c.requires.objects (omega arith) c.operand.ensures;
 }
 
 pub returns-then-not-is_argument : goal.returns-then-not-is_argument

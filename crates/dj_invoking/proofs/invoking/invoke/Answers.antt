@@ -8,6 +8,7 @@ use Rattle.dj_invoking.proofs.OperandFacts.{fit_within}
 use Rattle.dj_invoking.proofs.Found.{resolved_described, resolved_own}
 use Rattle.dj_invoking.proofs.Sites.{call_not_fit, runs_static}
 use Rattle.dj_invoking.proofs.Bodies.{static_mode}
+use Rattle.dj_invoking.proofs.References.{known_numbered}
 use Rattle.dj_invoking.proofs.invoking.invoke.Goals as goal
 
 pub returns-then-not-fit : goal.returns-then-not-fit
@@ -19,6 +20,12 @@ returns-then-not-fit c = λ called m resolved e found there kinds_are. (
 
 pub overflow_cast-count : goal.overflow_cast-count
 overflow_cast-count c = let few = c.fit.ensures.few c.if-not-fit.false in omega (arith, few)
+
+pub run_method-requires-clause-numbered : goal.run_method-requires-clause-numbered
+run_method-requires-clause-numbered c = known_numbered c.args.image.now c.args.heap.now c.requires.known
+
+pub invoke_on-requires-clause-numbered : goal.invoke_on-requires-clause-numbered
+invoke_on-requires-clause-numbered c = known_numbered c.args.image.now c.args.heap.now c.requires.known
 
 pub run_method-requires-clause-taken : goal.run_method-requires-clause-taken
 run_method-requires-clause-taken c =

@@ -1,11 +1,10 @@
 use Rattle.std.proofs.Common.{Some, refl, sym, subst, ◌∙◌}
 use Rattle.dj_linking.specs.Linked.{class_name}
-use Rattle.dj_stack.specs.Frames.{top_operands}
 use Rattle.dj_image.specs.Imaged.{program_of}
 use Rattle.dj_invoking.specs.declared.answers.Invoked.{Invoked}
 use Rattle.dj_invoking.specs.Invoking.{site, Invokes}
 use Rattle.dj_invoking.proofs.Bodies.{none_of}
-use Rattle.dj_invoking.proofs.Invocations.{receiver_object, absent, method_runs, null_goes, link_goes}
+use Rattle.dj_invoking.proofs.Invocations.{absent, method_runs, null_goes, link_goes}
 use Rattle.dj_invoking.proofs.invoking.invoke_on.Goals as goal
 
 pub returns-in_default : goal.returns-in_default
@@ -16,8 +15,7 @@ returns-in_default c = λ called m resolved kinds e other found there kinds_are 
 )
 
 pub choose-requires-clause-object : goal.choose-requires-clause-object
-choose-requires-clause-object c =
-    receiver_object c.args.heap.now.heap (top_operands c.args.frames.now) c.args.count c.in-Some.r c.requires.objects c.in-Some.ensures.receiver
+choose-requires-clause-object c = c.is_there.ensures c.if-not-is_there.false
 
 pub returns-in_ok-invoked-in-Method : goal.returns-in_ok-invoked-in-Method
 returns-in_ok-invoked-in-Method c = λ called m resolved kinds e other found there kinds_are n fits.

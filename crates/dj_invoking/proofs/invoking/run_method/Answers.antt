@@ -5,7 +5,7 @@ use Rattle.dj_stack.specs.Frames.{top_operands}
 use Rattle.dj_invoking.specs.Natives.{AreTyped}
 use Rattle.dj_invoking.specs.Invoking.{site, Steps, Invokes}
 use Rattle.dj_invoking.proofs.Sites.{native_is, native_not}
-use Rattle.dj_invoking.proofs.Bodies.{native_body, native_typed, stepped, ok_then}
+use Rattle.dj_invoking.proofs.Bodies.{native_body, native_typed, static_call, stepped, ok_then}
 use Rattle.dj_invoking.proofs.invoking.run_method.Goals as goal
 
 pub returns-in-Code : goal.returns-in-Code
@@ -16,11 +16,15 @@ returns-in-Code c = λ mode own m found there runs.
     c.in-Code.ensures steps)
     c.enter_code.ensures
 
+pub are_instances-requires-clause-objects : goal.are_instances-requires-clause-objects
+are_instances-requires-clause-objects c = c.are_there.ensures c.if-not-are_there.false
+
 pub returns-then-are_instances : goal.returns-then-are_instances
 returns-then-are_instances c = λ mode own m found there runs.
     let body = native_body c.args.image.now c.args.method found c.in-Native.id there c.in-Native.ensures in
     let typed = native_typed (site c.args.image.now c.args.frames.now c.args.heap.now.heap mode own m) c.args.taken c.args.count found runs c.args.method c.in-Native.id c.args.natives.now c.requires.natives there body in
     native_is (site c.args.image.now c.args.frames.now c.args.heap.now.heap mode own m) c.args.taken c.args.count found runs c.in-Native.id body
+    (c.is_called_so.ensures c.if-not-is_called_so.false found there ∙ static_call (site c.args.image.now c.args.frames.now c.args.heap.now.heap mode own m) c.args.taken c.args.count found runs)
     (sym c.if-are_instances.true ∙ c.are_instances.ensures (parameters_of m.desc) (subst (λ (row : List (Option ℕ)). AreTyped c.args.image.now (top_operands c.args.frames.now) c.args.count row (parameters_of m.desc)) (sym c.classes_of.ensures) typed))
 
 pub returns-else-are_instances : goal.returns-else-are_instances

@@ -18,6 +18,6 @@ returns c =
     let marks = c.add_method_marks.new.marks.items in
     let gains : Gains (AreMarksOf texts (MethodLinkViolates program class) class.methods) [] marks =
     subst (λ (old : List Mark). Gains (AreMarksOf texts (MethodLinkViolates program class) class.methods) old marks) c.new-marks.ensures.items
-    (subst (λ (p : Program). Gains (AreMarksOf texts (MethodLinkViolates p class) class.methods) none marks) c.classes-2.ensures
-    (subst (λ (ts : List JudgedText). Gains (AreMarksOf ts (MethodLinkViolates c.classes-2.result.now class) class.methods) none marks) c.deref-3.ensures.value c.in_ok-add_method_marks.ensures)) in
+    (subst (λ (p : Program). Gains (AreMarksOf texts (MethodLinkViolates p class) class.methods) none marks) c.classes.ensures
+    (subst (λ (ts : List JudgedText). Gains (AreMarksOf ts (MethodLinkViolates c.classes.result.now class) class.methods) none marks) c.deref-2.ensures.value c.in_ok-add_method_marks.ensures)) in
     mark_lines texts (MethodLinkViolates program class) c.args.path.now class marks c.args.found.now.items c.add_mark_lines.new.found.items c.in_ok-texts.ensures.texts gains c.in_ok-add_mark_lines.ensures

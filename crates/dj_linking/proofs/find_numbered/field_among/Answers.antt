@@ -1,21 +1,15 @@
-use Rattle.std.proofs.Common.{refl}
+use Rattle.std.proofs.Common.{ℕ, List, length, subst, sym, ◌∙◌}
 use Rattle.dj_declared.specs.Files.{desc_in}
-use Rattle.dj_classes.specs.Tables.{field_there}
+use Rattle.dj_linking.specs.Marked.{IsCovered}
 use Rattle.dj_linking.specs.Numbers.{field_found}
-use Rattle.dj_linking.proofs.Finding.{searched_here, searched_more, searched_end, has_at}
+use Rattle.dj_linking.proofs.Marking.{fields_covered, no_fields}
 use Rattle.dj_linking.proofs.find_numbered.field_among.Goals as goal
 
-pub loop-class-init : goal.loop-class-init
-loop-class-init c n d h = record { same = refl }
+pub returns-then-is_empty : goal.returns-then-is_empty
+returns-then-is_empty c n d h =
+    no_fields c.args.directory.now.program n (desc_in d) c.fields_of-rows.result.now c.args.classes.now (c.fields_of-rows.ensures.declare n d h.name_is h.desc_is h.described) (sym c.is_empty.ensures ∙ c.if-is_empty.true) c.requires
 
-pub field_in-requires : goal.field_in-requires
-field_in-requires c = c.requires _ (has_at c.args.classes.now c.loop-class.class-index c.loop-class-test.true)
-
-pub returns-in-Some : goal.returns-in-Some
-returns-in-Some c n d h = searched_here (field_found c.args.directory.now.program n (desc_in d)) c.args.classes.now c.loop-class.class-index (field_there c.args.directory.now.program c.in-Some.place) (c.loop-class.invariant n d h) c.loop-class-test.true (c.in-Some.ensures n d h)
-
-pub loop-class-preserved : goal.loop-class-preserved
-loop-class-preserved c n d h = searched_more (field_found c.args.directory.now.program n (desc_in d)) c.args.classes.now c.loop-class.class-index (c.loop-class.invariant n d h) c.loop-class-test.true (c.in_default.ensures n d h)
-
-pub returns : goal.returns
-returns c n d h = searched_end (field_found c.args.directory.now.program n (desc_in d)) c.args.classes.now c.loop-class.class-index (c.loop-class.invariant n d h) c.loop-class-test.false
+pub field_in_turn-requires-2-clause-marked : goal.field_in_turn-requires-2-clause-marked
+field_in_turn-requires-2-clause-marked c n d h =
+    subst (λ (words : List ℕ). IsCovered (field_found c.args.directory.now.program n (desc_in d)) (length c.args.directory.now.program) words) (sym c.as_slice.ensures)
+    (fields_covered c.args.directory.now.program n (desc_in d) c.fields_of-rows.result.now c.mark_all.new.marks (c.fields_of-rows.ensures.declare n d h.name_is h.desc_is h.described) c.mark_all.ensures)

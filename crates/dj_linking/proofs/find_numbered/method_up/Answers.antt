@@ -1,36 +1,10 @@
-use Rattle.std.proofs.Common.{◌<◌, ℕ, Option, IfSome, length, ◌∙◌, ap, subst, sym, slice_get}
-use Rattle.std.specs.Option.{option_map}
-use Rattle.dj_model.specs.Linking.{any_method}
-use Rattle.dj_declared.specs.Files.{desc_in}
-use Rattle.dj_classes.specs.Tables.{method_there}
-use Rattle.dj_linking.specs.Numbers.{method_found}
-use Rattle.dj_linking.proofs.Finding.{IsWalked, walk_begun, walked_here, walked_more, walked_off, walked_out, super_within}
+use Rattle.std.proofs.Common.{◌<◌, length, subst, sym}
+use Rattle.dj_model.specs.Program.{Program}
+use Rattle.dj_linking.specs.Ranked.{AreRanksOf}
 use Rattle.dj_linking.proofs.find_numbered.method_up.Goals as goal
 
-pub loop-init : goal.loop-init
-loop-init c = (c.requires, λ n d h. walk_begun (method_found c.args.directory.now.program any_method n (desc_in d)) c.args.directory.now.program c.args.class c.requires)
+pub has_row-requires-clause-there : goal.has_row-requires-clause-there
+has_row-requires-clause-there c = subst (λ (p : Program). c.args.class < length p) (sym c.classes.ensures) c.requires.there
 
-pub returns-in_err-at : goal.returns-in_err-at
-returns-in_err-at c n d h =
-    ap (option_map (method_there c.args.directory.now.program)) c.from_residual.ensures
-    ∙ walked_off (method_found c.args.directory.now.program any_method n (desc_in d)) c.args.directory.now.program c.args.class c.loop.counter
-    (subst (λ (o : Option ℕ). IsWalked (method_found c.args.directory.now.program any_method n (desc_in d)) c.args.directory.now.program c.args.class c.loop.counter o) c.in_err-at.was (c.loop.invariant.1 n d h))
-
-pub method_in-requires : goal.method_in-requires
-method_in-requires c = subst (λ (o : Option ℕ). IfSome o (λ k. k < length c.args.directory.now.program)) c.in_ok-at.was c.loop.invariant.0
-
-pub returns-in-Some : goal.returns-in-Some
-returns-in-Some c n d h =
-    walked_here (method_found c.args.directory.now.program any_method n (desc_in d)) c.args.directory.now.program c.args.class c.loop.counter c.in_ok-at.at (method_there c.args.directory.now.program c.in-Some.place)
-    (subst (λ (o : Option ℕ). IsWalked (method_found c.args.directory.now.program any_method n (desc_in d)) c.args.directory.now.program c.args.class c.loop.counter o) c.in_ok-at.was (c.loop.invariant.1 n d h)) c.loop-test.true (c.in-Some.ensures n d h)
-
-pub loop-preserved : goal.loop-preserved
-loop-preserved c = (
-  subst (λ (o : Option ℕ). IfSome o (λ k. k < length c.args.directory.now.program)) (sym c.super_of-next.ensures) (super_within c.args.directory.now.program (slice_get c.args.directory.now.program c.in_ok-at.at)),
-  λ n d h.
-      walked_more (method_found c.args.directory.now.program any_method n (desc_in d)) c.args.directory.now.program c.args.class c.loop.counter c.in_ok-at.at c.super_of-next.result
-      (subst (λ (o : Option ℕ). IsWalked (method_found c.args.directory.now.program any_method n (desc_in d)) c.args.directory.now.program c.args.class c.loop.counter o) c.in_ok-at.was (c.loop.invariant.1 n d h)) c.loop-test.true (c.in_default.ensures n d h) c.super_of-next.ensures,
-)
-
-pub returns : goal.returns
-returns c n d h = walked_out (method_found c.args.directory.now.program any_method n (desc_in d)) c.args.directory.now.program c.args.class c.loop.counter c.loop.next (c.loop.invariant.1 n d h) c.loop-test.false
+pub has_row-requires-clause-ranks : goal.has_row-requires-clause-ranks
+has_row-requires-clause-ranks c = subst (λ (p : Program). AreRanksOf p c.args.ranks.now) (sym c.classes.ensures) c.requires.ranks

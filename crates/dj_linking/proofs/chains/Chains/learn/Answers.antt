@@ -12,10 +12,10 @@ joined-requires-clause-row c =
 
 pub returns : goal.returns
 returns c =
-    learnt_ok c.put.result c.args.table.now (row_at (lists_of c.args.rows.now)) (lists_of c.args.self.now.lists.items ++ c.in_ok-list.list.items ∷ []) (set c.args.self.now.places.items c.args.class (Some (length (lists_of c.args.self.now.lists.items))))
+    learnt_ok c.put.result c.args.table.now (row_at (lists_of c.args.rows.now)) (lists_of c.args.self.now.lists.items ++ c.in_ok-numbers.numbers.list.items ∷ []) (set c.args.self.now.places.items c.args.class (Some (length (lists_of c.args.self.now.lists.items))))
     (lists_of c.put.new.self.lists.items) c.put.new.self.places.items c.put.ensures.lists c.put.ensures.places
     (first_put c.args.table.now (lists_of c.args.rows.now) (lists_of c.args.self.now.lists.items) c.args.self.now.places.items c.args.class c.requires.few c.requires.there
     (not_yet c.args.self.now.places.items c.args.class c.index.result.now c.is_some.result (omega (arith, c.requires.learnt.chained.count, c.requires.there)) c.index.ensures c.is_some.ensures c.if-is_some.false)
-    c.requires.learnt c.in_ok-list.list.items
+    c.requires.learnt c.in_ok-numbers.numbers.list.items
     (sym c.in_default.ensures)
-    (c.in_ok-list.ensures ∙ ap (λ (xs : List ℕ). with_all (first_places xs) []) (c.deref.ensures.value ∙ row_is (length c.args.table.now) c.args.rows.now c.args.class c.index-rows-class.result c.requires.rows c.requires.there c.index-rows-class.is)))
+    (c.in_ok-numbers.ensures ∙ ap (λ (xs : List ℕ). with_all (first_places xs) []) (c.deref.ensures.value ∙ row_is (length c.args.table.now) c.args.rows.now c.args.class c.index-rows-class.result c.requires.rows c.requires.there c.index-rows-class.is)))

@@ -33,10 +33,10 @@ joined-requires-clause-above c =
 
 pub returns : goal.returns
 returns c =
-    learnt_ok c.put.result c.args.table.now (row_at (lists_of c.args.rows.now)) (lists_of c.args.self.now.lists.items ++ c.in_ok-list.list.items ∷ []) (set c.args.self.now.places.items c.args.class (Some (length (lists_of c.args.self.now.lists.items))))
+    learnt_ok c.put.result c.args.table.now (row_at (lists_of c.args.rows.now)) (lists_of c.args.self.now.lists.items ++ c.in_ok-numbers.numbers.list.items ∷ []) (set c.args.self.now.places.items c.args.class (Some (length (lists_of c.args.self.now.lists.items))))
     (lists_of c.put.new.self.lists.items) c.put.new.self.places.items c.put.ensures.lists c.put.ensures.places
-    (put_below c.args.table.now (lists_of c.args.rows.now) (lists_of c.args.self.now.lists.items) c.args.self.now.places.items c.args.class c.requires.few c.requires.there c.requires.new c.requires.learnt c.in_ok-list.list.items c.args.next c.in-Some.place c.requires.next
+    (put_below c.args.table.now (lists_of c.args.rows.now) (lists_of c.args.self.now.lists.items) c.args.self.now.places.items c.args.class c.requires.few c.requires.there c.requires.new c.requires.learnt c.in_ok-numbers.numbers.list.items c.args.next c.in-Some.place c.requires.next
     (place_told c.args.table.now c.args.self.now.places.items c.args.class c.args.next c.in-Some.place c.index.result.now c.requires.learnt.chained.count c.requires.next c.index.ensures c.in-Some.is)
-    (c.in_ok-list.ensures
+    (c.in_ok-numbers.ensures
     ∙ ap (λ (xs : List ℕ). with_all (first_places xs) c.deref.result.now) (c.as_slice-row.ensures.value ∙ row_is (length c.args.table.now) c.args.rows.now c.args.class c.index-rows-class.result c.requires.rows c.requires.there c.index-rows-class.is)
     ∙ ap (λ (xs : List ℕ). with_all (first_places (get_or (lists_of c.args.rows.now) c.args.class [])) xs) (c.deref.ensures.value ∙ list_is c.args.self.now.lists.items c.in-Some.place c.index-2.result.now (once_up c.args.table.now (row_at (lists_of c.args.rows.now)) c.args.next) (c.requires.learnt.chained.each c.args.next c.in-Some.place (place_told c.args.table.now c.args.self.now.places.items c.args.class c.args.next c.in-Some.place c.index.result.now c.requires.learnt.chained.count c.requires.next c.index.ensures c.in-Some.is)) c.index-2.ensures)))

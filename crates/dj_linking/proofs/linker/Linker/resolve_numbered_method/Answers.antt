@@ -8,6 +8,7 @@ use Rattle.dj_classes.specs.Tables.{method_there}
 use Rattle.dj_linking.specs.Linked.{Linked, prefix_of, resolved_method}
 use Rattle.dj_linking.specs.Chained.{AreMethodChains}
 use Rattle.dj_linking.specs.Numbers.{AreAbove, lists_of}
+use Rattle.dj_linking.specs.Ranked.{AreRanksOf}
 use Rattle.dj_linking.proofs.Numbered.{FirstTells, AboveTells}
 use Rattle.dj_linking.proofs.Resolution.{method_here, method_above, object_within}
 use Rattle.dj_linking.proofs.linker.Linker.resolve_numbered_method.Goals as goal
@@ -19,6 +20,10 @@ method_first-requires-clause-object c =
 
 pub method_first-requires-clause-there : goal.method_first-requires-clause-there
 method_first-requires-clause-there c = subst (λ (p : Program). c.args.class < length p) (sym c.requires.same) c.requires.there
+
+pub method_first-requires-clause-ranks : goal.method_first-requires-clause-ranks
+method_first-requires-clause-ranks c =
+    subst (λ (p : Program). AreRanksOf p c.self.inside.ranks) (sym (c.requires.same ∙ ap (λ (linked : Linked). linked.program) (sym c.self.view_is))) c.self.invariant.ranks
 
 pub plain_method_up-requires-clause-there : goal.plain_method_up-requires-clause-there
 plain_method_up-requires-clause-there c = subst (λ (p : Program). c.args.class < length p) (sym c.requires.same) c.requires.there

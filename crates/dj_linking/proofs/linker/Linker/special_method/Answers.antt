@@ -13,8 +13,8 @@ use Rattle.dj_linking.proofs.linker.Linker.special_method.Goals.{else-ne-via-the
 pub instance_method_above-requires-clause-there : goal.instance_method_above-requires-clause-there
 instance_method_above-requires-clause-there c = subst (λ (linked : Linked). c.args.class < length linked.program) (sym c.self.view_is) c.requires.there
 
-pub is_superclass-requires : goal.is_superclass-requires
-is_superclass-requires c = subst (λ (linked : Linked). c.args.class < length linked.program) (sym c.self.view_is) c.requires.there
+pub is_superclass-requires-clause-there : goal.is_superclass-requires-clause-there
+is_superclass-requires-clause-there c = subst (λ (linked : Linked). c.args.class < length linked.program) (sym c.self.view_is) c.requires.there
 
 pub returns-then-is_superclass : goal.returns-then-is_superclass
 returns-then-is_superclass c =

@@ -15,36 +15,36 @@ use Rattle.dj_types.proofs.types.Types.select.Goals as goal
 pub first_method-requires-clause-there : goal.first_method-requires-clause-there
 first_method-requires-clause-there c =
     let typed = c.args.self.now in
-    let place = c.method_place.result in
+    let place = c.method_place-resolved.result in
     let found = some_there (all_methods typed.program) c.args.method.number c.requires.there in
     let told =
     subst
     (λ (t : Typed). (f : FoundMethod) (ty : Ty) → method_there t.program place ≡ Some f → c.member_class-class.result ≡ class_number t.program (member_class t.prefix ty) → TellsMethod t.program (Some c.in_ok-taken.taken) (select t.program t.prefix f ty))
-    c.self.view_is c.in_ok-taken.ensures found.0 (type_at typed c.args.class) (c.method_place.ensures.is ∙ found.1) c.member_class-class.ensures.is
+    c.self.view_is c.in_ok-taken.ensures found.0 (type_at typed c.args.class) (c.method_place-resolved.ensures.is ∙ found.1) c.member_class-class.ensures.is
     in
     (method_bounds typed.program c.in_ok-taken.taken (select typed.program typed.prefix found.0 (type_at typed c.args.class)) told).0
 
 pub first_method-requires-clause-within : goal.first_method-requires-clause-within
 first_method-requires-clause-within c =
     let typed = c.args.self.now in
-    let place = c.method_place.result in
+    let place = c.method_place-resolved.result in
     let found = some_there (all_methods typed.program) c.args.method.number c.requires.there in
     let told =
     subst
     (λ (t : Typed). (f : FoundMethod) (ty : Ty) → method_there t.program place ≡ Some f → c.member_class-class.result ≡ class_number t.program (member_class t.prefix ty) → TellsMethod t.program (Some c.in_ok-taken.taken) (select t.program t.prefix f ty))
-    c.self.view_is c.in_ok-taken.ensures found.0 (type_at typed c.args.class) (c.method_place.ensures.is ∙ found.1) c.member_class-class.ensures.is
+    c.self.view_is c.in_ok-taken.ensures found.0 (type_at typed c.args.class) (c.method_place-resolved.ensures.is ∙ found.1) c.member_class-class.ensures.is
     in
     (method_bounds typed.program c.in_ok-taken.taken (select typed.program typed.prefix found.0 (type_at typed c.args.class)) told).1
 
 pub returns : goal.returns
 returns c =
     let typed = c.args.self.now in
-    let place = c.method_place.result in
+    let place = c.method_place-resolved.result in
     let found = some_there (all_methods typed.program) c.args.method.number c.requires.there in
     let told =
     subst
     (λ (t : Typed). (f : FoundMethod) (ty : Ty) → method_there t.program place ≡ Some f → c.member_class-class.result ≡ class_number t.program (member_class t.prefix ty) → TellsMethod t.program (Some c.in_ok-taken.taken) (select t.program t.prefix f ty))
-    c.self.view_is c.in_ok-taken.ensures found.0 (type_at typed c.args.class) (c.method_place.ensures.is ∙ found.1) c.member_class-class.ensures.is
+    c.self.view_is c.in_ok-taken.ensures found.0 (type_at typed c.args.class) (c.method_place-resolved.ensures.is ∙ found.1) c.member_class-class.ensures.is
     in
     c.first_method.ensures
     ∙ ap (found_method_number typed.program)
@@ -54,12 +54,12 @@ returns c =
 pub returns-in_err-taken : goal.returns-in_err-taken
 returns-in_err-taken c =
     let typed = c.args.self.now in
-    let place = c.method_place.result in
+    let place = c.method_place-resolved.result in
     let found = some_there (all_methods typed.program) c.args.method.number c.requires.there in
     let told =
     subst
     (λ (t : Typed). (f : FoundMethod) (ty : Ty) → method_there t.program place ≡ Some f → c.member_class-class.result ≡ class_number t.program (member_class t.prefix ty) → TellsMethod t.program (None) (select t.program t.prefix f ty))
-    c.self.view_is c.in_err-taken.ensures found.0 (type_at typed c.args.class) (c.method_place.ensures.is ∙ found.1) c.member_class-class.ensures.is
+    c.self.view_is c.in_err-taken.ensures found.0 (type_at typed c.args.class) (c.method_place-resolved.ensures.is ∙ found.1) c.member_class-class.ensures.is
     in
     ap (option_map number_of_method) c.from_residual.ensures
     ∙ ap (found_method_number typed.program)

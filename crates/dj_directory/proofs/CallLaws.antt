@@ -1,0 +1,261 @@
+-- What calls look in: the rows of the methods that a call may take.
+use Rattle.std.proofs.Common.{◌≡◌, ℕ, zero, suc, ◌+◌, ◌<◌, ◌≤◌, ◌^◌, ◌&&◌, ◌⊎◌, Bool, true, false, not, nat_eq, bit_and, List, [], ◌∷◌, ◌++◌, length, get_or, All, Contains, Option, Some, None, IfSome, refl, sym, ap, ◌∙◌, subst, arith, inl, inr, if◌then◌else◌}
+use Rattle.std.specs.Prelude.{slice_get, map}
+use Rattle.std.specs.Option.{option_map}
+use Rattle.std.specs.List.Sorted.{IsPermutation, IsNonDecreasingBy}
+use Rattle.std.proofs.lemmas.Bool.{cases_lt, false≢true, eq-eqb, eqb-true}
+use Rattle.std.proofs.lemmas.Bool.Decides.{nat_tests}
+use Rattle.std.proofs.lemmas.List.{get_or_default, length-map}
+use Rattle.std.proofs.lemmas.List.Elements.{Contains-push, Contains-push_cases, Contains-append_left}
+use Rattle.std.proofs.lemmas.List.Sorted.{Contains-permutation, IsPermutation-sym}
+use Rattle.std.proofs.lemmas.Nat.Bits.{and_pow, bit_at-lt}
+use Rattle.std.proofs.lemmas.Option.{same_Some, none-some, slice_get-map}
+use Rattle.dj_names.specs.Types.{Name}
+use Rattle.dj_names.specs.declared.descriptor.Desc.{Desc}
+use Rattle.dj_model.specs.Program.{Program, Method, is_private, is_static}
+use Rattle.dj_declared.specs.Files.{desc_in}
+use Rattle.dj_declared.specs.Members.{IsDescriptor, method_flags, method_place}
+use Rattle.dj_declared.proofs.DescTests.{desc_in_is, is_descriptor}
+use Rattle.dj_classes.specs.Tables.{methods_at}
+use Rattle.dj_directory.specs.declared.rows.MemberRow.{MemberRow}
+use Rattle.dj_directory.specs.Rows.{Named, method_named, methods_named, Texts, number_in, key_of, Fits, AreInOrder, IsSuch, IsLeast, IsTold, IsRow, IsDirectory, AreRowsWith}
+use Rattle.dj_directory.specs.Calls.{takes, tests, passes, IsWhether, IsFirstOf, DeclareFirst, DeclareLike, DeclaresLike, AreMethods, IsTakable, AreTakable, IsRowAt, IsCallTable}
+use Rattle.dj_directory.specs.declared.calls.CallTable.{CallTable}
+use Rattle.dj_directory.proofs.NumberLaws.{number_is}
+use Rattle.dj_directory.proofs.RowLaws.{fit_all}
+use Rattle.dj_directory.proofs.PlaceLaws.{first_method, inside, method_there, row_in}
+
+-- ---- flags
+
+private_test : (flags : ℕ) → nat_eq (bit_and flags 2) 0 ≡ not (is_private flags)
+private_test flags = let bit = and_pow flags 1 in let lt = bit_at-lt flags 1 in grind (arith, nat_tests)
+
+static_test : (flags : ℕ) → nat_eq (bit_and flags 8) 0 ≡ not (is_static flags)
+static_test flags = let bit = and_pow flags 3 in let lt = bit_at-lt flags 3 in grind (arith, nat_tests)
+
+set_bit : (b : Bool) (n : ℕ) → nat_eq n 0 ≡ not b → (n ≡ 0 → ⊥) → b ≡ true
+set_bit true n test some = refl
+set_bit false n test some = absurd (some (eqb-true n 0 test))
+
+cleared : (b : Bool) (n : ℕ) → nat_eq n 0 ≡ not b → n ≡ 0 → b ≡ false
+cleared true n test none = absurd (false≢true (sym test ∙ eq-eqb n 0 none))
+cleared false n test none = refl
+
+and_false : (b : Bool) → (b && false) ≡ false
+and_false true = refl
+and_false false = refl
+
+and_true : (b : Bool) → (b && true) ≡ b
+and_true true = refl
+and_true false = refl
+
+-- no static method is taken, and of others a private one where it is allowed
+pub takes_no_static : (private_too : Bool) (flags : ℕ) → (bit_and flags 8 ≡ 0 → ⊥) → false ≡ takes private_too flags
+takes_no_static true flags some = rw (set_bit (is_static flags) (bit_and flags 8) (static_test flags) some) refl
+takes_no_static false flags some = rw (set_bit (is_static flags) (bit_and flags 8) (static_test flags) some) (sym (and_false (not (is_private flags))))
+
+pub takes_private : (private_too : Bool) (flags : ℕ) → bit_and flags 8 ≡ 0 → private_too ≡ true → private_too ≡ takes private_too flags
+takes_private true flags none allowed = rw (cleared (is_static flags) (bit_and flags 8) (static_test flags) none) refl
+takes_private false flags none allowed = absurd (false≢true allowed)
+
+pub takes_public : (private_too : Bool) (flags : ℕ) → bit_and flags 8 ≡ 0 → private_too ≡ false → nat_eq (bit_and flags 2) 0 ≡ takes private_too flags
+takes_public true flags none allowed = absurd (false≢true (sym allowed))
+takes_public false flags none allowed = private_test flags ∙ sym (rw (cleared (is_static flags) (bit_and flags 8) (static_test flags) none) (and_true (not (is_private flags))))
+
+takes_is : (private_too : Bool) (m : Method) → takes private_too m.flags ≡ tests private_too m
+takes_is true m = refl
+takes_is false m = refl
+
+pub passes_is : (private_too : Bool) (o : Option Method) (flags : ℕ) → Some flags ≡ option_map method_flags o → passes (tests private_too) o ≡ takes private_too flags
+passes_is private_too None flags told = absurd (none-some flags (sym told))
+passes_is private_too (Some m) flags told = sym (takes_is private_too m) ∙ ap (takes private_too) (sym (same_Some flags m.flags told))
+
+-- ---- the first row of its numbers
+
+pub least_as : (rows : List MemberRow) (name name2 desc desc2 class class2 place : ℕ) → name ≡ name2 → desc ≡ desc2 → class ≡ class2 → IsLeast rows name desc class place → IsLeast rows name2 desc2 class2 place
+least_as rows name name2 desc desc2 class class2 place named described same least =
+    subst (λ (k : ℕ). IsLeast rows name2 desc2 k place) same (subst (λ (d : ℕ). IsLeast rows name2 d class place) described (subst (λ (n : ℕ). IsLeast rows n desc class place) named least))
+
+pub not_first : (rows : List MemberRow) (row : MemberRow) → IsTold rows row.name row.desc row.class None → IsLeast rows row.name row.desc row.class row.place → ⊥
+not_first rows row none least = none least.row least.within least.such
+
+pub first_or_not : (rows : List MemberRow) (row : MemberRow) (first : ℕ) → IsTold rows row.name row.desc row.class (Some first) → IsWhether (IsLeast rows row.name row.desc row.class row.place) (nat_eq first row.place)
+first_or_not rows row first told = go (nat_eq first row.place) refl where
+  go : (b : Bool) → nat_eq first row.place ≡ b → IsWhether (IsLeast rows row.name row.desc row.class row.place) b
+  go true e = subst (IsLeast rows row.name row.desc row.class) (eqb-true first row.place e) told
+  go false e = λ least.
+      (let one = told.least least.row least.within least.such in
+      let two = least.least told.row told.within told.such in
+      let here = told.place_is in
+      let there = least.place_is in
+      let same : first ≡ row.place = omega (arith, one, two, here, there) in
+      false≢true (sym e ∙ eq-eqb first row.place same))
+
+pub takable_by : (program : Program) (test : Method → Bool) (rows : List MemberRow) (row : MemberRow) (b : Bool) → passes test (slice_get (methods_at program row.class) row.place) ≡ true
+    → IsWhether (IsLeast rows row.name row.desc row.class row.place) b → IsWhether (IsTakable program test rows row) b
+takable_by program test rows row true passed first = record { first = first; passed = passed }
+takable_by program test rows row false passed other = λ takable. other takable.first
+
+-- ---- those that a call may take, so far
+
+pub record AreSoFar (program : Program) (test : Method → Bool) (rows : List MemberRow) (count : ℕ) (taken : List MemberRow) : Type 0 where
+  pub each : (row : MemberRow) → Contains taken row → Contains rows row × IsTakable program test rows row
+  pub all : (k : ℕ) (row : MemberRow) → k < count → k < length rows → get_or rows k row ≡ row → IsTakable program test rows row → Contains taken row
+
+module _ (program : Program) (test : Method → Bool) (rows : List MemberRow) where
+  pub none_so_far : (taken : List MemberRow) → taken ≡ [] → AreSoFar program test rows 0 taken
+  none_so_far taken empty = record {
+    each = λ row there. (let lt = there.1 in let none = ap length empty in absurd (omega (arith, lt, none)));
+    all = λ k row lt. absurd (omega (arith, lt));
+  }
+
+  at_place : (i k : ℕ) (row other : MemberRow) → k < i + 1 → i < length rows → get_or rows i row ≡ row → get_or rows k other ≡ other → (k < i) ⊎ (row ≡ other)
+  at_place i k row other lt within own is = elim (cases_lt k i) [
+    | inl before ↦ inl before
+    | inr after ↦
+        (let same : k ≡ i = omega (arith, lt, after) in
+        inr (sym own ∙ get_or_default rows i row other within ∙ ap (λ (j : ℕ). get_or rows j other) (sym same) ∙ is))
+  ]
+
+  pub one_more : (i : ℕ) (row : MemberRow) (taken after : List MemberRow) → i < length rows → get_or rows i row ≡ row → AreSoFar program test rows i taken → IsTakable program test rows row → after ≡ taken ++ row ∷ []
+      → AreSoFar program test rows (i + 1) after
+  one_more i row taken after within own far takable pushed = subst (AreSoFar program test rows (i + 1)) (sym pushed) (record {
+    each = λ other there. elim (Contains-push_cases taken row other there) [
+      | inl before ↦ far.each other before
+      | inr same ↦ subst (λ (r : MemberRow). Contains rows r × IsTakable program test rows r) same ((i, within, own), takable)
+    ];
+    all = λ k other lt less is takes. elim (at_place i k row other lt within own is) [
+      | inl before ↦ Contains-append_left taken (row ∷ []) other (far.all k other before less is takes)
+      | inr same ↦ subst (Contains (taken ++ row ∷ [])) same (Contains-push taken row)
+    ];
+  })
+
+  pub none_more : (i : ℕ) (row : MemberRow) (taken : List MemberRow) → i < length rows → get_or rows i row ≡ row → AreSoFar program test rows i taken → (IsTakable program test rows row → ⊥) → AreSoFar program test rows (i + 1) taken
+  none_more i row taken within own far other_row = record {
+    each = far.each;
+    all = λ k other lt less is takes. elim (at_place i k row other lt within own is) [
+      | inl before ↦ far.all k other before less is takes
+      | inr same ↦ absurd (other_row (subst (IsTakable program test rows) (sym same) takes))
+    ];
+  }
+
+  pub all_taken : (count : ℕ) (taken sorted : List MemberRow) → length rows ≤ count → AreInOrder rows → AreSoFar program test rows count taken → IsPermutation taken sorted → IsNonDecreasingBy key_of sorted → AreTakable program test rows sorted
+  all_taken count taken sorted past order far moved ascend =
+      let back : (row : MemberRow) → Contains sorted row → Contains taken row = λ row there. Contains-permutation sorted taken row (IsPermutation-sym taken sorted moved) there in
+      record {
+        each = λ row there. far.each row (back row there);
+        all = λ row there takable. Contains-permutation taken sorted row moved (far.all there.0 row (let lt = there.1 in omega (arith, lt, past)) there.1 there.2 takable);
+        order = record {
+          fit = λ i d lt. fit_all rows (get_or sorted i d) order (far.each (get_or sorted i d) (back (get_or sorted i d) (i, lt, get_or_default sorted i (get_or sorted i d) d lt))).0;
+          ascend = ascend;
+        };
+      }
+
+-- ---- the methods of rows
+
+module _ (program : Program) (rows : List MemberRow) (methods : AreMethods program rows) where
+  own_row : (row : MemberRow) → Contains rows row → IsRow (number_in methods.texts) (methods_named program) row
+  own_row row there = row_in methods.texts (methods_named program) (length program) rows methods.are.methods_are row there
+
+  pub in_class : (row : MemberRow) → Contains rows row → row.class < length program
+  in_class row there = method_there program methods.texts rows methods.fields methods.are row.name row.desc row there
+
+  pub in_methods : (row : MemberRow) → Contains rows row → row.place < length (methods_at program row.class)
+  in_methods row there =
+      let is = own_row row there in
+      let lt = inside (methods_named program row.class) row.place (is.name, is.desc) is.there in
+      let count = length-map (methods_at program row.class) method_named in
+      omega (arith, lt, count)
+
+  module _ (row : MemberRow) (there : Contains rows row) (m : Method) (at : slice_get (methods_at program row.class) row.place ≡ Some m) where
+    named_so : method_named m ≡ ((own_row row there).name, (own_row row there).desc)
+    named_so =
+        let is = own_row row there in
+        same_Some (method_named m) (is.name, is.desc) (sym (slice_get-map method_named (methods_at program row.class) row.place ∙ ap (option_map method_named) at) ∙ is.there)
+
+    -- the first method with the name and the descriptor of this one, by the numbers
+    first_told : (class : ℕ) (result : Option ℕ) → class < length program → IsTold rows row.name row.desc class result → result ≡ method_place (methods_at program class) m.name m.desc
+    first_told class result lt told =
+        let is = own_row row there in
+        first_method program methods.texts rows methods.fields methods.are class row.name row.desc result lt told is.name is.text (number_is methods.texts is.name ∙ is.name_is) (number_is methods.texts is.text ∙ is.desc_is)
+        (is_descriptor is.text is.desc is.spelled)
+        ∙ ap (λ (n : Name). method_place (methods_at program class) n (desc_in is.text)) (sym (ap (λ (x : Named). x.0) named_so))
+        ∙ ap (method_place (methods_at program class) m.name) (desc_in_is is.text is.desc is.spelled ∙ sym (ap (λ (x : Named). x.1) named_so))
+
+    first_of : (test : Method → Bool) (other : MemberRow) → Contains rows other → other.name ≡ row.name → other.desc ≡ row.desc → IsTakable program test rows other → IsFirstOf program test m.name m.desc other.class other.place
+    first_of test other within named described takable = record {
+      first = sym (first_told other.class (Some other.place) (in_class other within) (least_as rows other.name row.name other.desc row.desc other.class other.class other.place named described refl takable.first));
+      passed = takable.passed;
+    }
+
+    module _ (test : Method → Bool) (taken found : List MemberRow) (takable : AreTakable program test rows taken) (few : length program < 2 ^ 31) (with_them : AreRowsWith taken row.name row.desc found)
+        (class place : ℕ) (lt : class < length program) (is : IsFirstOf program test m.name m.desc class place) (none : (r : MemberRow) → Contains found r → r.class ≡ class → ⊥) where
+      no_such : (n : ℕ) (r : MemberRow) → r.place < n → Contains rows r → IsSuch row.name row.desc class r → ⊥
+      no_such zero r less within such = absurd (omega (arith, less))
+      no_such (suc n) r less within such =
+          let least : IsLeast rows row.name row.desc class r.place = record {
+            row = r;
+            within = within;
+            such = such;
+            place_is = refl;
+            least = λ other in_rows also. elim (cases_lt other.place r.place) [
+              | inl under ↦ absurd (no_such n other (omega (arith, under, less)) in_rows also)
+              | inr over ↦ over
+            ];
+          } in
+          let own : place ≡ r.place = same_Some place r.place (sym is.first ∙ sym (first_told class (Some r.place) lt least)) in
+          let it : IsTakable program test rows r = record {
+            first = least_as rows row.name r.name row.desc r.desc class r.class r.place (sym such.name_is) (sym such.desc_is) (sym such.class_is) least;
+            passed = ap (λ (k : ℕ). passes test (slice_get (methods_at program k) r.place)) such.class_is ∙ ap (λ (k : ℕ). passes test (slice_get (methods_at program class) k)) (sym own) ∙ is.passed;
+          } in
+          let same = such.class_is in
+          none r (with_them.all r (takable.all r within it) such.name_is such.desc_is (omega (arith, same, lt, few))) same
+
+      not_left_out : ⊥
+      not_left_out = none-some place (first_told class None lt (λ r within such. no_such (suc r.place) r (omega arith) within such) ∙ is.first)
+
+    declare_first : (test : Method → Bool) (taken found : List MemberRow) → AreTakable program test rows taken → length program < 2 ^ 31 → AreRowsWith taken row.name row.desc found → DeclareFirst program test m.name m.desc found
+    declare_first test taken found takable few with_them = record {
+      there = λ r within. in_class r (takable.each r (with_them.each r within).0).0;
+      each = λ r within. (let own = with_them.each r within in let it = takable.each r own.0 in first_of test r it.0 own.1.0 own.1.1 it.1);
+      all = λ class place lt is none. not_left_out test taken found takable few with_them class place lt is none;
+    }
+
+    declares_first : (test : Method → Bool) (taken : List MemberRow) (other place : ℕ) → AreTakable program test rows taken → IsLeast taken row.name row.desc other place → IsFirstOf program test m.name m.desc other place
+    declares_first test taken other place takable least =
+        let it = takable.each least.row least.within in
+        subst (λ (p : ℕ). IsFirstOf program test m.name m.desc other p) least.place_is
+        (subst (λ (k : ℕ). IsFirstOf program test m.name m.desc k least.row.place) least.such.class_is (first_of test least.row it.0 least.such.name_is least.such.desc_is it.1))
+
+  module _ (row : MemberRow) (class member : ℕ) (is : IsRowAt rows class member row) where
+    at_row : (m : Method) → slice_get (methods_at program class) member ≡ Some m → slice_get (methods_at program row.class) row.place ≡ Some m
+    at_row m at = ap (λ (k : ℕ). slice_get (methods_at program k) row.place) is.class_is ∙ ap (slice_get (methods_at program class)) is.place_is ∙ at
+
+    pub declare_like : (test : Method → Bool) (taken found : List MemberRow) → AreTakable program test rows taken → length program < 2 ^ 31 → AreRowsWith taken row.name row.desc found → DeclareLike program test class member found
+    declare_like test taken found takable few with_them = λ m at. declare_first row is.within m (at_row m at) test taken found takable few with_them
+
+    pub declares_like : (test : Method → Bool) (taken : List MemberRow) (other place : ℕ) → AreTakable program test rows taken → IsLeast taken row.name row.desc other place → DeclaresLike program test class member other place
+    declares_like test taken other place takable least = λ m at. declares_first row is.within m (at_row m at) test taken other place takable least
+
+-- ---- what is kept
+
+-- those that a call may take
+abbrev pub taken_rows : CallTable → Bool → List MemberRow
+taken_rows calls private_too = if private_too then calls.instance.items else calls.plain.items
+
+pub takable_rows : (program : Program) (calls : CallTable) (is : IsCallTable program calls) (private_too : Bool) → AreTakable program (tests private_too) is.rows (taken_rows calls private_too)
+takable_rows program calls is true = is.instance
+takable_rows program calls is false = is.plain
+
+pub alike_told : (program : Program) (calls : CallTable) → IsCallTable program calls → (private_too : Bool) (class member : ℕ) (row : MemberRow) (taken found : List MemberRow) → IsRowAt calls.places.items class member row
+    → taken ≡ taken_rows calls private_too → length program < 2 ^ 31 → AreRowsWith taken row.name row.desc found → DeclareLike program (tests private_too) class member found
+alike_told program calls is private_too class member row taken found at taken_is few with_them =
+    declare_like program is.rows is.methods row class member (record { within = is.places row at.within; class_is = at.class_is; place_is = at.place_is }) (tests private_too) taken found
+    (subst (AreTakable program (tests private_too) is.rows) (sym taken_is) (takable_rows program calls is private_too)) few with_them
+
+pub taken_told : (program : Program) (calls : CallTable) → IsCallTable program calls → (private_too : Bool) (class member : ℕ) (row : MemberRow) (taken : List MemberRow) (other : ℕ) (place : Option ℕ) → IsRowAt calls.places.items class member row
+    → taken ≡ taken_rows calls private_too → IsTold taken row.name row.desc other place → IfSome place (λ p. DeclaresLike program (tests private_too) class member other p)
+taken_told program calls is private_too class member row taken other None at taken_is told = tt
+taken_told program calls is private_too class member row taken other (Some place) at taken_is told =
+    declares_like program is.rows is.methods row class member (record { within = is.places row at.within; class_is = at.class_is; place_is = at.place_is }) (tests private_too) taken other place
+    (subst (AreTakable program (tests private_too) is.rows) (sym taken_is) (takable_rows program calls is private_too)) told

@@ -1,0 +1,19 @@
+use Rattle.std.proofs.Common.{List, subst}
+use Rattle.std.proofs.lemmas.List.Sorted.{Contains-permutation, IsPermutation-sym}
+use Rattle.dj_model.specs.Program.{Program}
+use Rattle.dj_model.specs.Linking.{is_plain, is_not_static}
+use Rattle.dj_directory.specs.declared.rows.MemberRow.{MemberRow}
+use Rattle.dj_directory.specs.Calls.{AreMethods, AreTakable}
+use Rattle.dj_directory.proofs.calls.CallTable.of.Goals as goal
+
+pub returns : goal.returns
+returns c =
+    let rows : List MemberRow = c.into_methods-rows.result.items in
+    let places : List MemberRow = c.put_in_places.new.rows.items in
+    record {
+      rows = rows;
+      methods = subst (λ (program : Program). AreMethods program rows) c.in_ok-of.ensures c.into_methods-rows.ensures;
+      places = λ row there. Contains-permutation places rows row (IsPermutation-sym rows places c.put_in_places.ensures) there;
+      plain = subst (λ (all : List MemberRow). AreTakable c.args.table.now is_plain all c.in_ok-plain.plain.items) c.deref.ensures.value c.in_ok-plain.ensures;
+      instance = subst (λ (all : List MemberRow). AreTakable c.args.table.now is_not_static all c.in_ok-instance.instance.items) c.deref-2.ensures.value c.in_ok-instance.ensures;
+    }

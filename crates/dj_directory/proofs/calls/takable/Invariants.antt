@@ -1,0 +1,7 @@
+use Rattle.dj_directory.specs.Calls.{tests}
+use Rattle.dj_directory.proofs.CallLaws.{AreSoFar}
+use Rattle.dj_directory.proofs.calls.takable.Given as goal
+
+-- those of the rows so far
+abbrev pub invariant-loop-row : goal.invariant-loop-row
+invariant-loop-row l = AreSoFar l.table (tests l.private_too) l.rows l.row-index l.taken.items

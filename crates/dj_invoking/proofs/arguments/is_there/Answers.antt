@@ -1,0 +1,9 @@
+use Rattle.std.proofs.Common.{◌≤◌, length, arith}
+use Rattle.std.proofs.lemmas.Bool.Decides.{nat_tests}
+use Rattle.dj_invoking.proofs.References.{object_within}
+use Rattle.dj_invoking.proofs.arguments.is_there.Goals as goal
+
+pub returns : goal.returns
+returns c = λ told.
+    let within : c.args.r ≤ length c.args.heap.now.heap.objects = grind (arith, nat_tests, told) in
+    object_within c.args.heap.now.heap c.args.r within

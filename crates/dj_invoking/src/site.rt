@@ -1,0 +1,121 @@
+ghost use Rattle.std.specs.Prelude.{◌≡◌, ◌<◌, true, length, IfSome};
+ghost use Rattle.std.specs.Option.{option_map};
+ghost use Rattle.dj_model.specs.Types.{Prefix};
+ghost use Rattle.dj_model.specs.Instructions as model;
+ghost use Rattle.dj_model.specs.Opcodes.{instruction_of};
+ghost use Rattle.dj_model.specs.Program.{Program};
+ghost use Rattle.dj_model.specs.Sound.{IsSound, is_linked};
+ghost use Rattle.dj_types.specs.Members.{all_methods};
+ghost use Rattle.dj_image.specs.Imaged.{program_of};
+ghost use Rattle.dj_activations.specs.Instructions.{HasInstruction};
+ghost use Rattle.dj_invoking.specs.Operands.{parameters_in};
+ghost use Rattle.dj_invoking.specs.Sites.{AreParametersAt, IsCallAt, call_index, call_mode, call_named, desc_index, opcode_mode};
+
+use crate::choosing::Mode;
+use dj_activations::{instr_in, instr_of};
+use dj_image::{Image, MethodCode, MethodId, Operand};
+use dj_names::Kind;
+use dj_ops::Instr;
+use dj_shape::{ConstantKind, PoolKinds};
+
+/// What a call instruction names.
+#[derive(Debug, Drop)]
+pub struct CallSite<'i> {
+    pub mode: Mode,
+    /// The method to which the instruction resolves.
+    pub method: MethodId,
+    /// The kinds of its parameters.
+    pub kinds: &'i [Kind],
+}
+
+// How the instruction of an opcode calls, but for invokeinterface; none where it is no call.
+fn opcode_mode(op: u8) -> Option<Mode>
+    ensures { result ≡ opcode_mode op }
+{
+    match op {
+        182 => Some(Mode::Virtual),
+        183 => Some(Mode::Special),
+        184 => Some(Mode::Static),
+        _ => None,
+    }
+}
+
+// How an instruction calls; none where it is no call.
+fn call_mode(instr: &Instr) -> Option<Mode>
+    ensures { result ≡ call_mode instr.now }
+{
+    match instr {
+        Instr::Member { op, index: _ } => opcode_mode(*op),
+        Instr::Interface { index: _, count: _ } => Some(Mode::Interface),
+        _ => None,
+    }
+}
+
+/// Whether an instruction that is linked, as each of a sound program is, is a call.
+#[tactic(auto, using(crate::proofs::CallForms::call_linked))]
+pub fn is_call(instr: &Instr) -> bool
+    ensures { (program : Program) (prefix : Prefix) (named : model.Named) → is_linked program prefix (instruction_of instr.now named) ≡ true
+        → result ≡ model.calls (instruction_of instr.now named) }
+{
+    call_mode(instr).is_some()
+}
+
+// The index of the constant that a call names.
+fn call_index(instr: &Instr) -> Option<u16>
+    ensures { result ≡ call_index instr.now }
+{
+    match instr {
+        Instr::Member { op: _, index } => Some(*index),
+        Instr::Interface { index, count: _ } => Some(*index),
+        _ => None,
+    }
+}
+
+// The index of the descriptor of a method.
+fn desc_index(constant: ConstantKind) -> Option<u16>
+    ensures { result ≡ desc_index constant }
+{
+    match constant {
+        ConstantKind::Method(index) => Some(index),
+        ConstantKind::InterfaceMethod(index) => Some(index),
+        _ => None,
+    }
+}
+
+// The kinds of the parameters of the method that the constant of an index names; none where it names none, or one with floats or doubles.
+fn parameters_named(kinds: &PoolKinds, index: u16) -> Option<&[Kind]>
+    ensures { option_map (λ told. told.now) result ≡ parameters_in (call_named kinds.now index) }
+{
+    let desc = desc_index(kinds.constant(index))?;
+    let call = kinds.call(desc)?;
+    Some(call.parameters())
+}
+
+// The kinds of the parameters of the call of the instruction of a number in code.
+fn parameters_at<'i>(kinds: &'i PoolKinds, code: &MethodCode, number: u32) -> Option<&'i [Kind]>
+    ensures { IfSome result (λ told. AreParametersAt code.now kinds.now number told.now) }
+{
+    let instr = instr_in(code, number)?;
+    let index = call_index(instr)?;
+    parameters_named(kinds, index)
+}
+
+/// The call of the instruction of a number in a method with code; none where it is no call, and never of a call in a sound program (then nothing is told).
+pub fn call_at<'i>(image: &'i Image, caller: MethodId, number: u32) -> Option<CallSite<'i>>
+    requires sound { IsSound (program_of image.now) image.now.prefix }
+    requires there { caller.number < length (all_methods (program_of image.now)) }
+    requires stands { HasInstruction image.now caller.number number }
+    ensures calls { IfSome result (IsCallAt image.now caller.number number) }
+{
+    let mode = call_mode(instr_of(image, caller, number))?;
+    let Operand::Method(method) = image.operand(caller, number) else {
+        return None;
+    };
+    let parts = image.shape_parts(caller)?;
+    let kinds = parameters_at(parts.kinds, parts.code, number)?;
+    Some(CallSite {
+        mode,
+        method,
+        kinds,
+    })
+}

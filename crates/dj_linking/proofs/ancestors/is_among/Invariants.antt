@@ -1,6 +1,0 @@
-use Rattle.dj_linking.proofs.Subclasses.{IsPassed}
-use Rattle.dj_linking.proofs.ancestors.is_among.Given as goal
-
--- it is none so far
-abbrev pub invariant-loop-other : goal.invariant-loop-other
-invariant-loop-other l = IsPassed l.classes l.class l.other-index

@@ -1,0 +1,6 @@
+use Rattle.dj_linking.proofs.Subclasses.{IsPassed}
+use Rattle.dj_linking.proofs.numbers.is_among.Given as goal
+
+-- it is none so far
+abbrev pub invariant-loop-other : goal.invariant-loop-other
+invariant-loop-other l = IsPassed l.numbers l.number l.other-index

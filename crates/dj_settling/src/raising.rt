@@ -1,0 +1,96 @@
+ghost use Rattle.std.specs.Prelude.{◌≡◌, ◌++◌, IfOk};
+ghost use Rattle.dj_names.specs.Types.{sandbox_prefix};
+ghost use Rattle.dj_names.specs.Values.{raised_class};
+ghost use Rattle.dj_model.specs.Types.{raised_type};
+ghost use Rattle.dj_model.specs.Sound.{IsSound};
+ghost use Rattle.dj_calls.specs.Known.{AreKnown};
+ghost use Rattle.dj_linking.specs.Linked.{prefix_of};
+ghost use Rattle.dj_types.specs.Typed.{types_of};
+ghost use Rattle.dj_image.specs.Imaged.{program_of, typed_of};
+ghost use Rattle.dj_activations.specs.Activations.{AreActivations};
+ghost use Rattle.dj_settling.specs.Settling.{HasOwn, IsClassOf, Settles, raising};
+
+use crate::settled::Settled;
+use crate::throwing::throw_new;
+use dj_heap::Heap;
+use dj_image::{BaseNames, Image};
+use dj_names::{Charge, NoMemory, Raised};
+use dj_stack::Frames;
+use std::alloc::Global;
+
+/// An exception of an instruction's own, without message and cause, is made and thrown.
+#[tactic(auto, using(crate::proofs::RaiseLaws::raised_new))]
+pub fn raise(
+    alloc: Global,
+    image: &Image,
+    frames: &mut Frames,
+    heap: &mut Heap,
+    exceeded: Option<Charge>,
+    raised: Raised,
+) -> Result<Settled, NoMemory>
+    requires sound { IsSound (program_of image.now) image.now.prefix }
+    requires own { HasOwn image.now }
+    requires stand { AreActivations image.now frames.old }
+    requires known { AreKnown (types_of (typed_of image.now)) heap.old }
+    ensures { IfOk result (λ settled. Settles image.now exceeded (raising image.now raised) heap.old heap.new frames.old frames.new settled) }
+{
+    let class = class_of(image, raised);
+    throw_new(alloc, image, frames, heap, exceeded, class, 2)
+}
+
+// The class of an exception of an instruction's own.
+#[tactic(auto, using(crate::proofs::RaiseLaws::class_told, crate::proofs::RaiseLaws::class_lacks))]
+fn class_of(image: &Image, raised: Raised) -> u32
+    requires { HasOwn image.now }
+    ensures { IsClassOf image.now (raised_type image.now.prefix raised) result }
+{
+    match image.class_named(name_in(image, raised)) {
+        Some(class) => class,
+        None => unreachable!(),
+    }
+}
+
+// Its name in the image.
+#[tactic(auto, using(crate::proofs::RaiseLaws::raised_named))]
+pub(crate) fn name_in(image: &Image, raised: Raised) -> &'static [u8]
+    ensures { result.now ≡ image.now.prefix ++ raised_class raised }
+{
+    name_of(image.linker().base(), raised)
+}
+
+fn name_of(base: BaseNames, raised: Raised) -> &'static [u8]
+    ensures { result.now ≡ prefix_of base ++ raised_class raised }
+{
+    match base {
+        BaseNames::Plain => plain_name(raised),
+        BaseNames::Sandbox => sandbox_name(raised),
+    }
+}
+
+fn plain_name(raised: Raised) -> &'static [u8]
+    ensures { result.now ≡ raised_class raised }
+{
+    match raised {
+        Raised::Arithmetic => b"java/lang/ArithmeticException",
+        Raised::ArrayIndexOutOfBounds => b"java/lang/ArrayIndexOutOfBoundsException",
+        Raised::ArrayStore => b"java/lang/ArrayStoreException",
+        Raised::ClassCast => b"java/lang/ClassCastException",
+        Raised::NegativeArraySize => b"java/lang/NegativeArraySizeException",
+        Raised::NullPointer => b"java/lang/NullPointerException",
+        Raised::StringIndexOutOfBounds => b"java/lang/StringIndexOutOfBoundsException",
+    }
+}
+
+fn sandbox_name(raised: Raised) -> &'static [u8]
+    ensures { result.now ≡ sandbox_prefix ++ raised_class raised }
+{
+    match raised {
+        Raised::Arithmetic => b"sandbox/java/lang/ArithmeticException",
+        Raised::ArrayIndexOutOfBounds => b"sandbox/java/lang/ArrayIndexOutOfBoundsException",
+        Raised::ArrayStore => b"sandbox/java/lang/ArrayStoreException",
+        Raised::ClassCast => b"sandbox/java/lang/ClassCastException",
+        Raised::NegativeArraySize => b"sandbox/java/lang/NegativeArraySizeException",
+        Raised::NullPointer => b"sandbox/java/lang/NullPointerException",
+        Raised::StringIndexOutOfBounds => b"sandbox/java/lang/StringIndexOutOfBoundsException",
+    }
+}

@@ -1,0 +1,10 @@
+use dj_names::Outcome;
+
+/// How a run goes on after an instruction.
+#[derive(Debug, Drop)]
+pub enum Settled {
+    /// With the top frame's instruction.
+    Went,
+    /// Not at all.
+    Ended(Outcome),
+}

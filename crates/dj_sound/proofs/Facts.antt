@@ -1,0 +1,47 @@
+-- A set that is accepted and one that isn't, at plain values.
+use Rattle.std.proofs.Common.{ℕ, List, [], ◌∷◌, refl, inl, inr}
+use Rattle.std.specs.List.Sorted.{IsStrictlySortedBy}
+use Rattle.dj_names.specs.Library.{deterministic_library}
+use Rattle.dj_class.specs.ClassFile.{ClassFile, IsMalformed}
+use Rattle.dj_report.specs.declared.report.Violation.{Violation}
+use Rattle.dj_report.specs.Lines.{file_line}
+use Rattle.dj_model.specs.Libraries.{library_program}
+use Rattle.dj_model.specs.Sound.{IsSound}
+use Rattle.dj_loader.proofs.Lists.{member_first, member_none}
+use Rattle.dj_sandbox.specs.Checked.{IsCheckLine}
+use Rattle.dj_sound.specs.Accepted.{IsAccepted}
+use Rattle.dj_sound.proofs.Origins.{no_line}
+use Rattle.dj_sound.proofs.Whole.{accepted_is_sound}
+
+-- the empty set violates nothing
+no_file_line : (v : Violation) → IsCheckLine [] v → ⊥
+no_file_line v (inl (inl (file, m, line))) = member_none file m
+no_file_line v (inl (inr (inl line))) = let stands = line.stands in absurd cc
+no_file_line v (inl (inr (inr line))) = member_none line.file line.own
+no_file_line v (inr line) = elim line.line [
+  | inl (file, m, link) ↦ member_none file m
+  | inr (file, m, shape) ↦ member_none file m
+]
+
+no_file : IsAccepted [] []
+unfolding IsStrictlySortedBy
+no_file = record { good = tt; silent = record { in_order = tt; all = λ v. (λ m. absurd (member_none v m), λ line. absurd (no_file_line v line)) } }
+
+-- and then the library alone is the program
+library_alone : IsSound (library_program deterministic_library) []
+library_alone = accepted_is_sound.deterministic [] [] (library_program deterministic_library) no_file (record { classes = []; each = tt; is = refl })
+
+-- a file without bytes is no class file
+empty_malformed : IsMalformed []
+empty_malformed c is = let spelled = is.spelled in absurd cc
+
+empty_file : (path : List ℕ) (classes : List ClassFile) → IsAccepted ((path, []) ∷ []) classes → ⊥
+empty_file path classes accepted =
+    no_line ((path, []) ∷ []) classes accepted (file_line path 1) (inl (inl ((path, []), member_first (path, []) [], inl (inl empty_malformed, refl))))
+
+-- the class files are those of the files
+others : (path : List ℕ) → IsAccepted ((path, []) ∷ []) [] → ⊥
+others path accepted = accepted.good
+
+too_many : (c : ClassFile) → IsAccepted [] (c ∷ []) → ⊥
+too_many c accepted = accepted.good

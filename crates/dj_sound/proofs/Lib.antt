@@ -1,0 +1,22 @@
+pub mod Tests
+pub mod Origins
+pub mod Names
+pub mod Members
+pub mod Heads
+pub mod Ends
+pub mod Flags
+pub mod Hierarchy
+pub mod Constants
+pub mod Signatures
+pub mod Forms
+pub mod Codes
+pub mod Operands
+pub mod Linked
+pub mod Methods
+pub mod Widened
+pub mod Raw
+pub mod Whole
+pub mod Loadable
+pub mod Running
+pub mod ClassFiles
+mod Facts

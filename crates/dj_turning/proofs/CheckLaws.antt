@@ -1,0 +1,125 @@
+-- What is asked of a machine at run time: objects that may be thrown, and frames with room.
+use Rattle.std.proofs.Common.{◌≡◌, ◌<◌, ◌⊎◌, ℕ, zero, suc, ◌+◌, Bool, true, List, [], ◌∷◌, ◌++◌, length, reverse, Option, Some, None, IsSome, refl, sym, ap, subst, ◌∙◌, inl, inr, arith}
+use Rattle.std.specs.Prelude.{slice_get}
+use Rattle.std.specs.Option.{option_map}
+use Rattle.std.proofs.lemmas.Grind.{reverse_onto}
+use Rattle.std.proofs.lemmas.Option.{same_Some}
+use Rattle.dj_names.specs.declared.run.Value.{Value}
+use Rattle.dj_names.specs.declared.descriptor.Ty.{Ty}
+use Rattle.dj_names.specs.Heaps.{Object, Instance, Array, Text}
+use Rattle.dj_model.specs.Program.{Program, Code, code_of}
+use Rattle.dj_model.specs.Sound.{IsProgram}
+use Rattle.dj_heap.specs.Heaps.{LimitedHeap, object_in}
+use Rattle.dj_heap.specs.Calls.{made_as}
+use Rattle.dj_heap.specs.declared.object.Made.TheVariants as made
+use Rattle.dj_stack.specs.Frames.{StackFrame, frame_at, top_operands, top_room}
+use Rattle.dj_calls.specs.Known.{AreKnown}
+use Rattle.dj_calls.proofs.Performed.{known_at}
+use Rattle.dj_program.specs.Codes.{code_in}
+use Rattle.dj_program.specs.Views.{parts_of}
+use Rattle.dj_program.specs.declared.code.MethodCode.{MethodCode}
+use Rattle.dj_types.specs.Typed.{types_of}
+use Rattle.dj_types.specs.Members.{all_methods}
+use Rattle.dj_image.specs.Imaged.{Imaged, program_of, typed_of}
+use Rattle.dj_activations.specs.Activations.{AreActivations, IsActivation, declared_at}
+use Rattle.dj_activations.specs.Told.{IsCodeOf}
+use Rattle.dj_activations.proofs.Standing.{code_of_activation, method_within}
+use Rattle.dj_unwinding.specs.Returns.{HasRoomBelow}
+use Rattle.dj_unwinding.proofs.Tops.{on_top}
+use Rattle.dj_settling.specs.Settling.{IsThrown}
+
+-- ---- objects
+
+pub instance_thrown : (imaged : Imaged) (h : LimitedHeap) (r : ℕ) → AreKnown (types_of (typed_of imaged)) h → option_map made_as (object_in h r) ≡ Some made.Instance → IsThrown imaged h r
+instance_thrown imaged h r known e = by (object_in h r) refl e where
+  by : (o : Option (Object ℕ)) → object_in h r ≡ o → option_map made_as o ≡ Some made.Instance → IsThrown imaged h r
+  by None is e = absurd cc
+  by (Some (Instance class fields)) is e =
+      let k = known_at (types_of (typed_of imaged)) h r (Instance class fields) is known in
+      record { object = Instance class fields; there = is; class = record { within = k.class; plain = ap (λ (t : Ty). t.dims) k.holds.1 } }
+  by (Some (Array class element contents)) is e = absurd cc
+  by (Some (Text class units)) is e = absurd cc
+
+-- ---- frames by their numbers
+
+in_front : (xs ys : List StackFrame) (n : ℕ) (x : StackFrame) → slice_get xs n ≡ Some x → slice_get (xs ++ ys) n ≡ Some x
+in_front [] ys n x e = absurd cc
+in_front (y ∷ xs) ys zero x e = e
+in_front (y ∷ xs) ys (suc n) x e = in_front xs ys n x e
+
+at_second : (f g : StackFrame) (below : List StackFrame) (n : ℕ) → n ≡ length below → frame_at (f ∷ (g ∷ below)) n ≡ Some g
+at_second f g below n e =
+    ap (λ (frames : List StackFrame). slice_get frames n) (reverse_onto (g ∷ below) f []) ∙ in_front (reverse (g ∷ below)) (f ∷ []) n g (on_top g below n e)
+
+pub second_there : (frames : List StackFrame) (n : ℕ) → n + 2 ≡ length frames → IsSome (frame_at frames n)
+second_there [] n e = absurd (omega (arith, e))
+second_there (f ∷ []) n e = absurd (omega (arith, e))
+second_there (f ∷ (g ∷ below)) n e = subst IsSome (sym (at_second f g below n (omega (arith, e)))) refl
+
+last_or_front : (xs : List StackFrame) (g : StackFrame) (n : ℕ) (f : StackFrame) → slice_get (xs ++ g ∷ []) n ≡ Some f → (slice_get xs n ≡ Some f) ⊎ (g ≡ f)
+last_or_front [] g zero f e = inr (same_Some g f e)
+last_or_front [] g (suc n) f e = absurd cc
+last_or_front (x ∷ xs) g zero f e = inl e
+last_or_front (x ∷ xs) g (suc n) f e = last_or_front xs g n f e
+
+activation_at : (imaged : Imaged) (frames : List StackFrame) (n : ℕ) (f : StackFrame) → AreActivations imaged frames → frame_at frames n ≡ Some f → IsActivation imaged f
+activation_at imaged [] n f stand e = absurd cc
+activation_at imaged (g ∷ below) n f stand e =
+    elim (last_or_front (reverse below) g n f (sym (ap (λ (frames : List StackFrame). slice_get frames n) (reverse_onto below g [])) ∙ e)) [
+      | inl front ↦ activation_at imaged below n f stand.1 front
+      | inr same ↦ subst (IsActivation imaged) same stand.0
+    ]
+
+-- ---- their methods and their room
+
+at_frame : (frames : List StackFrame) (n m : ℕ) (part : StackFrame → ℕ) → option_map part (frame_at frames n) ≡ Some m → (f : StackFrame) → frame_at frames n ≡ Some f → part f ≡ m
+at_frame frames n m part e f is = same_Some (part f) m (sym (ap (option_map part) is) ∙ e)
+
+pub frame_within : (imaged : Imaged) (frames : List StackFrame) (n method : ℕ) → AreActivations imaged frames → option_map (λ (frame : StackFrame). frame.method) (frame_at frames n) ≡ Some method
+    → method < length (all_methods (program_of imaged))
+frame_within imaged frames n method stand e = by (frame_at frames n) refl e where
+  by : (o : Option StackFrame) → frame_at frames n ≡ o → option_map (λ (frame : StackFrame). frame.method) o ≡ Some method → method < length (all_methods (program_of imaged))
+  by None is e = absurd cc
+  by (Some f) is e =
+      subst (λ (k : ℕ). k < length (all_methods (program_of imaged))) (same_Some f.method method e) (method_within imaged f (activation_at imaged frames n f stand is))
+
+pub roomy : (imaged : Imaged) → IsProgram (program_of imaged) → (frames : List StackFrame) (n method count : ℕ) (code : MethodCode) → AreActivations imaged frames
+    → option_map (λ (frame : StackFrame). frame.method) (frame_at frames n) ≡ Some method → option_map (λ (frame : StackFrame). length frame.operands) (frame_at frames n) ≡ Some count
+    → IsCodeOf imaged method code → count < code.max_stack → (frame : StackFrame) → frame_at frames n ≡ Some frame → length frame.operands < frame.room
+unfolding code_in
+roomy imaged formed frames n method count code stand m c is less frame at =
+    let act = activation_at imaged frames n frame stand at in
+    let method_is : frame.method ≡ method = at_frame frames n method (λ (f : StackFrame). f.method) m frame at in
+    let count_is : length frame.operands ≡ count = at_frame frames n count (λ (f : StackFrame). length f.operands) c frame at in
+    let own : Code = code_in is.pool (parts_of code) in
+    let told : code_of (program_of imaged) (declared_at (program_of imaged) frame.method) ≡ Some own =
+    ap (λ (k : ℕ). code_of (program_of imaged) (declared_at (program_of imaged) k)) method_is ∙ is.is in
+    let same : act.code ≡ own = same_Some act.code own (sym (code_of_activation imaged formed frame act) ∙ told) in
+    let most : act.code.max_stack ≡ code.max_stack = ap (λ (k : Code). k.max_stack) same in
+    let room = act.room in
+    omega (arith, less, count_is, most, room)
+
+-- ---- the top frame, and the one below it
+
+abbrev pub IsRoomy : List StackFrame → ℕ → Type 0
+IsRoomy frames n = (frame : StackFrame) → frame_at frames n ≡ Some frame → length frame.operands < frame.room
+
+pub top_roomy : (frames : List StackFrame) (n : ℕ) → n + 1 ≡ length frames → IsRoomy frames n → length (top_operands frames) < top_room frames
+top_roomy [] n e roomy = absurd (omega (arith, e))
+top_roomy (f ∷ below) n e roomy = roomy f (on_top f below n (omega (arith, e)))
+
+pub nothing_below : (program : Program) (frames : List StackFrame) → HasRoomBelow program frames None
+nothing_below program [] = tt
+nothing_below program (f ∷ []) = tt
+nothing_below program (f ∷ (caller ∷ below)) = λ e. tt
+
+pub last_below : (program : Program) (frames : List StackFrame) (value : Option Value) → length frames < 2 → HasRoomBelow program frames value
+last_below program [] value few = tt
+last_below program (f ∷ []) value few = tt
+last_below program (f ∷ (caller ∷ below)) value few = absurd (omega (arith, few))
+
+pub roomy_below : (program : Program) (frames : List StackFrame) (value : Option Value) (n : ℕ) → n + 2 ≡ length frames → IsRoomy frames n → HasRoomBelow program frames value
+roomy_below program [] value n e roomy = tt
+roomy_below program (f ∷ []) value n e roomy = tt
+roomy_below program (f ∷ (caller ∷ below)) None n e roomy = λ plain. tt
+roomy_below program (f ∷ (caller ∷ below)) (Some v) n e roomy = λ plain. roomy caller (at_second f caller below n (omega (arith, e)))

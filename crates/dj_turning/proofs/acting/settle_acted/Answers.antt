@@ -1,0 +1,18 @@
+use Rattle.std.proofs.Common.{sym, subst}
+use Rattle.dj_names.specs.declared.run.Outcome.TheVariants as outcomes
+use Rattle.dj_acting.specs.declared.acted.Acted.{Acted}
+use Rattle.dj_settling.specs.declared.settled.Settled.TheVariants as settles
+use Rattle.dj_settling.proofs.WayLaws.{as_ended}
+use Rattle.dj_turning.specs.Doing.{ActedSettles}
+use Rattle.dj_turning.proofs.acting.settle_acted.Goals as goal
+
+pub returns-in-Link : goal.returns-in-Link
+returns-in-Link c =
+    subst (λ (a : Acted). ActedSettles c.args.image.now c.args.exceeded a c.args.heap.now c.args.heap.now c.args.frames.now c.args.frames.now (settles.Ended outcomes.Link)) (sym c.in-Link.is)
+    (as_ended c.args.image.now c.args.exceeded outcomes.Link c.args.heap.now c.args.frames.now c.requires.some c.requires.known c.requires.stand)
+
+pub returns-in-HeapFull : goal.returns-in-HeapFull
+returns-in-HeapFull c =
+    let outcome = outcomes.HeapFull c.in-HeapFull.used c.in-HeapFull.size in
+    subst (λ (a : Acted). ActedSettles c.args.image.now c.args.exceeded a c.args.heap.now c.args.heap.now c.args.frames.now c.args.frames.now (settles.Ended outcome)) (sym c.in-HeapFull.is)
+    (as_ended c.args.image.now c.args.exceeded outcome c.args.heap.now c.args.frames.now c.requires.some c.requires.known c.requires.stand)

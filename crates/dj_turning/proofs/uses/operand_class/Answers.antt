@@ -1,0 +1,21 @@
+use Rattle.dj_activations.proofs.InstructionFacts.{has_instr}
+use Rattle.dj_turning.proofs.UsedLaws.{named_then, operand_named}
+use Rattle.dj_turning.proofs.uses.operand_class.Goals as goal
+
+pub operand-operand-requires : goal.operand-operand-requires
+operand-operand-requires c =
+    has_instr c.args.image.now c.args.method.number c.args.number c.instr_of-instr.result.now c.instr_of-instr.ensures.0 c.instr_of-instr.ensures.1.stands
+
+pub class_of_operand-requires : goal.class_of_operand-requires
+class_of_operand-requires c = (
+  c.instr_of-instr.ensures.0,
+  operand_named c.args.image.now c.args.method.number c.args.number c.instr_of-instr.result.now c.instr_of-instr.ensures.0 c.operand-operand.result c.requires.sound c.instr_of-instr.ensures.1
+      c.operand-operand.ensures,
+)
+
+pub returns : goal.returns
+returns c = λ i told.
+    let named = c.instr_of-instr.ensures.0 in
+    named_then c.args.image.now c.args.method.number c.args.number c.instr_of-instr.result.now named c.class_of_operand.result c.instr_of-instr.ensures.1
+    (c.class_of_operand.ensures named
+    (operand_named c.args.image.now c.args.method.number c.args.number c.instr_of-instr.result.now named c.operand-operand.result c.requires.sound c.instr_of-instr.ensures.1 c.operand-operand.ensures)) i told

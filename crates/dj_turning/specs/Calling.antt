@@ -1,0 +1,24 @@
+-- The code's own: a call whose method was chosen.
+use Rattle.std.specs.Prelude.{◌≡◌, ◌<◌, List, length, Some}
+use Rattle.dj_model.specs.Types.{Member}
+use Rattle.dj_model.specs.Instructions.{Mode}
+use Rattle.dj_stack.specs.Frames.{StackFrame, top_method}
+use Rattle.dj_image.specs.Imaged.{Imaged, program_of}
+use Rattle.dj_activations.specs.Activations.{declared_at}
+use Rattle.dj_initialising.specs.Preparing.{parts}
+use Rattle.dj_invoking.specs.declared.answers.Invoked.{Invoked}
+use Rattle.dj_invoking.specs.Invoking.{Invokes, site}
+use Rattle.dj_settling.specs.Settling.{IsStop}
+use Rattle.dj_turning.specs.Running.{Running}
+use Rattle.dj_turning.specs.Doing.{IsStill}
+
+-- the run with other frames
+abbrev pub before : Running → List StackFrame → Running
+before r old = record r { parts = parts r.parts.flags r.parts.store old }
+
+-- the call was begun on these frames
+pub record IsInvoked (imaged : Imaged) (old : List StackFrame) (called : Mode) (m : Member) (r : Running) (invoked : Invoked) : Type 0 where
+  pub some : 0 < length old
+  pub still : IsStill imaged (before r old)
+  pub stop : IsStop imaged r.parts.store.heap r.stop
+  pub invokes : Invokes (site imaged old r.parts.store.heap.heap called (declared_at (program_of imaged) (top_method old)).class m) r.parts.frames (Some invoked)

@@ -1,0 +1,14 @@
+-- The code's own: an instruction by its operand.
+use Rattle.std.specs.Prelude.{◌≡◌, true}
+use Rattle.dj_ops.specs.declared.instruction.Instr.{Instr}
+use Rattle.dj_model.specs.Instructions.{Named}
+use Rattle.dj_model.specs.Opcodes.{instruction_of}
+use Rattle.dj_model.specs.Sound.{is_linked}
+use Rattle.dj_image.specs.declared.operand.Operand.{Operand}
+use Rattle.dj_image.specs.Imaged.{Imaged, program_of}
+use Rattle.dj_image.specs.Operands.{operand_of}
+
+-- the operand is that of the instruction, which is linked
+pub record IsOperandNamed (imaged : Imaged) (instr : Instr) (operand : Operand) (named : Named) : Type 0 where
+  pub is : operand ≡ operand_of imaged instr named
+  pub linked : is_linked (program_of imaged) imaged.prefix (instruction_of instr named) ≡ true

@@ -1,0 +1,42 @@
+ghost use Rattle.std.specs.Prelude.{IfOk};
+ghost use Rattle.dj_turning.specs.Running.{IsKept, IsRunning};
+ghost use Rattle.dj_turning.specs.Doing.{PreparesNext};
+
+use crate::frames::top_of;
+use crate::run::Run;
+use crate::tables::Tables;
+use crate::uses::used_class;
+use dj_image::Image;
+use dj_initialising::{Prepared, initialise};
+use dj_names::NoMemory;
+use std::alloc::Global;
+
+/// The class that the top frame's next instruction uses is initialised (JVMS 5.5).
+#[tactic(auto, using(crate::proofs::Prepared::prepared_then, crate::proofs::Prepared::prepared_already))]
+pub(crate) fn prepare(
+    alloc: Global,
+    image: &Image,
+    tables: &Tables,
+    run: &mut Run,
+) -> Result<Prepared, NoMemory>
+    requires kept { IsKept image.now tables.now }
+    requires running { IsRunning image.now run.old }
+    ensures { IfOk result (PreparesNext image.now run.old run.new) }
+{
+    let top = top_of(image, &run.frames);
+    match used_class(image, top.method, top.number)? {
+        Some(class) => initialise(
+            alloc,
+            image,
+            &tables.places,
+            &tables.initialisers,
+            &mut run.flags,
+            &mut run.statics,
+            &mut run.literals,
+            &mut run.heap,
+            &mut run.frames,
+            class,
+        ),
+        None => Ok(Prepared::Ready),
+    }
+}

@@ -1,0 +1,38 @@
+use dj_calls::Accounter;
+use dj_heap::Heap;
+use dj_initialising::Initialised;
+use dj_members::{Literals, Statics};
+use dj_names::Value;
+use dj_stack::Frames;
+use std::marker::Model;
+
+/// What a run keeps.
+#[derive(Drop)]
+pub struct Run {
+    /// Which classes are initialised.
+    pub flags: Initialised,
+    pub statics: Statics,
+    pub literals: Literals,
+    pub heap: Heap,
+    pub frames: Frames,
+    /// Who counts; nobody, where the classes aren't rewritten.
+    pub accounter: Option<Accounter>,
+    /// The number of the object that stops the run, once it was thrown, and 0 before.
+    pub stop: u32,
+    /// Room for the arguments of a call.
+    pub arguments: Vec<Value>,
+}
+
+impl Model for Run {
+    ghost use Rattle.dj_initialising.specs.Store.{store};
+    ghost use Rattle.dj_initialising.specs.Preparing.{parts};
+    ghost use Rattle.dj_turning.specs.Running.{Running};
+
+    ghost Value = { Running };
+
+    ghost view = { λ run. record {
+      parts = parts run.flags (store run.heap run.statics run.literals) run.frames;
+      counter = run.accounter;
+      stop = run.stop;
+    } };
+}

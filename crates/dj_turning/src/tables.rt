@@ -1,0 +1,132 @@
+ghost use Rattle.std.specs.Prelude.{◌≡◌, Some, IfOk, IfSome, slice_get};
+ghost use Rattle.dj_names.specs.Types.{class_type};
+ghost use Rattle.dj_model.specs.Types as named;
+ghost use Rattle.dj_model.specs.Sound.{IsSound};
+ghost use Rattle.dj_linking.specs.Linked.{prefix_of};
+ghost use Rattle.dj_types.specs.Typed.{types_of};
+ghost use Rattle.dj_image.specs.Imaged.{program_of, typed_of};
+ghost use Rattle.dj_invoking.specs.Natives.{AreNatives};
+ghost use Rattle.dj_settling.specs.Settling.{HasOwn};
+ghost use Rattle.dj_turning.specs.Running.{IsKept};
+
+use dj_image::{BaseNames, Image};
+use dj_initialising::{Initialisers, StaticPlaces};
+use dj_invoking::Natives;
+use dj_names::NoMemory;
+use dj_settling::has_own;
+use std::alloc::Global;
+use std::marker::Model;
+
+/// What is made once of an image.
+#[derive(Drop)]
+pub struct Tables {
+    pub(crate) places: StaticPlaces,
+    pub(crate) initialisers: Initialisers,
+    pub(crate) natives: Natives,
+    // The number of the class Throwable.
+    pub(crate) throwable: u32,
+}
+
+impl Model for Tables {
+    ghost use Rattle.dj_turning.specs.Running.{Kept};
+
+    ghost Value = { Kept };
+
+    ghost view = { λ tables. record {
+      places = tables.places;
+      initialisers = tables.initialisers;
+      natives = tables.natives;
+      throwable = tables.throwable;
+    } };
+}
+
+impl Tables {
+    /// What a run needs of an image beside its readers. It isn't told of an image without a class that the machine throws, or without Throwable;
+    /// none with a library lacks one.
+    pub fn of(alloc: Global, image: &Image) -> Result<Tables, NoMemory>
+        requires { IsSound (program_of image.now) image.now.prefix }
+        ensures { IfOk result (IsKept image.now) }
+    {
+        if has_own(image) {
+            tables_of(alloc, image)
+        } else {
+            Err(NoMemory::Memory)
+        }
+    }
+
+    /// The places of static fields.
+    pub fn places(&self) -> &StaticPlaces
+        ensures { result.now ≡ self.now.places }
+    {
+        &self.places
+    }
+
+    /// The initialisers of classes.
+    pub fn initialisers(&self) -> &Initialisers
+        ensures { result.now ≡ self.now.initialisers }
+    {
+        &self.initialisers
+    }
+
+    /// The classes of the parameters of native methods.
+    pub fn natives(&self) -> &Natives
+        ensures { result.now ≡ self.now.natives }
+    {
+        &self.natives
+    }
+
+    /// The class Throwable.
+    pub fn throwable(&self) -> u32
+        ensures { result ≡ self.now.throwable }
+    {
+        self.throwable
+    }
+}
+
+// Of an image with the classes that the machine throws.
+fn tables_of(alloc: Global, image: &Image) -> Result<Tables, NoMemory>
+    requires sound { IsSound (program_of image.now) image.now.prefix }
+    requires own { HasOwn image.now }
+    ensures { IfOk result (IsKept image.now) }
+{
+    image.is_numbered();
+    let Some(throwable) = throwable(image) else {
+        return Err(NoMemory::Memory);
+    };
+    let places = StaticPlaces::of(alloc, image)?;
+    let initialisers = Initialisers::of(alloc, image)?;
+    let natives = natives_of(alloc, image)?;
+    Ok(Tables {
+        places,
+        initialisers,
+        natives,
+        throwable,
+    })
+}
+
+// The classes of the parameters of native methods. No native method of a library takes references of a class without a number.
+fn natives_of(alloc: Global, image: &Image) -> Result<Natives, NoMemory>
+    ensures { IfOk result (AreNatives image.now) }
+{
+    match Natives::of(alloc, image) {
+        Ok(natives) => Ok(natives),
+        Err(_) => Err(NoMemory::Memory),
+    }
+}
+
+// The class Throwable.
+fn throwable(image: &Image) -> Option<u32>
+    ensures { IfSome result (λ class. slice_get (types_of (typed_of image.now)) class ≡ Some (class_type (named.throwable_name image.now.prefix))) }
+{
+    let linker = image.linker();
+    linker.classes().class_named(throwable_name(linker.base()))
+}
+
+fn throwable_name(base: BaseNames) -> &'static [u8]
+    ensures { result.now ≡ named.throwable_name (prefix_of base) }
+{
+    match base {
+        BaseNames::Plain => b"java/lang/Throwable",
+        BaseNames::Sandbox => b"sandbox/java/lang/Throwable",
+    }
+}

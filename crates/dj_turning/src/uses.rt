@@ -1,0 +1,113 @@
+ghost use Rattle.std.specs.Prelude.{◌≡◌, ◌<◌, Some, length, IfOk};
+ghost use Rattle.dj_model.specs.Types.{Member};
+ghost use Rattle.dj_model.specs.Instructions as model;
+ghost use Rattle.dj_model.specs.Instructions.{Instruction, Invoke, Named};
+ghost use Rattle.dj_model.specs.Linking.{FoundMethod, resolve_method};
+ghost use Rattle.dj_model.specs.Opcodes.{instruction_of};
+ghost use Rattle.dj_model.specs.Sound.{IsSound};
+ghost use Rattle.dj_types.specs.Members.{all_fields, all_methods};
+ghost use Rattle.dj_image.specs.Imaged.{program_of};
+ghost use Rattle.dj_image.specs.declared.operand.Operand.TheVariants as operands;
+ghost use Rattle.dj_activations.specs.Instructions.{HasInstruction, instruction_of_number};
+ghost use Rattle.dj_invoking.specs.Choosing.{IsMethod, told_mode};
+ghost use Rattle.dj_turning.specs.Doing.{IsUsed};
+ghost use Rattle.dj_turning.specs.Uses.{IsOperandNamed};
+
+use dj_acting::{ClassUse, FieldUse, class_use, field_use};
+use dj_activations::instr_of;
+use dj_image::{FieldId, Image, MethodId, Operand};
+use dj_invoking::{Mode, call_at};
+use dj_names::NoMemory;
+use dj_ops::Instr;
+
+/// The class that the instruction of a number uses, which is initialised before it (JVMS 5.5); none where it uses none.
+pub(crate) fn used_class(
+    image: &Image,
+    method: MethodId,
+    number: u32,
+) -> Result<Option<u32>, NoMemory>
+    requires sound { IsSound (program_of image.now) image.now.prefix }
+    requires there { method.number < length (all_methods (program_of image.now)) }
+    requires stands { HasInstruction image.now method.number number }
+    ensures { (i : Instruction) → instruction_of_number image.now method.number number ≡ Some i → IfOk result (IsUsed image.now i) }
+{
+    match call_at(image, method, number) {
+        Some(site) => Ok(called_class(image, site.mode, site.method)),
+        None => operand_class(image, method, number),
+    }
+}
+
+// The class that a call uses: that of the method, where it is static.
+
+fn called_class(image: &Image, mode: Mode, method: MethodId) -> Option<u32>
+    requires there { method.number < length (all_methods (program_of image.now)) }
+    ensures { (called : model.Mode) (m : Member) (resolved : FoundMethod) → told_mode called ≡ mode
+        → resolve_method (program_of image.now) image.now.prefix m ≡ Some resolved → IsMethod (program_of image.now) method resolved → IsUsed image.now (Invoke called m) result }
+{
+    match mode {
+        Mode::Static => Some(image.method(method).class),
+        Mode::Virtual => None,
+        Mode::Special => None,
+        Mode::Interface => None,
+    }
+}
+
+// The class that an instruction uses, which is no call, by its operand.
+fn operand_class(image: &Image, method: MethodId, number: u32) -> Result<Option<u32>, NoMemory>
+    requires sound { IsSound (program_of image.now) image.now.prefix }
+    requires there { method.number < length (all_methods (program_of image.now)) }
+    requires stands { HasInstruction image.now method.number number }
+    ensures { (i : Instruction) → instruction_of_number image.now method.number number ≡ Some i → IfOk result (IsUsed image.now i) }
+{
+    let instr = instr_of(image, method, number);
+    let operand = image.operand(method, number);
+    class_of_operand(image, instr, operand)
+}
+
+// The class that an instruction with this operand uses. There is no memory for the call of a method that isn't there; no sound program has one.
+
+fn class_of_operand(image: &Image, instr: &Instr, operand: Operand) -> Result<Option<u32>, NoMemory>
+    requires { (named : Named) × IsOperandNamed image.now instr.now operand named }
+    ensures { (named : Named) → IsOperandNamed image.now instr.now operand named → IfOk result (IsUsed image.now (instruction_of instr.now named)) }
+{
+    match operand {
+        Operand::Class(class) => Ok(new_class(image, instr, class)),
+        Operand::Field(field) => Ok(static_class(image, instr, field)),
+        Operand::Nothing => Ok(None),
+        Operand::Int(_) => Ok(None),
+        Operand::Long(_) => Ok(None),
+        Operand::Text(_) => Ok(None),
+        Operand::Method(_) => Err(NoMemory::Memory),
+        Operand::Unresolved => Err(NoMemory::Memory),
+    }
+}
+
+// That of an instruction on a class: only `new` uses it.
+
+fn new_class(image: &Image, instr: &Instr, class: u32) -> Option<u32>
+    ensures { (named : Named) → IsOperandNamed image.now instr.now (operands.Class class) named → IsUsed image.now (instruction_of instr.now named) result }
+{
+    match class_use(instr) {
+        ClassUse::New => Some(class),
+        ClassUse::NewArray => None,
+        ClassUse::Cast => None,
+        ClassUse::Instance => None,
+        ClassUse::Other => None,
+        ClassUse::Plain => None,
+    }
+}
+
+// That of an instruction on a field: where it is static, the class that declares it.
+
+fn static_class(image: &Image, instr: &Instr, field: FieldId) -> Option<u32>
+    requires { field.number < length (all_fields (program_of image.now)) }
+    ensures { (named : Named) → IsOperandNamed image.now instr.now (operands.Field field) named → IsUsed image.now (instruction_of instr.now named) result }
+{
+    match field_use(instr) {
+        FieldUse::GetStatic => Some(image.field(field).class),
+        FieldUse::PutStatic => Some(image.field(field).class),
+        FieldUse::Get => None,
+        FieldUse::Put => None,
+        FieldUse::Neither => None,
+    }
+}
