@@ -1,4 +1,4 @@
-"""The classes of the deterministic library, with their methods; the reference implementation takes them from here.
+"""The classes of the deterministic library and of the raw one, with their methods; the reference implementation takes them from here.
 
 They are told by the tables of docs/RULES.md and docs/LIBRARY.md. A name without a package is of java/lang, in descriptors too.
 """
@@ -58,9 +58,9 @@ def is_thrown(name):
     return name.endswith(("Exception", "Error", "Throwable"))
 
 
-def methods_of(name):
+def methods_of(name, more):
     """The flags of each method by its name and its descriptor."""
-    kinds = [(METHODS.get(name, ""), ABSTRACT if name in INTERFACES else 0), (STATICS.get(name, ""), STATIC)]
+    kinds = [(METHODS.get(name, ""), ABSTRACT if name in INTERFACES else 0), (STATICS.get(name, ""), STATIC), (more, STATIC)]
     if is_thrown(name):
         kinds += [(THROWN, 0), (WITH_CAUSE if name in CAUSED else "", 0)]
     found = {}
@@ -75,12 +75,19 @@ def methods_of(name):
 class LibraryClass:
     """It has no field that code can name."""
 
-    def __init__(self, name, super_name):
+    def __init__(self, name, super_name, more=""):
+        """`more` are static methods that it has besides."""
         self.name = full(name)
         self.flags = (FINAL if name in FINALS else 0) | (INTERFACE | ABSTRACT if name in INTERFACES else 0)
         self.super_class = full(super_name) if super_name else None
         self.interfaces = [full(above) for above in LISTED.get(name, [])]
-        self.fields, self.methods = {}, methods_of(name)
+        self.fields, self.methods = {}, methods_of(name, more)
 
 
-LIBRARY = [LibraryClass("Object", None)] + [LibraryClass(name, above) for above, names in BELOW.items() for name in names.split()]
+def library(more):
+    """The library, some of whose classes have more static methods."""
+    below = [LibraryClass(name, above, more.get(name, "")) for above, names in BELOW.items() for name in names.split()]
+    return [LibraryClass("Object", None), *below]
+
+
+LIBRARY, RAW_LIBRARY = library({}), library({"System": "nanoTime()J currentTimeMillis()J"})

@@ -8,7 +8,7 @@ nothing with the program. Lines are those of check_rules.py.
 import check_rules
 from check_rules import ABSTRACT, INTERFACE, INVOKEINTERFACE, LDC, LDC2_W, LDC_W, UNCATCHABLE, name_of_class, rules_of_instruction
 from class_reader import CLASS, DOUBLE, FIELD, FLOAT, INTEGER, INTERFACE_METHOD, LONG, METHOD, METHOD_HANDLE, METHOD_TYPE, STRING
-from library_classes import LIBRARY, OBJECT
+from library_classes import OBJECT
 
 STATIC, PRIVATE = 0x0008, 0x0002
 
@@ -32,8 +32,8 @@ def lines(good, classes):
     return set().union(*(lines_of_file(path, view, classes) for path, view in good))
 
 
-def classes_of(good):
-    return {one.name: one for one in LIBRARY} | {view.this_class: SetClass(view) for _, view in good}
+def classes_of(good, library):
+    return {one.name: one for one in library} | {view.this_class: SetClass(view) for _, view in good}
 
 
 class SetClass:

@@ -1,11 +1,11 @@
 #!/usr/bin/env python3
 """Makes the folders of tests/cases anew.
 
-The class files come from class_files.py, the cases of `djvm verify` from verify_cases.py, those on constant pools from
-pool_cases.py, and those on the rules of `djvm check` from rule_cases.py, code_rule_cases.py, link_rule_cases.py,
+The class files come from class_files.py, the cases of `djvm verify` from verify_cases.py, those of `djvm raw` from raw_cases.py, those on
+constant pools from pool_cases.py, and those on the rules of `djvm check` from rule_cases.py, code_rule_cases.py, link_rule_cases.py,
 resolution_cases.py, shape_rule_cases.py and shape_instruction_cases.py. The expected output and status of each case are those of reference.py, a small reference implementation
 that was written from the description of the commands and not from the program. The cases on rules say by hand which lines
-they have, and nothing is made where reference.py tells others.
+they have, and nothing is made where reference.py tells others. What a run of `raw` writes is told by hand, where reference.py comes to the run.
 
 A case is a folder with `files/`, in which the program is run, `words`, one a line (an empty line is an empty word),
 `stdout` and `status`. An empty `.keep` makes a folder exist; it is no class file.
@@ -22,6 +22,8 @@ import check_rules
 import code_rule_cases  # It adds its cases to those of rule_cases, as link_rule_cases and those of resolution and shape do.
 import link_rule_cases
 import pool_cases
+import raw_cases
+import reference
 import resolution_cases
 import rule_cases
 import shape_instruction_cases
@@ -529,13 +531,17 @@ def make(name, files, words, folders):
         told, wanted = told_lines(text), list(rule_cases.found[name][1])
         if sorted(told) != sorted(wanted):
             sys.exit("%s: told %s, wanted %s" % (name, sorted(set(told) - set(wanted)), sorted(set(wanted) - set(told))))
+    if (text, status) == (b"", reference.NO_RUN) or name in raw_cases.told:
+        if status != reference.NO_RUN:
+            sys.exit("%s: told %r with status %d, and the case tells a run" % (name, text, status))
+        text, status = raw_cases.told[name]
     write(os.path.join(top, "words"), "".join(word + "\n" for word in words).encode())
     write(os.path.join(top, "stdout"), text)
     write(os.path.join(top, "status"), b"%d\n" % status)
 
 
 def main():
-    for name, made in [*pool_cases.found.items(), *verify_cases.found.items()]:
+    for name, made in [*pool_cases.found.items(), *verify_cases.found.items(), *raw_cases.found.items()]:
         case(name, *made)
     for name, (files, _) in rule_cases.found.items():
         case(name, files)

@@ -1,6 +1,6 @@
 #!/usr/bin/env python3
-"""A small reference implementation: what `djvm check FOLDER` and `djvm verify FOLDER ENTRY INPUT` with its options must
-write, and the exit status.
+"""A small reference implementation: what `djvm check FOLDER`, `djvm verify FOLDER ENTRY INPUT` and `djvm raw FOLDER ENTRY INPUT` with their
+options must write, and the exit status. It makes no run of `raw`: where one decides, it writes nothing, and its status is 70.
 
 It was written from the description of the commands and from the JVM Specification SE 8, chapters 4 and 6, and shares
 nothing with the program. tests/make_cases.py takes the expected output of each case from it. It can stand in for the
@@ -20,6 +20,7 @@ sys.dont_write_bytecode = True
 import check_rules
 import shape_rules
 from class_reader import UTF8, ClassFile, Malformed, Reader, units_of, utf16
+from library_classes import RAW_LIBRARY
 
 MOST_FILES = 4096
 MOST_BYTES = 4194304
@@ -28,18 +29,20 @@ MOST_INPUT = 1048576
 MOST_ENTRIES = 1048576
 MOST_LEVELS = 64
 
-EXCEPTION, REJECTED, THRESHOLD, LIMIT, USAGE, FAULT, SINK, LATER = 1, 2, 3, 7, 64, 65, 66, 75
+EXCEPTION, REJECTED, THRESHOLD, LIMIT, USAGE, FAULT, SINK, NO_RUN, LATER = 1, 2, 3, 7, 64, 65, 66, 70, 75
 
-# The name of the rule that `verify` judges alone; check_rules.py has the others.
+# The name of the rule that `verify` and `raw` judge alone; check_rules.py has the others.
 RULES = {**check_rules.RULES, 20: "ENTRY"}
 
-# The options of `verify`: the most that each may be, and what stands for it where it isn't given. Straight code is charged for
-# its arrays alone.
-THRESHOLDS = {
+# The options of `verify` and that of `raw`: the most that each may be, and what stands for it where it isn't given. Straight code is
+# charged for its arrays alone.
+THRESHOLDS = ("alloc", "invoke", "jump", "throw")
+OPTIONS = {
     "alloc": (1073741824, 67108864),
     "invoke": (1073741824, 1000000),
     "jump": (1073741824, 1000000),
     "throw": (1048576, 1000000),
+    "steps": (100000000, 10000000),
 }
 
 # Flags of classes and methods.
@@ -400,7 +403,7 @@ def report(words):
     """What is written, and the status."""
     try:
         plain, options = line_of(words)
-        commands = {"check": (1, (), check), "verify": (3, THRESHOLDS, verify)}
+        commands = {"check": (1, (), check), "verify": (3, THRESHOLDS, verify), "raw": (3, ("steps",), raw)}
         count, names, command = commands.get(plain[0], (0, (), None)) if plain else (0, (), None)
         if command is None or len(plain) != count + 1 or any(name not in names for name in options):
             raise Unread
@@ -442,7 +445,7 @@ def line_of(words):
 
 def number_of(options, name):
     """The number of an option, in one to ten ASCII digits."""
-    most, default = THRESHOLDS[name]
+    most, default = OPTIONS[name]
     if name not in options:
         return default
     digits = options[name]
@@ -460,13 +463,39 @@ def check(folder):
     return b"ACCEPTED %d\n" % len(files), 0
 
 
-def verify(folder, entry, input_path, alloc, **others):
-    folder, entry = without_slash(folder), modified_utf8(entry.replace(".", "/"))
+def read_all(folder, input_path):
+    """The class files and the input."""
+    folder = without_slash(folder)
     paths = listed(folder)
     data = read(input_path.encode(), MOST_INPUT)
     if len(data) > MOST_INPUT:
-        return b"LIMIT input %d\n" % MOST_INPUT, LIMIT
-    files = class_files(folder, paths)
+        raise Decided(b"LIMIT input %d\n" % MOST_INPUT, LIMIT)
+    return class_files(folder, paths), data
+
+
+def entry_name(entry):
+    return modified_utf8(entry.replace(".", "/"))
+
+
+def raw(folder, entry, input_path, steps):
+    files, _ = read_all(folder, input_path)
+    entry = entry_name(entry)
+    lines = shape_rules.lines(files, RAW_LIBRARY)
+    if all(rule > 6 for _, _, _, rule in lines) and not has_entry(files, entry):
+        lines = lines | {(entry + b".class", b"", -1, 20)}
+    return rejected(lines) if lines else (b"", NO_RUN)
+
+
+def has_entry(files, entry):
+    """Whether a class of the set, none of which is malformed, has this name, and a static method `verify` with code."""
+    methods = [method for view in (ClassFile(data) for _, data in files) if view.this_class == entry for method in view.methods]
+    entries = [method for method in methods if (method.name, method.descriptor) == (b"verify", b"([B)[B")]
+    return any(method.flags & (STATIC | NATIVE | ABSTRACT) == STATIC for method in entries)
+
+
+def verify(folder, entry, input_path, alloc, **others):
+    files, data = read_all(folder, input_path)
+    entry = entry_name(entry)
     lines = first_lines(files)
     if lines:
         return rejected(lines)

@@ -9,6 +9,7 @@ import check_rules
 import link_rules
 from check_rules import IINC, INVOKEINTERFACE, LDC, LDC2_W, LDC_W, LOOKUPSWITCH, NEWARRAY, TABLESWITCH, Malformed, StackMap
 from class_reader import CLASS, INTEGER, LONG, STRING
+from library_classes import LIBRARY
 from link_rules import ANEWARRAY, CHECKCAST, GETFIELD, GETSTATIC, INSTANCEOF, INVOKESTATIC, INVOKEVIRTUAL, NEW, PUTFIELD, PUTSTATIC, STATIC
 
 # The kinds: ints I, longs L and references R. A local variable without a kind is None, and so is the second one of a long.
@@ -61,12 +62,12 @@ RETURNS = {172: "I", 173: "L", 176: "R", 177: ""}
 LAST = [167, 200, TABLESWITCH, LOOKUPSWITCH, 191, *RETURNS]
 
 
-def lines(files):
-    """The lines of a set by the rules 1 to 19. The last three are judged where the first six hold of all files."""
+def lines(files, library=LIBRARY):
+    """The lines of a set by the rules 1 to 19 with this library. The last three are judged where the first six hold of all files."""
     found, good = check_rules.lines(files)
     if any(rule <= 6 for _, _, _, rule in found):
         return found
-    classes = link_rules.classes_of(good)
+    classes = link_rules.classes_of(good, library)
     return found | link_rules.lines(good, classes) | shape_lines(good, classes)
 
 

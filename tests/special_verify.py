@@ -318,7 +318,7 @@ def no_jobs(program, results):
     rows = [VERIFY[:count] for count in (1, 2, 3)] + [VERIFY + (word,) for word in ("", "in", "-")]
     rows += [VERIFY[:place] + (word,) + VERIFY[place + 1 :] for place in (1, 2, 3) for word in ("--", "-c", "--jump=5")]
     rows += [("Verify",) + VERIFY[1:], ("verify ",) + VERIFY[1:], ("--", "--") + VERIFY, VERIFY + ("--jump", "5", "--jump=5"), VERIFY + ("--steps=5",), VERIFY + ("--jump",)]
-    rows += [("check",) + VERIFY[1:], ("run",) + VERIFY[1:], ("raw",) + VERIFY[1:]]
+    rows += [("check",) + VERIFY[1:], ("run",) + VERIFY[1:], ("rewrite",) + VERIFY[1:]]
     with harness.scratch() as folder:
         for place in ("c", "-c", "-"):
             write(os.path.join(folder, place, "A.class"), one)

@@ -6,8 +6,10 @@ use Rattle.dj_names.specs.Types.{Name, same_name}
 use Rattle.dj_names.specs.Library.{int}
 use Rattle.dj_names.specs.declared.descriptor.Desc.TheVariants as descs
 use Rattle.dj_model.specs.Types.{no_parameters}
+use Rattle.dj_model.specs.Linking.{is_plain}
 use Rattle.dj_directory.specs.declared.rows.MemberRow.{MemberRow}
-use Rattle.dj_directory.specs.Numberings.{Numbering, number_among, number_of}
+use Rattle.dj_directory.specs.Numberings.{Numbering, number_among, number_of, DeclareFields}
+use Rattle.dj_directory.specs.Calls.{DeclareFirst}
 use Rattle.dj_directory.specs.Rows.{Named, place_of, Texts, number_in, AreDifferent, key_of, IsTold}
 use Rattle.dj_directory.proofs.NumberLaws.{bor, number_is}
 
@@ -94,3 +96,16 @@ the_second_is_not told = let le = told.least (row 1 2 0 0) (0, omega arith, refl
 
 something_is_told : IsTold rows 1 2 1 None → ⊥
 something_is_told told = told (row 1 2 1 1) (2, omega arith, refl) (record { name_is = refl; desc_is = refl; class_is = refl })
+
+-- ---- rows of classes
+
+abbrev one_row : List MemberRow
+one_row = row 1 2 0 0 ∷ []
+
+-- a row of a class that declares no such field
+no_such_field : DeclareFields [] (codes "x") (descs.Field int) one_row → ⊥
+no_such_field declare = declare.each (row 1 2 0 0) (0, omega arith, refl) refl
+
+-- a row of a class that isn't there
+no_such_class : DeclareFirst [] is_plain (codes "run") no_parameters one_row → ⊥
+no_such_class declare = let lt = declare.there (row 1 2 0 0) (0, omega arith, refl) in absurd (omega (arith, lt))

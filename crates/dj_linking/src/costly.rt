@@ -37,14 +37,15 @@ fn has_long_chain(table: &ClassTable, class: u32) -> bool
     true
 }
 
-// Whether many interfaces stand above a class.
-fn has_long_list(above: &[Vec<u32>]) -> bool {
-    above.iter().any(|list| list.len() > LONG_CHAIN)
+// Whether one of the lists is of many interfaces.
+fn has_long_list(lists: &[Vec<u32>]) -> bool {
+    lists.iter().any(|list| list.len() > LONG_CHAIN)
 }
 
-/// Whether some search for a member by its texts could take long. Each list is of the interfaces above a class.
-pub fn are_costly(table: &ClassTable, above: &[Vec<u32>]) -> bool {
-    if has_long_list(above) {
+/// Whether some search for a member by its texts could take long. The first lists are of the interfaces above a class, the others of those above a
+/// class and its superclasses.
+pub fn are_costly(table: &ClassTable, above: &[Vec<u32>], chained: &[Vec<u32>]) -> bool {
+    if has_long_list(above) || has_long_list(chained) {
         return true;
     }
     for class in 0..table.class_count() {

@@ -83,7 +83,11 @@ run-text = refl
 outcome-statuses : map outcome_status (outcomes.OkNull ∷ outcomes.Stopped charges.Jump ∷ outcomes.TooDeep ∷ outcomes.Link ∷ outcomes.OutOfSteps 9 ∷ outcomes.HeapFull 5 16 ∷ []) ≡ 0 ∷ 3 ∷ 4 ∷ 6 ∷ 8 ∷ 9 ∷ []
 outcome-statuses = refl
 
-report-statuses : map report_status (reports.Accepted 1 ∷ reports.Limited limits.File ∷ reports.Costed outcomes.TooDeep costs ∷ reports.Usage ∷ reports.Syntax 1 10 ∷ reports.Label 7 ∷ reports.Large 12 ∷ reports.Written [] ∷ []) ≡ 0 ∷ 7 ∷ 4 ∷ 64 ∷ 68 ∷ 68 ∷ 68 ∷ 0 ∷ []
+raw-run : report_text (reports.Raw outcomes.TooDeep 51) ≡ codes "DEPTH\nsteps 51\n"
+unfolding digits
+raw-run = refl
+
+report-statuses : map report_status (reports.Accepted 1 ∷ reports.Limited limits.File ∷ reports.Costed outcomes.TooDeep costs ∷ reports.Raw outcomes.Link 7 ∷ reports.Usage ∷ reports.Syntax 1 10 ∷ reports.Label 7 ∷ reports.Large 12 ∷ reports.Written [] ∷ []) ≡ 0 ∷ 7 ∷ 4 ∷ 6 ∷ 64 ∷ 68 ∷ 68 ∷ 68 ∷ 0 ∷ []
 report-statuses = refl
 
 -- ---- the order

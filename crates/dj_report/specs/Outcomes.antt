@@ -71,6 +71,10 @@ costs_text costs =
 abbrev pub run_text : Outcome → Costs → List ℕ
 run_text outcome costs = line (outcome_text outcome) ++ line (costs_text costs)
 
+-- the outcome's line, and the line of the steps
+abbrev pub raw_text : Outcome → ℕ → List ℕ
+raw_text outcome steps = line (outcome_text outcome) ++ line (codes "steps " ++ decimal steps)
+
 abbrev pub outcome_status : Outcome → ℕ
 outcome_status outcomes.OkNull = 0
 outcome_status (outcomes.OkBytes bytes) = 0

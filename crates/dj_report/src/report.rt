@@ -116,6 +116,8 @@ pub enum Report {
     Absent(Name),
     /// How a run ended, and what it was charged.
     Costed { outcome: Outcome, costs: Costs },
+    /// How a run on the raw library ended, and after how many steps.
+    Raw { outcome: Outcome, steps: u64 },
     /// The words are those of no job.
     Usage,
     /// In this line of an assembler's text, at this column, stands what may not stand there.

@@ -1,10 +1,10 @@
 -- Classes that stand above themselves, and files of which some do, by plain values.
-use Rattle.std.proofs.Common.{◌≡◌, ℕ, zero, suc, ◌<◌, Bool, true, List, [], ◌∷◌, ◌++◌, map, length, codes, Contains, Option, Some, None, refl, ap, ◌∙◌, subst, inl, inr, arith}
+use Rattle.std.proofs.Common.{◌≡◌, ℕ, zero, suc, ◌<◌, Bool, true, List, [], ◌∷◌, ◌++◌, map, length, codes, Contains, Option, Some, None, refl, sym, ap, ◌∙◌, subst, inl, inr, arith}
 use Rattle.std.specs.Prelude.{nat_lt, reverse, if◌then◌else◌}
 use Rattle.std.specs.List.{list_all}
 use Rattle.std.proofs.lemmas.Bool.Decides.{nat_tests}
 use Rattle.dj_names.specs.Types.{Name, same_name}
-use Rattle.dj_names.specs.Library.{LibraryClass, lang, object_class, text_rows, interface_rows, exception_rows}
+use Rattle.dj_names.specs.Library.{LibraryClass, Library, deterministic_library, raw_library, lang, object_class, text_rows, interface_rows, exception_rows}
 use Rattle.dj_pool.proofs.Decides.{tests_decide}
 use Rattle.dj_class.specs.ClassFile.{ClassFile}
 use Rattle.dj_class.proofs.AnswerFacts.{class_a-is, class_b-is}
@@ -15,7 +15,7 @@ use Rattle.dj_model.specs.Rows.{class_with}
 use Rattle.dj_report.proofs.Sorted.{contains_first, contains_later, contains_none, contains_cases}
 use Rattle.dj_declared.specs.Files.{declared_class}
 use Rattle.dj_loader.specs.Loads.{above_names, StandsUnder, StandsBelow}
-use Rattle.dj_sandbox.specs.Late.{AreReadFiles, with_library, HasCycle, GoesRound}
+use Rattle.dj_sandbox.specs.Late.{AreReadFiles, IsJudging, with_library, HasCycle, GoesRound}
 use Rattle.dj_sandbox.proofs.LibraryDescriptors.{both}
 
 -- ---- classes that stand lower than those above them, by a list of names from above
@@ -114,28 +114,28 @@ absent = no_cycle (a ∷ b ∷ []) (a_lists ∷ []) refl
 abbrev a_path : List ℕ
 a_path = codes "A.class"
 
-lists_itself : HasCycle (with_library (declared_class class_b ∷ []))
+lists_itself : (library : Library) → HasCycle (with_library library (declared_class class_b ∷ []))
 unfolding declared_class class_b
-lists_itself = (
+lists_itself library = (
   a,
   (
     0,
     record {
       class = declared_class class_b;
-      there = contains_first (declared_class class_b) (with_library []);
+      there = contains_first (declared_class class_b) (with_library library []);
       named = refl;
       listed = contains_first a [];
     },
   ),
 )
 
-round : GoesRound ((a_path, bytes_b) ∷ [])
-round = (declared_class class_b ∷ [], (class_b ∷ [], (class_b-is, tt), refl), lists_itself)
+round : (library : Library) → GoesRound library ((a_path, bytes_b) ∷ [])
+round library = (declared_class class_b ∷ [], (class_b ∷ [], (class_b-is, tt), refl), lists_itself library)
 
 -- whatever stands beside it
-round_beside : GoesRound ((a_path, bytes_a) ∷ (a_path, bytes_b) ∷ [])
+round_beside : (library : Library) → GoesRound library ((a_path, bytes_a) ∷ (a_path, bytes_b) ∷ [])
 unfolding declared_class class_b
-round_beside = (
+round_beside library = (
   declared_class class_a ∷ declared_class class_b ∷ [],
   (class_a ∷ class_b ∷ [], (class_a-is, (class_b-is, tt)), refl),
   (
@@ -144,7 +144,8 @@ round_beside = (
       0,
       record {
         class = declared_class class_b;
-        there = contains_later (declared_class class_a) (with_library (declared_class class_b ∷ [])) (declared_class class_b) (contains_first (declared_class class_b) (with_library []));
+        there = contains_later (declared_class class_a) (with_library library (declared_class class_b ∷ [])) (declared_class class_b)
+            (contains_first (declared_class class_b) (with_library library []));
         named = refl;
         listed = contains_first a [];
       },
@@ -152,33 +153,58 @@ round_beside = (
   ),
 )
 
--- the library's classes from those without any below them up to Object
+-- the libraries' classes from those without any below them up to Object
 abbrev library_name : LibraryClass → Name
 library_name c = c.name
 
 abbrev downward : List Name
 downward = a ∷ reverse (object_class ∷ lang (codes "System") ∷ map library_name (interface_rows ++ text_rows ++ exception_rows))
 
-no_file : GoesRound [] → ⊥
-no_file (declared, (classes, read, are), cycle) = by classes read are where
+-- a fact of both libraries
+at_both : (P : Library → Type 0) → P deterministic_library → P raw_library → (library : Library) → IsJudging library → P library
+at_both P deterministic raw library (inl is) = subst P (sym is) deterministic
+at_both P deterministic raw library (inr is) = subst P (sym is) raw
+
+deterministic_lower : all_lower downward (with_library deterministic_library []) ≡ true
+deterministic_lower = refl
+
+raw_lower : all_lower downward (with_library raw_library []) ≡ true
+raw_lower = refl
+
+library_lower : (library : Library) → IsJudging library → all_lower downward (with_library library []) ≡ true
+library_lower = at_both (λ library. all_lower downward (with_library library []) ≡ true) deterministic_lower raw_lower
+
+no_file : (library : Library) → IsJudging library → GoesRound library [] → ⊥
+no_file library judging (declared, (classes, read, are), cycle) = by classes read are where
   by : (classes : List ClassFile) → AreReadFiles [] classes → declared ≡ map declared_class classes → ⊥
-  by [] read are = no_cycle downward (with_library []) refl (subst (λ (cs : List Class). HasCycle (with_library cs)) are cycle)
+  by [] read are =
+      no_cycle downward (with_library library []) (library_lower library judging) (subst (λ (cs : List Class). HasCycle (with_library library cs)) are cycle)
   by (c ∷ classes) read are = absurd read
 
-none_of_a : HasCycle (with_library (declared_class class_a ∷ [])) → ⊥
+deterministic_lower-a : all_lower downward (with_library deterministic_library (declared_class class_a ∷ [])) ≡ true
 unfolding declared_class class_a
-none_of_a = no_cycle downward (with_library (declared_class class_a ∷ [])) refl
+deterministic_lower-a = refl
 
-below_object : GoesRound ((a_path, bytes_a) ∷ []) → ⊥
-below_object (declared, (classes, read, are), cycle) = none_of_a (subst (λ (cs : List Class). HasCycle (with_library cs)) (are ∙ ap (map declared_class) (alone classes read)) cycle) where
-  alone : (classes : List ClassFile) → AreReadFiles ((a_path, bytes_a) ∷ []) classes → classes ≡ class_a ∷ []
-  alone [] read = absurd read
-  alone (c ∷ []) read = ap (λ (x : ClassFile). x ∷ []) (one_class_file tests_decide bytes_a c class_a read.0 class_a-is)
-  alone (c ∷ (d ∷ classes)) read = absurd read.1
+raw_lower-a : all_lower downward (with_library raw_library (declared_class class_a ∷ [])) ≡ true
+unfolding declared_class class_a
+raw_lower-a = refl
+
+none_of_a : (library : Library) → IsJudging library → HasCycle (with_library library (declared_class class_a ∷ [])) → ⊥
+none_of_a library judging =
+    no_cycle downward (with_library library (declared_class class_a ∷ []))
+    (at_both (λ l. all_lower downward (with_library l (declared_class class_a ∷ [])) ≡ true) deterministic_lower-a raw_lower-a library judging)
+
+below_object : (library : Library) → IsJudging library → GoesRound library ((a_path, bytes_a) ∷ []) → ⊥
+below_object library judging (declared, (classes, read, are), cycle) =
+    none_of_a library judging (subst (λ (cs : List Class). HasCycle (with_library library cs)) (are ∙ ap (map declared_class) (alone classes read)) cycle) where
+      alone : (classes : List ClassFile) → AreReadFiles ((a_path, bytes_a) ∷ []) classes → classes ≡ class_a ∷ []
+      alone [] read = absurd read
+      alone (c ∷ []) read = ap (λ (x : ClassFile). x ∷ []) (one_class_file tests_decide bytes_a c class_a read.0 class_a-is)
+      alone (c ∷ (d ∷ classes)) read = absurd read.1
 
 -- bytes that are no class file tell nothing
-malformed : GoesRound ((a_path, []) ∷ (a_path, bytes_b) ∷ []) → ⊥
-malformed (declared, (classes, read, are), cycle) = by classes read where
+malformed : (library : Library) → GoesRound library ((a_path, []) ∷ (a_path, bytes_b) ∷ []) → ⊥
+malformed library (declared, (classes, read, are), cycle) = by classes read where
   by : (classes : List ClassFile) → AreReadFiles ((a_path, []) ∷ (a_path, bytes_b) ∷ []) classes → ⊥
   by [] read = read
   by (c ∷ classes) read = let spelled = read.0.spelled in absurd cc

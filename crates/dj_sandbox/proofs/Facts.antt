@@ -3,6 +3,7 @@ use Rattle.std.proofs.Common.{arith, ◌≡◌, ◌≢◌, ℕ, ◌≤◌, ◌�
 use Rattle.std.specs.Prelude.{codes}
 use Rattle.dj_edge.specs.Held.{File}
 use Rattle.dj_names.specs.declared.run.Thresholds.{Thresholds}
+use Rattle.dj_names.specs.Library.{Library}
 use Rattle.dj_class.specs.ClassFile.{ClassFile}
 use Rattle.dj_report.specs.Stages.{IsDecided}
 use Rattle.dj_report.specs.declared.report.Report.TheVariants as reports
@@ -56,8 +57,8 @@ thresholds-throw_past h = omega (arith, h.throw)
 -- ---- the rules 17 to 19
 
 -- a line of the rules 1 to 6 hides them
-late-hidden : (files : List File) (v w : Violation) → IsEarlyLine files v → v.rule ≤ 6 → IsLateLine files w → ⊥
-late-hidden files v w is small late = let past = late.hierarchy v is in absurd (omega (arith, small, past))
+late-hidden : (library : Library) (files : List File) (v w : Violation) → IsEarlyLine files v → v.rule ≤ 6 → IsLateLine library files w → ⊥
+late-hidden library files v w is small late = let past = late.hierarchy v is in absurd (omega (arith, small, past))
 
 first-rule : (F U : Type 0) (rule : ℕ) → IsFirstOf F U rule → (rule ≡ 17) ⊎ (rule ≡ 18)
 first-rule F U rule (inl (foreign, is)) = inl is
@@ -76,8 +77,8 @@ link-rule program files v line =
 shape-rule : (program : Program) (files : List File) (v : Violation) → IsShapeLine program files v → v.rule ≡ 19
 shape-rule program files v line = (let m = line.2.2 in ap (λ (w : Violation). w.rule) m.line ∙ m.such.rule_is)
 
-late-rule : (files : List File) (v : Violation) → IsLateLine files v → (v.rule ≡ 17) ⊎ ((v.rule ≡ 18) ⊎ (v.rule ≡ 19))
-late-rule files v late = elim late.line [
+late-rule : (library : Library) (files : List File) (v : Violation) → IsLateLine library files v → (v.rule ≡ 17) ⊎ ((v.rule ≡ 18) ⊎ (v.rule ≡ 19))
+late-rule library files v late = elim late.line [
   | inl link ↦ elim (link-rule _ files v link) [ inl one ↦ inl one | inr two ↦ inr (inl two) ]
   | inr shape ↦ inr (inr (shape-rule _ files v shape))
 ]

@@ -5,7 +5,7 @@ use Rattle.std.proofs.lemmas.Bool.{cases_lt}
 use Rattle.std.proofs.lemmas.List.{length-append, length-map, take_more, take_all, map-append}
 use Rattle.std.proofs.lemmas.List.Elements.{Contains-get_or}
 use Rattle.dj_edge.specs.Held.{File}
-use Rattle.dj_names.specs.Library.{deterministic_library}
+use Rattle.dj_names.specs.Library.{Library}
 use Rattle.dj_names.specs.Types.{Name}
 use Rattle.dj_natives.specs.declared.library.LibClass.{LibClass}
 use Rattle.dj_natives.specs.Views.{library_view}
@@ -15,7 +15,6 @@ use Rattle.dj_model.specs.Libraries.{library_class, inserted, joined}
 use Rattle.dj_report.specs.declared.report.PathFile.{PathFile}
 use Rattle.dj_report.specs.declared.report.Violation.{Violation}
 use Rattle.dj_report.specs.Lines.{file_line, Adds}
-use Rattle.dj_report.specs.Order.{IsInOrder}
 use Rattle.dj_report.proofs.Adding.{contains_map}
 use Rattle.dj_report.proofs.Sorted.{contains_first, contains_later, contains_none}
 use Rattle.dj_rules.specs.Views.{path_file_view}
@@ -29,13 +28,12 @@ use Rattle.dj_loader.specs.declared.error.LoadError.{LoadError}
 use Rattle.dj_loader.specs.declared.error.LoadError.TheVariants as errors
 use Rattle.dj_loader.specs.Numbered.{RefusesCycles}
 use Rattle.dj_loader.proofs.Moved.{in_table, out_of_table, ancestor_moved}
-use Rattle.dj_sandbox.specs.Checked.{AreGoodFiles, HoldsHierarchy, IsLateLine, AreCheckViolations}
+use Rattle.dj_sandbox.specs.Checked.{AreGoodFiles, HoldsHierarchy, IsLateLine, IsLineBy}
 use Rattle.dj_sandbox.specs.declared.late.Links.{Links}
 use Rattle.dj_sandbox.specs.declared.late.Links.TheVariants as links
-use Rattle.dj_sandbox.specs.Late.{HasHierarchyLine, AreReadFiles, IsDeclaredFrom, AreDeclared, HasMalformed, row_class, LinksFiles, with_library, SharesName, HasCycle, GoesRound, IsLinkOf, AreLinksOf, AreLinks}
+use Rattle.dj_sandbox.specs.Late.{HasHierarchyLine, AreReadFiles, IsDeclaredFrom, AreDeclared, HasMalformed, row_class, LinksFiles, IsJudging, with_library, SharesName, HasCycle, GoesRound, IsLinkOf, AreLinksOf, AreLinks}
 use Rattle.dj_sandbox.proofs.GoodFiles.{same_good}
-use Rattle.dj_sandbox.proofs.NoDoubles.{no_name_twice}
-use Rattle.dj_sandbox.proofs.NoCycles.{no_cycle}
+use Rattle.dj_sandbox.proofs.Alike.{few_rows, none_shared, none_round}
 
 -- ---- under errors of another type
 
@@ -83,15 +81,9 @@ has_malformed files i d lt malformed =
 
 -- ---- those of the library
 
-rows_mapped : (rows : List LibClass) → map row_class rows ≡ map library_class (library_view rows)
+pub rows_mapped : (rows : List LibClass) → map row_class rows ≡ map library_class (library_view rows)
 rows_mapped [] = refl
 rows_mapped (row ∷ rows) = ap (λ (cs : List Class). row_class row ∷ cs) (rows_mapped rows)
-
-pub deterministic_rows : (rows : List LibClass) → library_view rows ≡ deterministic_library → map row_class rows ≡ map library_class deterministic_library
-deterministic_rows rows is = rows_mapped rows ∙ ap (map library_class) is
-
-library_few : length (map library_class deterministic_library) ≤ 4096
-library_few = omega arith
 
 as_many : (files : List File) (classes : List ClassFile) → AreReadFiles files classes → length classes ≡ length files
 as_many [] [] good = refl
@@ -100,10 +92,12 @@ as_many (file ∷ files) [] good = absurd good
 as_many (file ∷ files) (c ∷ classes) good = ap suc (as_many files classes good.1)
 
 -- there are few classes
-pub few_all : (declared all : List Class) → length declared ≤ 4096 → all ≡ with_library declared → length all < 2 ^ 31
-few_all declared all few is =
-    let a : length all ≡ length declared + length (map library_class deterministic_library) = ap length is ∙ length-append declared (map library_class deterministic_library) in
-    omega (arith, few, a, library_few)
+pub few_all : (library : Library) (declared all : List Class) → IsJudging library → length declared ≤ 4096 → all ≡ with_library library declared → length all < 2 ^ 31
+few_all library declared all judging few is =
+    let a : length all ≡ length declared + length (map library_class library) = ap length is ∙ length-append declared (map library_class library) in
+    let b : length (map library_class library) ≡ length library = length-map library library_class in
+    let c : length library ≤ 4096 = few_rows library judging in
+    omega (arith, few, a, b, c)
 
 pub few_declared : (files : List PathFile) (declared : List Class) → length files ≤ 4096 → AreDeclared (map path_file_view files) declared → length declared ≤ 4096
 few_declared files declared few (classes, read, are) =
@@ -117,33 +111,36 @@ joined_twice : (xs ys : List Class) (program : Program) → joined (xs ++ ys) pr
 joined_twice [] ys program = refl
 joined_twice (x ∷ xs) ys program = ap (inserted x) (joined_twice xs ys program)
 
-pub joined_program : (classes : List ClassFile) (declared all : List Class) → declared ≡ map declared_class classes → all ≡ declared ++ map library_class deterministic_library
-    → joined all [] ≡ declared_program deterministic_library classes
+pub joined_program : (library : Library) (classes : List ClassFile) (declared all : List Class) → declared ≡ map declared_class classes
+    → all ≡ declared ++ map library_class library → joined all [] ≡ declared_program library classes
 unfolding declared_program
-joined_program classes declared all are is =
-    ap (λ (cs : List Class). joined cs []) (is ∙ ap (λ (cs : List Class). cs ++ map library_class deterministic_library) are)
-    ∙ joined_twice (map declared_class classes) (map library_class deterministic_library) []
+joined_program library classes declared all are is =
+    ap (λ (cs : List Class). joined cs []) (is ∙ ap (λ (cs : List Class). cs ++ map library_class library) are)
+    ∙ joined_twice (map declared_class classes) (map library_class library) []
 
-pub links_files : (files : List File) (declared : List Class) (linked : Linked) → AreDeclared files declared
-    → linked ≡ record { program = joined (with_library declared) []; prefix = [] } → LinksFiles files linked
-links_files files declared linked (classes, read, are) links =
-    let program : joined (with_library declared) [] ≡ declared_program deterministic_library classes = joined_program classes declared (with_library declared) are refl in
+pub links_files : (library : Library) (files : List File) (declared : List Class) (linked : Linked) → AreDeclared files declared
+    → linked ≡ record { program = joined (with_library library declared) []; prefix = [] } → LinksFiles library files linked
+links_files library files declared linked (classes, read, are) links =
+    let program : joined (with_library library declared) [] ≡ declared_program library classes = joined_program library classes declared (with_library library declared) are refl in
     (classes, read, subst (λ (p : Program). linked ≡ record { program = p; prefix = [] }) program links)
 
 -- how those of the files are linked, by how their classes are
-pub are_links : (files : List File) (declared : List Class) (told : Links) → AreDeclared files declared → AreLinksOf declared told → AreLinks files told
-are_links files declared (links.Linked linked) are is = links_files files declared linked are is
-are_links files declared links.NotClassFile are is = absurd is
-are_links files declared links.SharedName are is = (declared, are, is)
-are_links files declared links.Cycle are is = (declared, are, is)
+pub are_links : (library : Library) (files : List File) (declared : List Class) (told : Links) → AreDeclared files declared → AreLinksOf library declared told
+    → AreLinks library files told
+are_links library files declared (links.Linked linked) are is = links_files library files declared linked are is
+are_links library files declared links.NotClassFile are is = absurd is
+are_links library files declared links.SharedName are is = (declared, are, is)
+are_links library files declared links.Cycle are is = (declared, are, is)
 
 -- by how those of a table are
-pub are_links_of : (declared : List Class) (table : Program) (told : Links) → table ≡ joined (with_library declared) [] → IsLinkOf table told → AreLinksOf declared told
-are_links_of declared table (links.Linked linked) is of = subst (λ (p : Program). linked ≡ record { program = p; prefix = [] }) is of
-are_links_of declared table links.NotClassFile is of = of
-are_links_of declared table links.SharedName is of = absurd of
-are_links_of declared table links.Cycle is (name, own) =
-    (name, ancestor_moved table (with_library declared) (out_of_table (with_library declared) table is) (in_table (with_library declared) table is) name own)
+pub are_links_of : (library : Library) (declared : List Class) (table : Program) (told : Links) → table ≡ joined (with_library library declared) []
+    → IsLinkOf table told → AreLinksOf library declared told
+are_links_of library declared table (links.Linked linked) is of = subst (λ (p : Program). linked ≡ record { program = p; prefix = [] }) is of
+are_links_of library declared table links.NotClassFile is of = of
+are_links_of library declared table links.SharedName is of = absurd of
+are_links_of library declared table links.Cycle is (name, own) =
+    let all = with_library library declared in
+    (name, ancestor_moved table all (out_of_table all table is) (in_table all table is) name own)
 
 -- what the search for cycles tells
 pub cycle_told : (table : Program) (e : LoadError) (name : Name) → RefusesCycles table e → e ≡ errors.Cycle name → HasCycle table
@@ -187,67 +184,66 @@ good_files files classes holds read = good_read files classes (λ file own. whol
 pub malformed_breaks : (files : List File) → HasMalformed files → HoldsHierarchy files → ⊥
 malformed_breaks files (file, own, malformed) holds = whole_file files file holds own (inl malformed)
 
-pub shared_breaks : (files : List File) → SharesName files → HoldsHierarchy files → ⊥
-shared_breaks files (declared, (classes, read, are), (name, shared)) holds =
-    no_name_twice files classes name holds (good_files files classes holds read) (subst (λ (cs : List Class). IsShared (with_library cs) name) are shared)
+pub shared_breaks : (library : Library) (files : List File) → IsJudging library → SharesName library files → HoldsHierarchy files → ⊥
+shared_breaks library files judging (declared, (classes, read, are), (name, shared)) holds =
+    none_shared library judging files classes name holds (good_files files classes holds read) (subst (λ (cs : List Class). IsShared (with_library library cs) name) are shared)
 
-pub cycle_breaks : (files : List File) → GoesRound files → HoldsHierarchy files → ⊥
-cycle_breaks files (declared, (classes, read, are), round) holds =
-    let (name, own) = subst (λ (cs : List Class). HasCycle (with_library cs)) are round in
-    no_cycle files classes holds (good_files files classes holds read) name own
+pub cycle_breaks : (library : Library) (files : List File) → IsJudging library → GoesRound library files → HoldsHierarchy files → ⊥
+cycle_breaks library files judging (declared, (classes, read, are), round) holds =
+    let (name, own) = subst (λ (cs : List Class). HasCycle (with_library library cs)) are round in
+    none_round library judging files classes name holds (good_files files classes holds read) own
 
 -- where one of the rules 1 to 6 is violated there are no lines of later rules
-pub early_alone : (files : List File) (early lines : List Violation) → AreFound files early → (HoldsHierarchy files → ⊥)
-    → IsInOrder lines → ((v : Violation) → Contains lines v ↔ Contains early v) → AreCheckViolations files lines
-early_alone files early lines are broken in_order members = record {
-  in_order = in_order;
-  all = λ w. (
-    λ m. inl (of_line files early w are ((members w).0 m)),
-    λ any. elim any [
-      | inl is ↦ (members w).1 ((are w).1 (inr is))
+pub early_alone : (library : Library) (files : List File) (early : List Violation) → AreFound files early → (HoldsHierarchy files → ⊥) → Adds (IsLineBy library files) [] early
+early_alone library files early are broken v = (
+  λ m. inr (inl (of_line files early v are m)),
+  λ any. elim any [
+    | inl none ↦ absurd (contains_none v none)
+    | inr line ↦ elim line [
+      | inl is ↦ (are v).1 (inr is)
       | inr late ↦ absurd (broken late.hierarchy)
-    ],
-  );
-}
+    ]
+  ],
+)
 
 -- one of the lines tells it
 pub line_breaks : (files : List File) (early : List Violation) → AreFound files early → HasHierarchyLine early → HoldsHierarchy files → ⊥
 line_breaks files early are (v, among, small) holds = (let past = holds v (of_line files early v are among) in absurd (omega (arith, small, past)))
 
 -- the lines of the class files that the bytes are
-late_line : (files : List File) (classes : List ClassFile) → HoldsHierarchy files → AreGoodFiles files classes → (v : Violation) → IsLinkedLine (declared_program deterministic_library classes) files v ↔ IsLateLine files v
-late_line files classes holds good v = (
+late_line : (library : Library) (files : List File) (classes : List ClassFile) → HoldsHierarchy files → AreGoodFiles files classes → (v : Violation)
+    → IsLinkedLine (declared_program library classes) files v ↔ IsLateLine library files v
+late_line library files classes holds good v = (
   λ line. record { hierarchy = holds; classes = classes; good = good; line = line },
-  λ late. subst (λ (cs : List ClassFile). IsLinkedLine (declared_program deterministic_library cs) files v) (same_good files late.classes classes late.good good) late.line,
+  λ late. subst (λ (cs : List ClassFile). IsLinkedLine (declared_program library cs) files v) (same_good files late.classes classes late.good good) late.line,
 )
 
 -- the late lines that were found are those of the linked classes
 abbrev pub AreLateFound : List File → Linked → List Violation → Type 0
 AreLateFound files linked late = Adds (IsLinkedLine linked.program files) [] late
 
-late_found : (files : List File) (linked : Linked) (late : List Violation) → LinksFiles files linked → HoldsHierarchy files → AreLateFound files linked late → (v : Violation)
-    → Contains late v ↔ IsLateLine files v
-late_found files linked late (classes, read, is) holds adds v =
+late_found : (library : Library) (files : List File) (linked : Linked) (late : List Violation) → LinksFiles library files linked → HoldsHierarchy files
+    → AreLateFound files linked late → (v : Violation) → Contains late v ↔ IsLateLine library files v
+late_found library files linked late (classes, read, is) holds adds v =
     let good = good_files files classes holds read in
-    let told : Adds (IsLinkedLine (declared_program deterministic_library classes) files) [] late = subst (λ (l : Linked). Adds (IsLinkedLine l.program files) [] late) is adds in (
-      λ m. elim ((told v).0 m) [ inl none ↦ absurd (contains_none v none) | inr line ↦ (late_line files classes holds good v).0 line ],
-      λ line. (told v).1 (inr ((late_line files classes holds good v).1 line)),
+    let told : Adds (IsLinkedLine (declared_program library classes) files) [] late = subst (λ (l : Linked). Adds (IsLinkedLine l.program files) [] late) is adds in (
+      λ m. elim ((told v).0 m) [ inl none ↦ absurd (contains_none v none) | inr line ↦ (late_line library files classes holds good v).0 line ],
+      λ line. (told v).1 (inr ((late_line library files classes holds good v).1 line)),
     )
 
-pub early_and_late : (files : List File) (linked : Linked) (early late found lines : List Violation) → AreFound files early → (HasHierarchyLine early → ⊥) → LinksFiles files linked
-    → AreLateFound files linked late → Adds (λ v. Contains late v) early found → IsInOrder lines → ((v : Violation) → Contains lines v ↔ Contains found v) → AreCheckViolations files lines
-early_and_late files linked early late found lines are none links adds joins in_order members =
-    let holds = hierarchy_holds files early are none in
-    let late_are = late_found files linked late links holds adds in record {
-      in_order = in_order;
-      all = λ v. (
-        λ m. elim ((joins v).0 ((members v).0 m)) [
-          | inl old ↦ inl (of_line files early v are old)
-          | inr new ↦ inr ((late_are v).0 new)
-        ],
-        λ any. (members v).1 ((joins v).1 (elim any [
+pub early_and_late : (library : Library) (files : List File) (linked : Linked) (early late found : List Violation) → AreFound files early → (HasHierarchyLine early → ⊥)
+    → LinksFiles library files linked → AreLateFound files linked late → Adds (λ v. Contains late v) early found → Adds (IsLineBy library files) [] found
+early_and_late library files linked early late found are none links adds joins v =
+    let late_are = late_found library files linked late links (hierarchy_holds files early are none) adds in (
+      λ m. inr (elim ((joins v).0 m) [
+        | inl old ↦ inl (of_line files early v are old)
+        | inr new ↦ inr ((late_are v).0 new)
+      ]),
+      λ any. (joins v).1 (elim any [
+        | inl none ↦ absurd (contains_none v none)
+        | inr line ↦ elim line [
           | inl is ↦ inl ((are v).1 (inr is))
-          | inr line ↦ inr ((late_are v).1 line)
-        ])),
-      );
-    }
+          | inr late ↦ inr ((late_are v).1 late)
+        ]
+      ]),
+    )

@@ -9,13 +9,19 @@ pub mod GoodFiles
 pub mod LibraryDescriptors
 pub mod NoDoubles
 pub mod NoCycles
+mod Alike
 pub mod LateLaws
+pub mod RawLaws
 mod SomeSetLines
 mod SomeLateLines
 pub mod SomeRun
 pub mod OneJudgement
 pub mod SomeJudgement
+pub mod RawJudgement
 mod Facts
 mod SetFacts
 mod SilenceFacts
 mod CycleFacts
+mod CheckFacts
+mod RawFacts
+mod EntryFacts

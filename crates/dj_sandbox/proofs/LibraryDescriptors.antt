@@ -1,5 +1,5 @@
--- Each descriptor of the deterministic library is one, by computing.
-use Rattle.std.proofs.Common.{◌≡◌, ℕ, ◌≤◌, Bool, true, false, ◌&&◌, nat_le, List, [], ◌∷◌, map, Option, Some, None, All, IfSome, refl, ap, ◌∙◌, arith}
+-- Each descriptor of the libraries is one, by computing.
+use Rattle.std.proofs.Common.{◌≡◌, ℕ, ◌≤◌, Bool, true, false, ◌&&◌, nat_le, List, [], ◌∷◌, map, Option, Some, None, All, IfSome, refl, ap, ◌∙◌, inl, inr, arith}
 use Rattle.std.specs.Prelude.{sum_by}
 use Rattle.std.specs.List.{list_all, AllByRecursion}
 use Rattle.std.proofs.lemmas.Bool.Decides.{nat_tests}
@@ -10,12 +10,13 @@ use Rattle.dj_names.specs.declared.descriptor.Ty.{Ty}
 use Rattle.dj_names.specs.declared.descriptor.Desc.{Desc}
 use Rattle.dj_names.specs.declared.descriptor.Desc.TheVariants as descs
 use Rattle.dj_names.specs.Descriptors.{type_slots, NamesClass, IsType, IsDesc}
-use Rattle.dj_names.specs.Library.{LibraryMethod, LibraryClass, deterministic_library}
+use Rattle.dj_names.specs.Library.{LibraryMethod, LibraryClass, Library, deterministic_library, raw_library}
 use Rattle.dj_names.specs.NameReading.{reads_class_name}
 use Rattle.dj_names.proofs.NameLaws.{class_name_read}
 use Rattle.dj_natives.specs.declared.library.LibMethod.{LibMethod}
 use Rattle.dj_natives.specs.declared.library.LibClass.{LibClass}
 use Rattle.dj_natives.specs.Views.{library_method_view, library_class_view, library_view}
+use Rattle.dj_sandbox.specs.Late.{IsJudging}
 
 pub both : (a b : Bool) → (a && b) ≡ true → (a ≡ true) × (b ≡ true)
 both true b e = (refl, e)
@@ -90,5 +91,13 @@ deterministic_tested : list_all class_test deterministic_library ≡ true
 unfolding reads_class_name
 deterministic_tested = refl
 
-pub deterministic_described : (rows : List LibClass) → library_view rows ≡ deterministic_library → All HasDescriptors rows
-deterministic_described rows is = classes_are rows (ap (list_all class_test) is ∙ deterministic_tested)
+raw_tested : list_all class_test raw_library ≡ true
+unfolding reads_class_name
+raw_tested = refl
+
+tested : (library : Library) → IsJudging library → list_all class_test library ≡ true
+tested library (inl is) = ap (list_all class_test) is ∙ deterministic_tested
+tested library (inr is) = ap (list_all class_test) is ∙ raw_tested
+
+pub described : (rows : List LibClass) → IsJudging (library_view rows) → All HasDescriptors rows
+described rows judging = classes_are rows (tested (library_view rows) judging)

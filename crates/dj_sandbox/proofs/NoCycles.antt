@@ -93,7 +93,7 @@ of_file (file ∷ files) (c ∷ classes) class good m =
 
 -- ---- classes by their heads
 
-abbrev head_in : Class → Head
+abbrev pub head_in : Class → Head
 head_in c = record { name = c.name; flags = c.flags; superclass = c.superclass; interfaces = c.interfaces }
 
 head_declared : (c : ClassFile) → head_in (declared_class c) ≡ head_of c

@@ -21,12 +21,12 @@ module _ (files : List File) where
   beside_natives classes v w seven good native line = (inl native, inr (record { hierarchy = natives_alone seven; classes = classes; good = good; line = line }))
 
   -- a line of rule 6 silences them, and one of rule 1 too, whatever else is there
-  hierarchy_silences : (p : List ℕ) (w : Violation) → IsEarlyLine files (file_line p 6) → IsLateLine files w → ⊥
+  hierarchy_silences : (p : List ℕ) (w : Violation) → IsEarlyLine files (file_line p 6) → IsLateLine deterministic_library files w → ⊥
   hierarchy_silences p w is late = let past = late.hierarchy (file_line p 6) is in absurd (omega (arith, past))
 
-  malformed_silences : (p : List ℕ) (w : Violation) → IsEarlyLine files (file_line p 1) → IsLateLine files w → ⊥
+  malformed_silences : (p : List ℕ) (w : Violation) → IsEarlyLine files (file_line p 1) → IsLateLine deterministic_library files w → ⊥
   malformed_silences p w is late = let past = late.hierarchy (file_line p 1) is in absurd (omega (arith, past))
 
   -- no line of the rules 1 to 6 stands beside one of them
-  held : (v w : Violation) → IsLateLine files w → IsEarlyLine files v → 6 < v.rule
+  held : (v w : Violation) → IsLateLine deterministic_library files w → IsEarlyLine files v → 6 < v.rule
   held v w late is = late.hierarchy v is

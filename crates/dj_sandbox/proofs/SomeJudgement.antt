@@ -21,7 +21,7 @@ use Rattle.dj_sandbox.proofs.SomeRun.{some_run_violations, some_end}
 pub answers : (stage : Stage Report) → NotNot ((a : Option Report) × stage a) → Answers stage
 answers stage some none = some (λ (a, p). none a p)
 
-not_nil : (v : Violation) (violations : List Violation) → v ∷ violations ≢ []
+pub not_nil : (v : Violation) (violations : List Violation) → v ∷ violations ≢ []
 not_nil v violations e = absurd cc
 
 -- ---- stage by stage

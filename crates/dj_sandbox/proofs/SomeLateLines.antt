@@ -1,8 +1,8 @@
 -- The lines of the rules 17 to 19, and those of all that `check` judges: whatever the files are, there is a list of them.
-use Rattle.std.proofs.Common.{◌≡◌, ℕ, ◌⊎◌, List, Option, Some, Contains, refl, ap, ◌∙◌, subst, inl, inr}
-use Rattle.std.specs.Prelude.{IsSomeAnd}
+use Rattle.std.proofs.Common.{◌≡◌, ℕ, ◌⊎◌, List, ◌++◌, Option, Some, Contains, refl, sym, ap, ◌∙◌, subst, inl, inr}
+use Rattle.std.specs.Prelude.{codes, IsSomeAnd}
 use Rattle.dj_edge.specs.Held.{File}
-use Rattle.dj_names.specs.Library.{deterministic_library}
+use Rattle.dj_names.specs.Library.{Library, deterministic_library, raw_library}
 use Rattle.dj_names.specs.Types.{Name}
 use Rattle.dj_ops.specs.declared.instruction.Instr.{Instr}
 use Rattle.dj_pool.specs.Pool.{Constant, constant_at}
@@ -13,6 +13,7 @@ use Rattle.dj_labels.specs.declared.labelled.Protected.{Protected}
 use Rattle.dj_labels.specs.declared.labelled.Labelled.{Labelled}
 use Rattle.dj_model.specs.Program.{Program}
 use Rattle.dj_report.specs.declared.report.Violation.{Violation}
+use Rattle.dj_report.specs.Lines.{file_line}
 use Rattle.dj_rules.specs.Violations.{member_text, this_name}
 use Rattle.dj_check.specs.Malformed.{IsGood, IsFaulty, IsFaultyMethod}
 use Rattle.dj_check.specs.Methods.{CatchesError}
@@ -28,7 +29,8 @@ use Rattle.dj_program.specs.Codes.{CodeParts, code_in}
 use Rattle.dj_program.proofs.Once.{one_code_parts}
 use Rattle.dj_shape.specs.Rule.{LacksShape}
 use Rattle.dj_judge.specs.Lines.{MethodShapeViolates, IsFileShapeLine, IsShapeLine, IsLinkedLine}
-use Rattle.dj_sandbox.specs.Checked.{AreGoodFiles, HoldsHierarchy, IsLateLine, IsCheckLine, AreCheckViolations}
+use Rattle.dj_sandbox.specs.Checked.{AreGoodFiles, HoldsHierarchy, IsLateLine, IsLineBy, IsCheckLine, AreCheckViolations}
+use Rattle.dj_sandbox.specs.RawRules.{LacksEntry, IsRawLine, AreRawViolations}
 use Rattle.dj_sandbox.proofs.Classical.{NotNot, bind, decide, IsFinite, finite_same, finite_none, finite_one, finite_either, finite_among}
 use Rattle.dj_sandbox.proofs.InsertedLines.{finite_in_order}
 use Rattle.dj_sandbox.proofs.GoodFiles.{same_good}
@@ -188,21 +190,38 @@ linked_lines program files =
 -- ---- lines of the set
 
 -- of these class files, where the rules 1 to 6 hold
-good_lines : (files : List File) → HoldsHierarchy files → (classes : List ClassFile) → AreGoodFiles files classes → IsFinite (IsLateLine files)
-good_lines files hierarchy classes good =
-    let IsOf : List ClassFile → Violation → Type 0 = λ cs. IsLinkedLine (declared_program deterministic_library cs) files in
-    finite_same (IsOf classes) (IsLateLine files)
+good_lines : (library : Library) (files : List File) → HoldsHierarchy files → (classes : List ClassFile) → AreGoodFiles files classes → IsFinite (IsLateLine library files)
+good_lines library files hierarchy classes good =
+    let IsOf : List ClassFile → Violation → Type 0 = λ cs. IsLinkedLine (declared_program library cs) files in
+    finite_same (IsOf classes) (IsLateLine library files)
     (λ v line. record { hierarchy = hierarchy; classes = classes; good = good; line = line })
     (λ v is. subst (λ (cs : List ClassFile). IsOf cs v) (same_good files is.classes classes is.good good) is.line)
-    (linked_lines (declared_program deterministic_library classes) files)
+    (linked_lines (declared_program library classes) files)
 
-late_lines : (files : List File) → IsFinite (IsLateLine files)
-late_lines files = bind (decide (HoldsHierarchy files × ((classes : List ClassFile) × AreGoodFiles files classes))) (elim [
-  | inl (hierarchy, (classes, good)) ↦ good_lines files hierarchy classes good
-  | inr not ↦ finite_none (IsLateLine files) (λ v is. not (is.hierarchy, (is.classes, is.good)))
+late_lines : (library : Library) (files : List File) → IsFinite (IsLateLine library files)
+late_lines library files = bind (decide (HoldsHierarchy files × ((classes : List ClassFile) × AreGoodFiles files classes))) (elim [
+  | inl (hierarchy, (classes, good)) ↦ good_lines library files hierarchy classes good
+  | inr not ↦ finite_none (IsLateLine library files) (λ v is. not (is.hierarchy, (is.classes, is.good)))
 ])
+
+-- those of the rules 1 to 19
+lines_by : (library : Library) (files : List File) → IsFinite (IsLineBy library files)
+lines_by library files = finite_either (IsEarlyLine files) (IsLateLine library files) (early_lines files) (late_lines library files)
 
 -- the violations of the files, in order
 pub some_check_violations : (files : List File) → NotNot ((violations : List Violation) × AreCheckViolations files violations)
-some_check_violations files =
-    finite_in_order (IsCheckLine files) (finite_either (IsEarlyLine files) (IsLateLine files) (early_lines files) (late_lines files))
+some_check_violations files = finite_in_order (IsCheckLine files) (lines_by deterministic_library files)
+
+-- ---- lines of the entry
+
+entry_lines : (files : List File) (class : Name) → IsFinite (LacksEntry files class)
+entry_lines files class =
+    let line : Violation = file_line (class ++ codes ".class") 20 in
+    bind (decide (LacksEntry files class line)) (elim [
+      | inl is ↦ finite_same (λ v. v ≡ line) (LacksEntry files class) (λ v e. subst (LacksEntry files class) (sym e) is) (λ v is. is.line) (finite_one line)
+      | inr not ↦ finite_none (LacksEntry files class) (λ v is. not (subst (LacksEntry files class) is.line is))
+    ])
+
+pub some_raw_violations : (files : List File) (class : Name) → NotNot ((violations : List Violation) × AreRawViolations files class violations)
+some_raw_violations files class =
+    finite_in_order (IsRawLine files class) (finite_either (IsLineBy raw_library files) (LacksEntry files class) (lines_by raw_library files) (entry_lines files class))

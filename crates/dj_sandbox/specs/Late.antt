@@ -1,18 +1,21 @@
 -- The code's own: lines that hide those of later rules, the classes of files, and what links them.
-use Rattle.std.specs.Prelude.{◌≡◌, ℕ, ⊤, ◌≤◌, List, [], ◌∷◌, ◌++◌, map, Option, Some, None, Contains}
+use Rattle.std.specs.Prelude.{◌≡◌, ℕ, ⊤, ◌≤◌, ◌⊎◌, List, [], ◌∷◌, ◌++◌, map, Option, Some, None, Contains}
 use Rattle.dj_edge.specs.Held.{File}
 use Rattle.dj_names.specs.Types.{Name}
-use Rattle.dj_names.specs.Library.{deterministic_library}
+use Rattle.dj_names.specs.Library.{Library, deterministic_library, raw_library}
 use Rattle.dj_class.specs.ClassFile.{ClassFile, IsClassFile, IsMalformed}
 use Rattle.dj_natives.specs.declared.library.LibClass.{LibClass}
 use Rattle.dj_natives.specs.Views.{library_class_view}
 use Rattle.dj_model.specs.Program.{Class}
 use Rattle.dj_model.specs.Libraries.{library_class, joined}
 use Rattle.dj_report.specs.declared.report.Violation.{Violation}
+use Rattle.dj_report.specs.Lines.{Adds}
 use Rattle.dj_declared.specs.Files.{declared_class}
 use Rattle.dj_classes.specs.Tables.{IsShared, declared_program}
 use Rattle.dj_linking.specs.Linked.{Linked}
 use Rattle.dj_loader.specs.Loads.{IsOwnAncestor}
+use Rattle.dj_sandbox.specs.Checked.{HoldsHierarchy, IsLineBy}
+use Rattle.dj_sandbox.specs.declared.judging.JudgedSet.{JudgedSet}
 use Rattle.dj_sandbox.specs.declared.late.Links.{Links}
 use Rattle.dj_sandbox.specs.declared.late.Links.TheVariants as links
 
@@ -43,30 +46,34 @@ abbrev pub AreDeclaredOrNot : List File → Option (List Class) → Type 0
 AreDeclaredOrNot files None = HasMalformed files
 AreDeclaredOrNot files (Some declared) = AreDeclared files declared
 
+-- the library of `check`, or the one whose host answers
+abbrev pub IsJudging : Library → Type 0
+IsJudging library = (library ≡ deterministic_library) ⊎ (library ≡ raw_library)
+
 -- the class of the library
 abbrev pub row_class : LibClass → Class
 row_class row = library_class (library_class_view row)
 
--- it links the classes of the files and of the deterministic library under their own names
-abbrev pub LinksFiles : List File → Linked → Type 0
-LinksFiles files linked =
-    (classes : List ClassFile) × AreReadFiles files classes × (linked ≡ record { program = declared_program deterministic_library classes; prefix = [] })
+-- it links the classes of the files and of the library under their own names
+abbrev pub LinksFiles : Library → List File → Linked → Type 0
+LinksFiles library files linked =
+    (classes : List ClassFile) × AreReadFiles files classes × (linked ≡ record { program = declared_program library classes; prefix = [] })
 
--- the classes of the files and of the deterministic library
-abbrev pub with_library : List Class → List Class
-with_library declared = declared ++ map library_class deterministic_library
+-- the classes of the files and of the library
+abbrev pub with_library : Library → List Class → List Class
+with_library library declared = declared ++ map library_class library
 
 -- two of them have one name
-abbrev pub SharesName : List File → Type 0
-SharesName files = (declared : List Class) × AreDeclared files declared × ((name : Name) × IsShared (with_library declared) name)
+abbrev pub SharesName : Library → List File → Type 0
+SharesName library files = (declared : List Class) × AreDeclared files declared × ((name : Name) × IsShared (with_library library declared) name)
 
 -- one of the classes is its own ancestor, by superclasses and listed interfaces together
 abbrev pub HasCycle : List Class → Type 0
 HasCycle classes = (name : Name) × IsOwnAncestor classes name
 
 -- one of those of the files and of the library is
-abbrev pub GoesRound : List File → Type 0
-GoesRound files = (declared : List Class) × AreDeclared files declared × HasCycle (with_library declared)
+abbrev pub GoesRound : Library → List File → Type 0
+GoesRound library files = (declared : List Class) × AreDeclared files declared × HasCycle (with_library library declared)
 
 -- how classes in order are linked
 abbrev pub IsLinkOf : List Class → Links → Type 0
@@ -76,15 +83,25 @@ IsLinkOf table links.SharedName = ⊥
 IsLinkOf table links.Cycle = HasCycle table
 
 -- how these classes are linked
-abbrev pub AreLinksOf : List Class → Links → Type 0
-AreLinksOf declared (links.Linked linked) = linked ≡ record { program = joined (with_library declared) []; prefix = [] }
-AreLinksOf declared links.NotClassFile = ⊥
-AreLinksOf declared links.SharedName = (name : Name) × IsShared (with_library declared) name
-AreLinksOf declared links.Cycle = HasCycle (with_library declared)
+abbrev pub AreLinksOf : Library → List Class → Links → Type 0
+AreLinksOf library declared (links.Linked linked) = linked ≡ record { program = joined (with_library library declared) []; prefix = [] }
+AreLinksOf library declared links.NotClassFile = ⊥
+AreLinksOf library declared links.SharedName = (name : Name) × IsShared (with_library library declared) name
+AreLinksOf library declared links.Cycle = HasCycle (with_library library declared)
 
 -- how those of the files are
-abbrev pub AreLinks : List File → Links → Type 0
-AreLinks files (links.Linked linked) = LinksFiles files linked
-AreLinks files links.NotClassFile = HasMalformed files
-AreLinks files links.SharedName = SharesName files
-AreLinks files links.Cycle = GoesRound files
+abbrev pub AreLinks : Library → List File → Links → Type 0
+AreLinks library files (links.Linked linked) = LinksFiles library files linked
+AreLinks library files links.NotClassFile = HasMalformed files
+AreLinks library files links.SharedName = SharesName library files
+AreLinks library files links.Cycle = GoesRound library files
+
+-- it links them, and the rules 1 to 6 hold; or one of these is violated
+abbrev pub IsLinkedWhereHeld : Library → List File → Option Linked → Type 0
+IsLinkedWhereHeld library files None = HoldsHierarchy files → ⊥
+IsLinkedWhereHeld library files (Some linked) = HoldsHierarchy files × LinksFiles library files linked
+
+-- the lines are those of the rules 1 to 19
+pub record IsJudgedSet (library : Library) (files : List File) (judged : JudgedSet) : Type 0 where
+  pub lines : Adds (IsLineBy library files) [] judged.found.items
+  pub linked : IsLinkedWhereHeld library files judged.linker

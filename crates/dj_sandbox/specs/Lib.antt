@@ -4,5 +4,7 @@ pub mod Entry
 pub mod Shaped
 pub mod Statuses
 pub mod Checked
+pub mod RawRules
+pub mod RawEntry
 pub mod Late
 pub mod Judging

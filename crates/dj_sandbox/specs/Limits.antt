@@ -16,6 +16,10 @@ most_total_bytes = 67108864
 abbrev pub most_input_bytes : ℕ
 most_input_bytes = 1048576
 
+-- the most bytes that the objects of a run take with the library whose host answers
+abbrev pub most_heap_bytes : ℕ
+most_heap_bytes = 67108864
+
 -- the most that a run may be charged, whatever its thresholds
 abbrev pub most_thresholds : Thresholds
 most_thresholds = record { alloc = 1073741824; invoke = 1073741824; jump = 1073741824; throw = 1048576 }

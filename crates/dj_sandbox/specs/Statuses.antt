@@ -12,3 +12,7 @@ check_statuses = 0 ∷ 2 ∷ []
 -- a result, an exception, rejected, a threshold, or not run yet
 abbrev pub run_statuses : List ℕ
 run_statuses = 0 ∷ 1 ∷ 2 ∷ 3 ∷ 75 ∷ []
+
+-- a result, an exception, rejected, too many frames, an initialiser's exception, a wrong class, too many steps, or too many bytes
+abbrev pub raw_statuses : List ℕ
+raw_statuses = 0 ∷ 1 ∷ 2 ∷ 4 ∷ 5 ∷ 6 ∷ 8 ∷ 9 ∷ []

@@ -75,7 +75,7 @@ impl ClassSet {
     }
 
     /// The files in their order, lent to those that judge them.
-    pub(crate) fn path_files(&self, alloc: Global) -> Result<Vec<PathFile<'_>>, SandboxError>
+    pub fn path_files(&self, alloc: Global) -> Result<Vec<PathFile<'_>>, SandboxError>
         ensures lent { IfOk result (λ lent. map path_file_view lent.items ≡ self.now) }
         ensures set { IsClassSet self.now }
     {

@@ -1,22 +1,21 @@
 ghost use Rattle.std.specs.Prelude.{◌≡◌, ◌++◌, ◌<◌, ◌≤◌, ◌^◌, length, map, All, IfOk, OnOk};
 ghost use Rattle.std.specs.Option.{option_map};
 ghost use Rattle.dj_names.specs.Descriptors.{IsDesc};
-ghost use Rattle.dj_names.specs.Library.{deterministic_library};
 ghost use Rattle.dj_class.specs.ClassFile.{IsValid};
 ghost use Rattle.dj_class.specs.Views.{class_of};
+ghost use Rattle.dj_natives.specs.Views.{library_view};
 ghost use Rattle.dj_model.specs.Libraries.{library_class};
 ghost use Rattle.dj_rules.specs.Views.{path_file_view};
 ghost use Rattle.dj_declared.specs.Files.{declared_class};
 ghost use Rattle.dj_classes.specs.Rows.{RiseStrictly};
-ghost use Rattle.dj_sandbox.specs.Late.{IsDeclaredFrom, AreDeclaredOrNot, IsLinkOf, AreLinksOf, AreLinks, row_class};
+ghost use Rattle.dj_sandbox.specs.Late.{IsDeclaredFrom, AreDeclaredOrNot, IsJudging, IsLinkOf, AreLinksOf, AreLinks, row_class};
 ghost use Rattle.dj_sandbox.specs.Limits.{most_files};
 
 use dj_class::ClassView;
 use dj_declared::{DeclaredClass, declare_file, declare_library_class};
-use dj_library::deterministic;
 use dj_linking::{BaseNames, ClassTable, Linker, TableError};
 use dj_loader::{LoadError, refuse_cycles};
-use dj_natives::LibClass;
+use dj_natives::{LibClass, Library};
 use dj_report::PathFile;
 use dj_rules::{FileView, RulesError, view_file};
 use std::alloc::Global;
@@ -84,11 +83,15 @@ fn add_rows(
     Ok(())
 }
 
-// Appends the classes of the deterministic library.
-fn add_library(alloc: Global, declared: &mut Vec<DeclaredClass>) -> Result<(), RulesError>
-    ensures { OnOk result (declared.new.items ≡ declared.old.items ++ map library_class deterministic_library) }
+// Appends the classes of the library.
+fn add_library(
+    alloc: Global,
+    declared: &mut Vec<DeclaredClass>,
+    library: &Library,
+) -> Result<(), RulesError>
+    requires { IsJudging (library_view library.now) }
+    ensures { OnOk result (declared.new.items ≡ declared.old.items ++ map library_class (library_view library.now)) }
 {
-    let library = deterministic(alloc).map_err(|_| RulesError::Memory)?;
     add_rows(alloc, declared, library.as_slice())
 }
 
@@ -127,13 +130,18 @@ fn link_table(alloc: Global, table: ClassTable) -> Result<Links, RulesError>
     }
 }
 
-// Links classes with those of the deterministic library.
-fn link_classes(alloc: Global, declared: Vec<DeclaredClass>) -> Result<Links, RulesError>
-    requires { length declared.items ≤ most_files }
-    ensures { IfOk result (AreLinksOf declared.items) }
+// Links classes with those of the library.
+fn link_classes(
+    alloc: Global,
+    declared: Vec<DeclaredClass>,
+    library: &Library,
+) -> Result<Links, RulesError>
+    requires few { length declared.items ≤ most_files }
+    requires library { IsJudging (library_view library.now) }
+    ensures { IfOk result (AreLinksOf (library_view library.now) declared.items) }
 {
     let mut all = declared;
-    add_library(alloc, &mut all)?;
+    add_library(alloc, &mut all, library)?;
     match ClassTable::of(alloc, all) {
         Ok(table) => link_table(alloc, table),
         Err(TableError::Duplicate(_)) => Ok(Links::SharedName),
@@ -141,14 +149,19 @@ fn link_classes(alloc: Global, declared: Vec<DeclaredClass>) -> Result<Links, Ru
     }
 }
 
-/// Links the classes of the files and of the deterministic library.
-pub fn link_files(alloc: Global, files: &[PathFile<'_>]) -> Result<Links, RulesError>
+/// Links the classes of the files and of the library.
+pub fn link_files(
+    alloc: Global,
+    files: &[PathFile<'_>],
+    library: &Library,
+) -> Result<Links, RulesError>
     requires few { length files.now ≤ most_files }
     requires short { All (λ file. length file.bytes.now < 2 ^ 32) files.now }
-    ensures { IfOk result (AreLinks (map path_file_view files.now)) }
+    requires library { IsJudging (library_view library.now) }
+    ensures { IfOk result (AreLinks (library_view library.now) (map path_file_view files.now)) }
 {
     match declare_files(alloc, files)? {
-        Some(declared) => link_classes(alloc, declared),
+        Some(declared) => link_classes(alloc, declared, library),
         None => Ok(Links::NotClassFile),
     }
 }

@@ -5,7 +5,9 @@ mod checking;
 mod class_set;
 mod entry;
 mod error;
+mod judging;
 mod late;
+mod raw_rules;
 mod run_rules;
 mod running;
 
@@ -13,5 +15,6 @@ pub use checking::check;
 pub use class_set::ClassSet;
 pub use entry::entry_name;
 pub use error::SandboxError;
+pub use raw_rules::{DESCRIPTOR, VERIFY, raw_violations};
 pub use run_rules::{entry_of, has_entry, run_violations};
 pub use running::verify;

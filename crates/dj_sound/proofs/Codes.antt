@@ -21,7 +21,7 @@ use Rattle.dj_loader.proofs.Lists.{member_none, member_cases, place_of_member, o
 use Rattle.dj_program.specs.Naming.{instruction_in}
 use Rattle.dj_program.specs.Codes.{CodeParts, range_in, code_in, IsMethodCode}
 use Rattle.dj_program.specs.Programs.{IsMethodIn}
-use Rattle.dj_sound.specs.Accepted.{OfAccepted}
+use Rattle.dj_sound.specs.Accepted.{OfAcceptedBy}
 use Rattle.dj_sound.specs.Laws.{HasCodes, HaveCodes}
 use Rattle.dj_sound.proofs.Tests.{each_at}
 use Rattle.dj_sound.proofs.Origins.{IsOfFile, origin}
@@ -126,7 +126,7 @@ method_of_file files classes class of m there =
     let (info, info_at, such) = side_at (IsMethodIn of.read.pool) of.read.methods of.is.methods k m of.is.each at in
     (info, member_at_place of.read.methods k info info_at, such)
 
-pub codes : (library : Library) → IsSoundLibrary library → OfAccepted library HasCodes
+pub codes : {judge : Library} (library : Library) → IsSoundLibrary library → OfAcceptedBy judge library HasCodes
 codes library sound files classes program accepted is class there m own =
     elim (origin library files classes program accepted.good is class there) [
       | inl of ↦ (let (info, listed, such) = method_of_file files classes class of m own in file_body of.read.pool info m such)

@@ -31,7 +31,7 @@ use Rattle.dj_declared.proofs.DescTests.{desc_in_is}
 use Rattle.dj_loader.proofs.Lists.{member_first, of_map}
 use Rattle.dj_program.specs.Naming.{value_index, constant_by, constant_of_body, constant_of_bodies, constant_in}
 use Rattle.dj_program.specs.Programs.{field_in_file}
-use Rattle.dj_sound.specs.Accepted.{IsAccepted, OfAccepted}
+use Rattle.dj_sound.specs.Accepted.{IsAcceptedBy, OfAcceptedBy}
 use Rattle.dj_sound.specs.Laws.{HasConstants, HaveConstants}
 use Rattle.dj_sound.proofs.Origins.{IsOfFile, origin, no_line}
 use Rattle.dj_sound.proofs.Members.{IsSoundLibrary, deterministic_sound, raw_sound, row_member}
@@ -125,7 +125,7 @@ not_or false c e = refl
 
 -- ---- fields of files
 
-module _ (files : List File) (classes : List ClassFile) (accepted : IsAccepted files classes) (class : programs.Class) (of : IsOfFile files classes class) where
+module _ {judge : Library} (files : List File) (classes : List ClassFile) (accepted : IsAcceptedBy judge files classes) (class : programs.Class) (of : IsOfFile files classes class) where
   -- rule 12
   no_float_field : (f : MemberInfo) → Contains of.read.fields f → IsFloatField of.read.pool f → ⊥
   no_float_field f m float = no_line files classes accepted (line_at of.file.0 (member_text of.read.pool f) None 12)
@@ -174,7 +174,7 @@ module _ (files : List File) (classes : List ClassFile) (accepted : IsAccepted f
       subst (λ (x : programs.Field). is_sound_field x ≡ true) e (field_fits info m)) in
       subst (λ (c : programs.Class). IsTrue (list_all is_sound_field c.fields)) (sym of.is.is) all
 
-pub constants : (library : Library) → IsSoundLibrary library → OfAccepted library HasConstants
+pub constants : {judge : Library} (library : Library) → IsSoundLibrary library → OfAcceptedBy judge library HasConstants
 constants library sound files classes program accepted is class m =
     elim (origin library files classes program accepted.good is class m) [
       | inl of ↦ file_fields files classes accepted class of

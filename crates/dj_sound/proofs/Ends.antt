@@ -18,7 +18,7 @@ use Rattle.dj_loader.specs.Loads.{StandsUnder, StandsBelow, IsOwnAncestor}
 use Rattle.dj_loader.proofs.Lists.{member_first, member_later, member_none, member_cases, member_front, member_mapped, of_map}
 use Rattle.dj_program.specs.Programs.{IsProgramIn}
 use Rattle.dj_sandbox.proofs.NoCycles.{no_cycle}
-use Rattle.dj_sound.specs.Accepted.{IsAccepted, OfAccepted}
+use Rattle.dj_sound.specs.Accepted.{IsAcceptedBy, OfAcceptedBy}
 use Rattle.dj_sound.specs.Laws.{HasEnds, HaveEnds}
 use Rattle.dj_sound.proofs.Origins.{rows_of, IsAlike, deterministic_alike, raw_alike, IsOfFile, origin, row_there, holds_hierarchy}
 use Rattle.dj_sound.proofs.Members.{IsSoundLibrary, deterministic_sound, raw_sound, row_member}
@@ -58,7 +58,7 @@ kept name other (n ∷ names) m apart = by (same_name n name) refl (member_cases
 
 -- ---- upward
 
-module _ (library : Library) (alike : IsAlike library) (sound : IsSoundLibrary library) (files : List File) (classes : List ClassFile) (program : Program) (accepted : IsAccepted files classes) (is : IsProgramIn library classes program) where
+module _ {judge : Library} (library : Library) (alike : IsAlike library) (sound : IsSoundLibrary library) (files : List File) (classes : List ClassFile) (program : Program) (accepted : IsAcceptedBy judge files classes) (is : IsProgramIn library classes program) where
   -- of a class of the library as in the library alone
   pub row_at : (name : Name) (c : Class) → class_at (library_program library) name ≡ Some c → class_at program name ≡ Some c
   row_at name c at =
@@ -140,7 +140,7 @@ module _ (library : Library) (alike : IsAlike library) (sound : IsSoundLibrary l
   class_ends class m =
       ends_among (suc (length (map this_name classes))) (map this_name classes) class (omega arith) m (λ c own up. member_mapped this_name classes c own)
 
-pub ends : (library : Library) → IsAlike library → IsSoundLibrary library → OfAccepted library HasEnds
+pub ends : {judge : Library} (library : Library) → IsAlike library → IsSoundLibrary library → OfAcceptedBy judge library HasEnds
 ends library alike sound files classes program accepted is class m = class_ends library alike sound files classes program accepted is class m
 
 pub have_ends : HaveEnds

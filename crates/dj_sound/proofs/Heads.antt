@@ -23,7 +23,7 @@ use Rattle.dj_classes.proofs.Rising.{members_joined}
 use Rattle.dj_loader.proofs.Lists.{member_first, member_later, member_none, member_cases, member_front, member_mapped, of_map, place_of_member}
 use Rattle.dj_program.specs.Programs.{AreSideBySide, IsClassIn, IsProgramIn}
 use Rattle.dj_sandbox.specs.Checked.{AreGoodFiles}
-use Rattle.dj_sound.specs.Accepted.{IsAccepted}
+use Rattle.dj_sound.specs.Accepted.{IsAcceptedBy}
 use Rattle.dj_sound.proofs.Origins.{head_in, rows_of, IsAlike, IsOfFile, IsRow, as_joined, origin, row_there, no_line}
 use Rattle.dj_sound.proofs.Names.{rises}
 
@@ -64,7 +64,7 @@ at_rising program rise c name m named =
 
 -- ---- the program
 
-module _ (library : Library) (alike : IsAlike library) (files : List File) (classes : List ClassFile) (program : Program) (accepted : IsAccepted files classes) (is : IsProgramIn library classes program) where
+module _ {judge : Library} (library : Library) (alike : IsAlike library) (files : List File) (classes : List ClassFile) (program : Program) (accepted : IsAcceptedBy judge files classes) (is : IsProgramIn library classes program) where
   rise : RiseStrictly program
   rise = rises library alike files classes program accepted is
 

@@ -18,7 +18,7 @@ use Rattle.dj_model.proofs.SoundLinks.{class_contained}
 use Rattle.dj_check.specs.Heads.{StandsAmong}
 use Rattle.dj_classes.proofs.Orders.{names_from_same, same_from_names}
 use Rattle.dj_program.specs.Programs.{IsProgramIn}
-use Rattle.dj_sound.specs.Accepted.{IsAccepted}
+use Rattle.dj_sound.specs.Accepted.{IsAcceptedBy}
 use Rattle.dj_sound.specs.Laws.{IsHierarchy, HaveHierarchy}
 use Rattle.dj_sound.proofs.Tests.{is_true, is_false, all_from, all_at}
 use Rattle.dj_sound.proofs.Flags.{test_from_bit, bit_from_test}
@@ -82,7 +82,7 @@ above_chain program (suc n) class name e = above_class program n class name e
 
 -- ---- the program
 
-module _ (library : Library) (alike : IsAlike library) (sound : IsSoundLibrary library) (files : List File) (classes : List ClassFile) (program : Program) (accepted : IsAccepted files classes) (is : IsProgramIn library classes program) where
+module _ {judge : Library} (library : Library) (alike : IsAlike library) (sound : IsSoundLibrary library) (files : List File) (classes : List ClassFile) (program : Program) (accepted : IsAcceptedBy judge files classes) (is : IsProgramIn library classes program) where
   -- no class stands right below a final one of the library, below which none of its own stands
   pub never_below : (head : Head) → Contains library_heads head → has_flag 4 head.flags ≡ true → list_all (λ (h : Head). not (is_below head.name h.superclass)) library_heads ≡ true
       → (class : Class) → Contains program class → class.superclass ≡ Some head.name → ⊥

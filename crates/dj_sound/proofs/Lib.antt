@@ -19,4 +19,5 @@ pub mod Whole
 pub mod Loadable
 pub mod Running
 pub mod ClassFiles
+pub mod RawAccepted
 mod Facts

@@ -17,7 +17,7 @@ use Rattle.dj_classes.proofs.Orders.{same_from_names}
 use Rattle.dj_loader.specs.Loads.{all_classes, above_names, StandsUnder, LacksAbove, StandsBelow, IsOwnAncestor, IsLoadable}
 use Rattle.dj_loader.proofs.Lists.{member_none, member_cases, member_front, member_back, member_of_either, member_mapped, of_map}
 use Rattle.dj_sandbox.proofs.NoCycles.{no_cycle}
-use Rattle.dj_sound.specs.Accepted.{IsAccepted}
+use Rattle.dj_sound.specs.Accepted.{IsAcceptedBy}
 use Rattle.dj_sound.specs.Laws.{AreLoadable}
 use Rattle.dj_sound.proofs.Origins.{head_in, rows_of, IsAlike, deterministic_alike, raw_alike, no_line, holds_hierarchy}
 use Rattle.dj_sound.proofs.Names.{none_shared}
@@ -70,7 +70,7 @@ head_declared c = refl
 heads_of_rows : (library : Library) → map head_in (rows_of library) ≡ library_heads → (h : Head) → Contains library_heads h → (d : Class) × Contains (rows_of library) d × (head_in d ≡ h)
 heads_of_rows library are h m = of_map head_in (rows_of library) h (subst (λ (hs : List Head). Contains hs h) (sym are) m)
 
-module _ (library : Library) (alike : IsAlike library) (closed : IsClosed library) (heads : map head_in (rows_of library) ≡ library_heads) (files : List File) (classes : List ClassFile) (accepted : IsAccepted files classes) where
+module _ {judge : Library} (library : Library) (alike : IsAlike library) (closed : IsClosed library) (heads : map head_in (rows_of library) ≡ library_heads) (files : List File) (classes : List ClassFile) (accepted : IsAcceptedBy judge files classes) where
   abbrev all : List Class
   all = all_classes library classes
 
@@ -159,3 +159,7 @@ are_loadable = record {
   deterministic = loadable deterministic_library deterministic_alike deterministic_closed deterministic_heads;
   raw = loadable raw_library raw_alike raw_closed (raw_alike ∙ deterministic_heads);
 }
+
+-- those of files that were judged with the library whose host answers load with it
+pub raw_loadable : (files : List File) (classes : List ClassFile) → IsAcceptedBy raw_library files classes → IsLoadable (all_classes raw_library classes)
+raw_loadable = loadable raw_library raw_alike raw_closed (raw_alike ∙ deterministic_heads)

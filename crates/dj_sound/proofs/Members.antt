@@ -21,7 +21,7 @@ use Rattle.dj_declared.proofs.DescTests.{same_name_is, is_descriptor, same_texts
 use Rattle.dj_classes.proofs.Rising.{members_joined}
 use Rattle.dj_loader.proofs.Lists.{some_of_map, member_mapped}
 use Rattle.dj_program.specs.Programs.{AreSideBySide, IsMethodIn, field_in_file}
-use Rattle.dj_sound.specs.Accepted.{IsAccepted, OfAccepted}
+use Rattle.dj_sound.specs.Accepted.{IsAcceptedBy, OfAcceptedBy}
 use Rattle.dj_sound.specs.Laws.{HasApartMembers, MembersDiffer}
 use Rattle.dj_sound.proofs.Tests.{text_or, some_and, each_at}
 use Rattle.dj_sound.proofs.Origins.{rows_of, IsOfFile, IsRow, origin, no_line}
@@ -98,7 +98,7 @@ side_at Stand (a ∷ xs) (b ∷ ys) (suc k) y each e = side_at Stand xs ys k y e
 
 -- ---- classes of files
 
-module _ (files : List File) (classes : List ClassFile) (accepted : IsAccepted files classes) (class : Class) (of : IsOfFile files classes class) where
+module _ {judge : Library} (files : List File) (classes : List ClassFile) (accepted : IsAcceptedBy judge files classes) (class : Class) (of : IsOfFile files classes class) where
   -- rule 6
   no_repeats : HasRepeats of.read → ⊥
   no_repeats repeats = no_line files classes accepted (file_line of.file.0 6)
@@ -159,7 +159,7 @@ row_members library sound class row =
 
 -- ---- both
 
-pub members : (library : Library) → IsSoundLibrary library → OfAccepted library HasApartMembers
+pub members : {judge : Library} (library : Library) → IsSoundLibrary library → OfAcceptedBy judge library HasApartMembers
 members library sound files classes program accepted is class m =
     elim (origin library files classes program accepted.good is class m) [
       | inl of ↦ file_members files classes accepted class of

@@ -5,7 +5,7 @@ use Rattle.std.specs.List.{list_all}
 use Rattle.std.proofs.lemmas.Option.{slice_get_within}
 use Rattle.dj_edge.specs.Held.{File}
 use Rattle.dj_names.specs.Types.{same_name}
-use Rattle.dj_names.specs.Library.{deterministic_library}
+use Rattle.dj_names.specs.Library.{Library, deterministic_library, raw_library}
 use Rattle.dj_names.specs.Descriptors.{IsMethodDescriptor}
 use Rattle.dj_ops.specs.declared.instruction.Instr.{Instr}
 use Rattle.dj_labels.specs.declared.labelled.Protected.{Protected}
@@ -43,7 +43,7 @@ use Rattle.dj_program.specs.Codes.{CodeParts, range_in, code_in, IsMethodCode}
 use Rattle.dj_program.specs.Programs.{IsMethodIn}
 use Rattle.dj_sandbox.specs.Checked.{AreGoodFiles}
 use Rattle.dj_sandbox.proofs.NoDoubles.{is_of_java, reserved_breaks}
-use Rattle.dj_sound.specs.Accepted.{IsAccepted}
+use Rattle.dj_sound.specs.Accepted.{IsAcceptedBy}
 use Rattle.dj_sound.proofs.Origins.{rows_of, IsOfFile, no_line, holds_hierarchy}
 use Rattle.dj_sound.proofs.Tests.{text_or, some_and, all_from, all_at, each_at}
 use Rattle.dj_sound.proofs.Signatures.{signature_there}
@@ -75,8 +75,15 @@ is_run signature code shape k i at other = all_run signature code (map_of signat
 abbrev has_no_constructor : Class → Bool
 has_no_constructor c = not (same_name c.name (string_name [])) || not (has_method_named c.methods (codes "<init>"))
 
-string_hidden : list_all has_no_constructor (rows_of deterministic_library) ≡ true
-string_hidden = refl
+-- the library has none
+abbrev pub HidesConstructor : Library → Type 0
+HidesConstructor library = list_all has_no_constructor (rows_of library) ≡ true
+
+pub deterministic_hides : HidesConstructor deterministic_library
+deterministic_hides = refl
+
+pub raw_hides : HidesConstructor raw_library
+raw_hides = refl
 
 hidden : (a b : Bool) → a ≡ true → (not a || not b) ≡ true → b ≡ false
 hidden true true e t = absurd cc
@@ -92,10 +99,10 @@ file_of (file ∷ files) (d ∷ classes) c good m = elim (member_cases d classes
   | inr later ↦ (let (other, there, is) = file_of files classes c good.1 later in (other, member_later file files other there, is))
 ]
 
-module _ (files : List File) (classes : List ClassFile) (accepted : IsAccepted files classes) where
+module _ {judge : Library} (files : List File) (classes : List ClassFile) (accepted : IsAcceptedBy judge files classes) where
   -- the program by which the rules judge
   abbrev pub judged : Program
-  judged = declared_program deterministic_library classes
+  judged = declared_program judge classes
 
   -- its classes of the library's names are those of the library
   pub file_java : (c : ClassFile) → Contains classes c → is_of_java (declared_class c).name ≡ true → ⊥
@@ -104,12 +111,12 @@ module _ (files : List File) (classes : List ClassFile) (accepted : IsAccepted f
       let (file, among, good) = file_of files classes c accepted.good m in
       reserved_breaks files file c (holds_hierarchy files classes accepted) among good java
 
-  pub judged_member : (d : Class) → Contains judged d → Contains (map declared_class classes) d ⊎ Contains (rows_of deterministic_library) d
+  pub judged_member : (d : Class) → Contains judged d → Contains (map declared_class classes) d ⊎ Contains (rows_of judge) d
   judged_member d m =
-      member_of_either (map declared_class classes) (rows_of deterministic_library) d
-      ((members_joined (map declared_class classes ++ rows_of deterministic_library) d).0 (subst (λ (p : Program). Contains p d) (declared_program-joined deterministic_library classes) m))
+      member_of_either (map declared_class classes) (rows_of judge) d
+      ((members_joined (map declared_class classes ++ rows_of judge) d).0 (subst (λ (p : Program). Contains p d) (declared_program-joined judge classes) m))
 
-  pub java_row : (d : Class) → Contains judged d → is_of_java d.name ≡ true → Contains (rows_of deterministic_library) d
+  pub java_row : (d : Class) → Contains judged d → is_of_java d.name ≡ true → Contains (rows_of judge) d
   java_row d m java = elim (judged_member d m) [
     | inl front ↦
         let (c, own, same) = of_map declared_class classes d front in
@@ -117,16 +124,16 @@ module _ (files : List File) (classes : List ClassFile) (accepted : IsAccepted f
     | inr listed ↦ listed
   ]
 
-  hides_string : HidesString judged
-  hides_string class at =
+  hides_string : HidesConstructor judge → HidesString judged
+  hides_string hides class at =
       let (m, named) = class_contained judged (string_name []) class at in
       let listed = java_row class m (ap is_of_java named) in
       hidden (same_name class.name (string_name [])) (has_method_named class.methods (codes "<init>")) (same_from_names class.name (string_name []) named)
-      (all_at has_no_constructor (rows_of deterministic_library) class string_hidden listed)
+      (all_at has_no_constructor (rows_of judge) class hides listed)
 
   -- ---- a method of a file
 
-  module _ (program : Program) (sees : Sees judged program) (class : Class) (of : IsOfFile files classes class) (info : MemberInfo) (listed : Contains of.read.methods info) where
+  module _ (hides : HidesConstructor judge) (program : Program) (sees : Sees judged program) (class : Class) (of : IsOfFile files classes class) (info : MemberInfo) (listed : Contains of.read.methods info) where
     abbrev pool : List Constant
     pool = of.read.pool
 
@@ -145,11 +152,11 @@ module _ (files : List File) (classes : List ClassFile) (accepted : IsAccepted f
     no_finalizer finalizer = no_line files classes accepted (member_line of.file.0 (member_text pool info) 8)
         (inl (inl (of.file, of.among, inr (of.read, of.good, inl (inr (inr (inr (record { method = info; own = listed; such = finalizer; line = refl }))))))))
 
-    late : (v : Violation) → IsLinkedLine (declared_program deterministic_library classes) files v → ⊥
+    late : (v : Violation) → IsLinkedLine (declared_program judge classes) files v → ⊥
     late v line = no_line files classes accepted v (inr (record { hierarchy = holds_hierarchy files classes accepted; classes = classes; good = accepted.good; line = line }))
 
     -- rules 17 and 18
-    no_link : (number : Option ℕ) (rule : ℕ) → MethodLinkViolates (declared_program deterministic_library classes) of.read info number rule → ⊥
+    no_link : (number : Option ℕ) (rule : ℕ) → MethodLinkViolates (declared_program judge classes) of.read info number rule → ⊥
     no_link number rule violates = late (line_at of.file.0 (member_text pool info) number rule)
         (inl (of.file, of.among, (of.read, of.good, record { member = info; own = listed; number = number; rule = rule; such = violates; line = refl })))
 
@@ -186,7 +193,7 @@ module _ (files : List File) (classes : List ClassFile) (accepted : IsAccepted f
       }))
 
       no_instr_link : (k : ℕ) (instr : Instr) → slice_get parts.labelled.code k ≡ Some instr → (rule : ℕ)
-          → LinkViolates (declared_program deterministic_library classes) (this_name of.read) pool instr rule → ⊥
+          → LinkViolates (declared_program judge classes) (this_name of.read) pool instr rule → ⊥
       no_instr_link k instr at rule violates = no_link (Some k) rule (record {
         labelled = parts.labelled;
         code = record { code = code.info; own = code.own; labels = code.labels };
@@ -195,14 +202,14 @@ module _ (files : List File) (classes : List ClassFile) (accepted : IsAccepted f
         such = inl (record { instr = instr; stands = at; such = violates });
       })
 
-      near : (k : ℕ) (instr : Instr) → slice_get parts.labelled.code k ≡ Some instr → IsForeign (declared_program deterministic_library classes) pool instr → ⊥
+      near : (k : ℕ) (instr : Instr) → slice_get parts.labelled.code k ≡ Some instr → IsForeign (declared_program judge classes) pool instr → ⊥
       near k instr at foreign = no_instr_link k instr at 17 (untold_instr k instr at, inl (foreign, refl))
 
-      linked : (k : ℕ) (instr : Instr) → slice_get parts.labelled.code k ≡ Some instr → IsUnlinked (declared_program deterministic_library classes) (this_name of.read) pool instr → ⊥
+      linked : (k : ℕ) (instr : Instr) → slice_get parts.labelled.code k ≡ Some instr → IsUnlinked (declared_program judge classes) (this_name of.read) pool instr → ⊥
       linked k instr at unlinked = no_instr_link k instr at 18 (untold_instr k instr at, inr (near k instr at, unlinked, refl))
 
       fine : (k : ℕ) (instr : Instr) → slice_get parts.labelled.code k ≡ Some instr → IsFine program (instruction_in pool instr)
-      fine k instr at = instr_fine judged program sees (this_name of.read) pool of.good.file.valid.pool hides_string instr (near k instr at) (linked k instr at)
+      fine k instr at = instr_fine judged program sees (this_name of.read) pool of.good.file.valid.pool (hides_string hides) instr (near k instr at) (linked k instr at)
 
       -- ---- its handlers
 
@@ -215,7 +222,7 @@ module _ (files : List File) (classes : List ClassFile) (accepted : IsAccepted f
         such = inr (record { range = range; own = there; begins = refl; catches = catches; is = refl });
       }))
 
-      no_catch_link : (range : Protected) → Contains parts.labelled.ranges range → (rule : ℕ) → CatchViolates (declared_program deterministic_library classes) pool range.catch_type rule → ⊥
+      no_catch_link : (range : Protected) → Contains parts.labelled.ranges range → (rule : ℕ) → CatchViolates (declared_program judge classes) pool range.catch_type rule → ⊥
       no_catch_link range there rule violates = no_link (Some range.handler) rule (record {
         labelled = parts.labelled;
         code = record { code = code.info; own = code.own; labels = code.labels };
@@ -224,7 +231,7 @@ module _ (files : List File) (classes : List ClassFile) (accepted : IsAccepted f
         such = inr (record { range = range; own = there; begins = refl; such = violates });
       })
 
-      catch_fits : (range : Protected) → Contains parts.labelled.ranges range → IsUnlinkedCatch (declared_program deterministic_library classes) pool range.catch_type → ⊥
+      catch_fits : (range : Protected) → Contains parts.labelled.ranges range → IsUnlinkedCatch (declared_program judge classes) pool range.catch_type → ⊥
       catch_fits range there unlinked =
           no_catch_link range there 18 (no_error range there, inr (λ foreign. no_catch_link range there 17 (no_error range there, inl (foreign, refl)), unlinked, refl))
 

@@ -19,7 +19,7 @@ use Rattle.dj_classes.proofs.Joins.{declared_program-joined}
 use Rattle.dj_classes.proofs.Rising.{differ_from_none_shared, rise_joined}
 use Rattle.dj_sandbox.specs.Checked.{AreGoodFiles, HoldsHierarchy}
 use Rattle.dj_sandbox.proofs.NoDoubles.{no_name_twice}
-use Rattle.dj_sound.specs.Accepted.{OfAccepted}
+use Rattle.dj_sound.specs.Accepted.{OfAcceptedBy}
 use Rattle.dj_sound.specs.Laws.{HasRisingNames, NamesRise}
 use Rattle.dj_sound.proofs.Origins.{head_in, rows_of, IsAlike, deterministic_alike, raw_alike, holds_hierarchy, bare}
 
@@ -72,7 +72,7 @@ bare_names_rise [] = refl
 bare_names_rise (c ∷ []) = refl
 bare_names_rise (c ∷ d ∷ program) = ap (λ (b : Bool). is_name_before c.name d.name && b) (bare_names_rise (d ∷ program))
 
-pub rising : (library : Library) → IsAlike library → OfAccepted library HasRisingNames
+pub rising : {judge : Library} (library : Library) → IsAlike library → OfAcceptedBy judge library HasRisingNames
 rising library alike files classes program accepted is =
     let declared : IsTrue (names_rise (declared_program library classes)) =
     names_rise-from_rise (declared_program library classes) (declared_rise library alike files classes (holds_hierarchy files classes accepted) accepted.good) in
@@ -80,7 +80,7 @@ rising library alike files classes program accepted is =
     (subst (λ (p : Program). IsTrue (names_rise p)) (sym (bare library files classes program accepted.good is)) declared)
 
 -- by the order itself
-pub rises : (library : Library) → IsAlike library → OfAccepted library RiseStrictly
+pub rises : {judge : Library} (library : Library) → IsAlike library → OfAcceptedBy judge library RiseStrictly
 rises library alike files classes program accepted is = rise-from_names_rise program (rising library alike files classes program accepted is)
 
 pub accepted_rise : NamesRise

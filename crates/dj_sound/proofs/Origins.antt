@@ -14,9 +14,9 @@ use Rattle.dj_classes.proofs.Rising.{members_joined}
 use Rattle.dj_loader.proofs.Lists.{member_first, member_later, member_none, member_cases, member_back, member_of_either, of_map}
 use Rattle.dj_program.specs.Programs.{AreSideBySide, IsClassIn, IsProgramIn}
 use Rattle.dj_program.proofs.Bare.{bare_is}
-use Rattle.dj_sandbox.specs.Checked.{AreGoodFiles, HoldsHierarchy, IsCheckLine}
+use Rattle.dj_sandbox.specs.Checked.{AreGoodFiles, HoldsHierarchy, IsLineBy}
 use Rattle.dj_report.specs.declared.report.Violation.{Violation}
-use Rattle.dj_sound.specs.Accepted.{IsAccepted}
+use Rattle.dj_sound.specs.Accepted.{IsAcceptedBy}
 
 -- ---- heads
 
@@ -38,10 +38,10 @@ raw_alike = refl
 
 -- ---- no line of any rule
 
-pub no_line : (files : List File) (classes : List ClassFile) → IsAccepted files classes → (v : Violation) → IsCheckLine files v → ⊥
+pub no_line : {judge : Library} (files : List File) (classes : List ClassFile) → IsAcceptedBy judge files classes → (v : Violation) → IsLineBy judge files v → ⊥
 no_line files classes accepted v line = member_none v ((accepted.silent.all v).1 line)
 
-pub holds_hierarchy : (files : List File) (classes : List ClassFile) → IsAccepted files classes → HoldsHierarchy files
+pub holds_hierarchy : {judge : Library} (files : List File) (classes : List ClassFile) → IsAcceptedBy judge files classes → HoldsHierarchy files
 holds_hierarchy files classes accepted v line = absurd (no_line files classes accepted v (inl line))
 
 -- ---- origins

@@ -10,8 +10,8 @@ use Rattle.dj_model.specs.Sound.{IsProgram, IsSoundBody, IsSoundClass, IsSound}
 use Rattle.dj_loader.proofs.Lists.{of_map}
 use Rattle.dj_program.specs.Programs.{IsProgramIn}
 use Rattle.dj_classes.specs.Tables.{declared_program}
-use Rattle.dj_sound.specs.Accepted.{IsAccepted, OfAccepted}
-use Rattle.dj_sound.specs.Laws.{HasBodies, HaveBodies, AcceptedIsSound}
+use Rattle.dj_sound.specs.Accepted.{IsAcceptedBy, OfAcceptedBy}
+use Rattle.dj_sound.specs.Laws.{HasBodies, HaveBodies, IsSoundProgram, AcceptedIsSound}
 use Rattle.dj_sound.proofs.Origins.{IsAlike, deterministic_alike, raw_alike, IsOfFile, IsRow, origin, bare}
 use Rattle.dj_sound.proofs.Names.{rising}
 use Rattle.dj_sound.proofs.Members.{IsSoundLibrary, deterministic_sound, raw_sound, row_member, members}
@@ -20,7 +20,7 @@ use Rattle.dj_sound.proofs.Hierarchy.{hierarchy}
 use Rattle.dj_sound.proofs.Constants.{constants}
 use Rattle.dj_sound.proofs.Codes.{body_cases, method_of_file, codes}
 use Rattle.dj_sound.proofs.Operands.{Sees, sees_bare}
-use Rattle.dj_sound.proofs.Methods.{sound_code}
+use Rattle.dj_sound.proofs.Methods.{HidesConstructor, deterministic_hides, raw_hides, sound_code}
 use Rattle.dj_sound.proofs.Raw.{raw_seen}
 
 -- ---- bodies
@@ -36,37 +36,41 @@ row_bodies library sound program class row m own =
     let (told, there, is) = of_map library_method named.methods m (subst (λ (c : Class). Contains c.methods m) (sym same) own) in
     row_body (library_program library) program m told.native (ap (λ (x : Method). x.body) (sym is)) ((sound.classes class (row_member library class row)).bodies m own)
 
-file_bodies : (files : List File) (classes : List ClassFile) (program : Program) → IsAccepted files classes → Sees (declared_program deterministic_library classes) program
+file_bodies : {judge : Library} → HidesConstructor judge → (files : List File) (classes : List ClassFile) (program : Program) → IsAcceptedBy judge files classes → Sees (declared_program judge classes) program
     → (class : Class) → IsOfFile files classes class → (m : Method) → Contains class.methods m → IsSoundBody program [] m m.body
-file_bodies files classes program accepted sees class of m own =
+file_bodies hides files classes program accepted sees class of m own =
     let (info, listed, such) = method_of_file files classes class of m own in
     elim (body_cases of.read.pool info m such) [
       | inl e ↦ subst (IsSoundBody program [] m) (sym e) tt
-      | inr (parts, code, e) ↦ subst (IsSoundBody program [] m) (sym e) (sound_code files classes accepted program sees class of info listed parts code m such)
+      | inr (parts, code, e) ↦ subst (IsSoundBody program [] m) (sym e) (sound_code files classes accepted hides program sees class of info listed parts code m such)
     ]
 
 -- what the rules found is in the program
-abbrev pub SeesAccepted : Library → Type 0
-SeesAccepted library =
-    (files : List File) (classes : List ClassFile) (program : Program) → IsAccepted files classes → IsProgramIn library classes program → Sees (declared_program deterministic_library classes) program
+abbrev pub SeesAccepted : Library → Library → Type 0
+SeesAccepted judge library =
+    (files : List File) (classes : List ClassFile) (program : Program) → IsAcceptedBy judge files classes → IsProgramIn library classes program → Sees (declared_program judge classes) program
 
-deterministic_seen : SeesAccepted deterministic_library
-deterministic_seen files classes program accepted is =
-    subst (λ (p : Program). Sees p program) (bare deterministic_library files classes program accepted.good is) (sees_bare program)
+-- where they judged with its library
+own_seen : (library : Library) → SeesAccepted library library
+own_seen library files classes program accepted is =
+    subst (λ (p : Program). Sees p program) (bare library files classes program accepted.good is) (sees_bare program)
 
-pub bodies : (library : Library) → IsSoundLibrary library → SeesAccepted library → OfAccepted library HasBodies
-bodies library sound seen files classes program accepted is class there m own =
+pub bodies : {judge : Library} → HidesConstructor judge → (library : Library) → IsSoundLibrary library → SeesAccepted judge library → OfAcceptedBy judge library HasBodies
+bodies hides library sound seen files classes program accepted is class there m own =
     elim (origin library files classes program accepted.good is class there) [
-      | inl of ↦ file_bodies files classes program accepted (seen files classes program accepted is) class of m own
+      | inl of ↦ file_bodies hides files classes program accepted (seen files classes program accepted is) class of m own
       | inr row ↦ row_bodies library sound program class row m own
     ]
 
 pub have_bodies : HaveBodies
-have_bodies = record { deterministic = bodies deterministic_library deterministic_sound deterministic_seen; raw = bodies raw_library raw_sound raw_seen }
+have_bodies = record {
+  deterministic = bodies deterministic_hides deterministic_library deterministic_sound (own_seen deterministic_library);
+  raw = bodies deterministic_hides raw_library raw_sound raw_seen;
+}
 
 -- ---- all together
 
-module _ (library : Library) (alike : IsAlike library) (sound : IsSoundLibrary library) (seen : SeesAccepted library) (files : List File) (classes : List ClassFile) (program : Program) (accepted : IsAccepted files classes)
+module _ {judge : Library} (hides : HidesConstructor judge) (library : Library) (alike : IsAlike library) (sound : IsSoundLibrary library) (seen : SeesAccepted judge library) (files : List File) (classes : List ClassFile) (program : Program) (accepted : IsAcceptedBy judge files classes)
     (is : IsProgramIn library classes program) where
   formed : IsProgram program
   formed = record {
@@ -86,7 +90,7 @@ module _ (library : Library) (alike : IsAlike library) (sound : IsSoundLibrary l
       let upward = hierarchy library alike sound files classes program accepted is c there in
       record {
         fields = constants library sound files classes program accepted is c there;
-        bodies = bodies library sound seen files classes program accepted is c there;
+        bodies = bodies hides library sound seen files classes program accepted is c there;
         interfaces = upward.interfaces;
         above_interface = upward.above_interface;
         above = upward.above;
@@ -98,6 +102,10 @@ module _ (library : Library) (alike : IsAlike library) (sound : IsSoundLibrary l
 
 pub accepted_is_sound : AcceptedIsSound
 accepted_is_sound = record {
-  deterministic = is_sound deterministic_library deterministic_alike deterministic_sound deterministic_seen;
-  raw = is_sound raw_library raw_alike raw_sound raw_seen;
+  deterministic = is_sound deterministic_hides deterministic_library deterministic_alike deterministic_sound (own_seen deterministic_library);
+  raw = is_sound deterministic_hides raw_library raw_alike raw_sound raw_seen;
 }
+
+-- where the rules judged with the library whose host answers
+pub raw_accepted_is_sound : OfAcceptedBy raw_library raw_library IsSoundProgram
+raw_accepted_is_sound = is_sound raw_hides raw_library raw_alike raw_sound (own_seen raw_library)

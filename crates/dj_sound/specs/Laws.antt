@@ -3,7 +3,7 @@ use Rattle.std.specs.Prelude.{ℕ, ◌⊎◌, not, ◌||◌, List, [], Contains,
 use Rattle.std.specs.List.{list_all, list_any}
 use Rattle.dj_edge.specs.Held.{File}
 use Rattle.dj_edge.specs.declared.host.HostAnswer.{HostAnswer}
-use Rattle.dj_names.specs.Types.{class_type}
+use Rattle.dj_names.specs.Types.{Name, class_type}
 use Rattle.dj_names.specs.Library.{deterministic_library, raw_library}
 use Rattle.dj_names.specs.declared.run.Thresholds.{Thresholds}
 use Rattle.dj_class.specs.ClassFile.{ClassFile}
@@ -17,8 +17,9 @@ use Rattle.dj_model.specs.Linking.{chain, superclasses, is_among}
 use Rattle.dj_model.specs.Sound.{names_rise, fields_differ, methods_differ, Ends, is_interface_name, is_object_or_none, IsBody, is_sound_field, IsSoundBody, IsSound}
 use Rattle.dj_loader.specs.Loads.{all_classes, IsLoadable}
 use Rattle.dj_program.specs.Programs.{IsProgramIn}
-use Rattle.dj_sandbox.specs.Checked.{AreCheckViolations}
-use Rattle.dj_sound.specs.Accepted.{IsAccepted, OfEither}
+use Rattle.dj_sandbox.specs.Checked.{AreGoodFiles, AreCheckViolations}
+use Rattle.dj_sandbox.specs.RawRules.{AreRawViolations}
+use Rattle.dj_sound.specs.Accepted.{IsAccepted, IsRawAccepted, OfEither}
 
 -- each byte of each file is one
 abbrev pub AreOfBytes : List File → Type 0
@@ -98,6 +99,14 @@ AcceptedIsSound = OfEither IsSoundProgram
 pub record AreLoadable : Type 0 where
   pub deterministic : (files : List File) (classes : List ClassFile) → IsAccepted files classes → IsLoadable (all_classes deterministic_library classes)
   pub raw : (files : List File) (classes : List ClassFile) → IsAccepted files classes → IsLoadable (all_classes raw_library classes)
+
+-- files of which nothing is violated that is judged of a run with the library whose host answers
+abbrev pub AreRawAccepted : Type 0
+AreRawAccepted = (files : List File) (class : Name) (classes : List ClassFile) → AreGoodFiles files classes → AreRawViolations files class [] → IsRawAccepted files class classes
+
+-- and they have class files
+abbrev pub HaveRawClassFiles : Type 0
+HaveRawClassFiles = (files : List File) (class : Name) → AreOfBytes files → AreRawViolations files class [] → (classes : List ClassFile) × IsRawAccepted files class classes
 
 -- no turn of a metered run is ill-formed, nor any step of a plain run, but for an answer that the host doesn't give
 pub record RunsStand : Type 0 where

@@ -1,4 +1,4 @@
-ghost use Rattle.dj_sound.specs.Laws.{HaveClassFiles, NamesRise, MembersDiffer, HaveEnds, HaveHierarchy, HaveConstants, HaveCodes, HaveBodies, AcceptedIsSound, AreLoadable, RunsStand};
+ghost use Rattle.dj_sound.specs.Laws.{HaveClassFiles, NamesRise, MembersDiffer, HaveEnds, HaveHierarchy, HaveConstants, HaveCodes, HaveBodies, AcceptedIsSound, AreLoadable, AreRawAccepted, HaveRawClassFiles, RunsStand};
 
 /// Files in which no rule is violated are class files.
 pub fn have_class_files()
@@ -57,6 +57,17 @@ pub fn accepted_is_sound()
 #[tactic(auto, using(crate::proofs::Loadable::are_loadable))]
 pub fn are_loadable()
     ensures { AreLoadable }
+{}
+
+/// Files of which nothing is violated that is judged of a run with the library whose host answers: they load with it, and are a sound program that
+/// has the entry.
+pub fn are_raw_accepted()
+    ensures { AreRawAccepted }
+{}
+
+/// And they are class files.
+pub fn have_raw_class_files()
+    ensures { HaveRawClassFiles }
 {}
 
 /// No run of accepted files is ill-formed, but for an answer that the host doesn't give.

@@ -1,9 +1,10 @@
-//! Laws: the programs of the files that `check` accepts are sound.
+//! Laws: the programs of the files that `check` accepts are sound, and those of files that are judged with the library whose host answers.
 #![tactic(auto)]
 
 mod laws;
 
 pub use laws::{
-    accepted_is_sound, are_loadable, have_bodies, have_class_files, have_codes, have_constants,
-    have_ends, have_hierarchy, members_differ, names_rise, runs_stand,
+    accepted_is_sound, are_loadable, are_raw_accepted, have_bodies, have_class_files, have_codes,
+    have_constants, have_ends, have_hierarchy, have_raw_class_files, members_differ, names_rise,
+    runs_stand,
 };

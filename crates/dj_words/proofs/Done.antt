@@ -1,4 +1,4 @@
--- The job of `assemble`, and the commands that aren't done yet.
+-- The jobs of `raw` and `assemble`, and the commands that aren't done yet.
 use Rattle.std.proofs.Common.{◌≡◌, Bool, true, false, List, [], ◌∷◌, Option, Some, None, refl, ap, cond, codes, ℕ}
 use Rattle.std.specs.Prelude.{option_and_then}
 use Rattle.std.proofs.lemmas.Slice.Eq.{bytes_eq-Decides}
@@ -10,6 +10,9 @@ use Rattle.dj_words.specs.WordsApp.{Values, has_no_value, steps_in, raw_in, job_
 abbrev cut : Option Job → Option DoneJob
 cut job = option_and_then done job
 
+pub job_of_raw : (name : Word) (operands : List Word) (v : Values) → is_word name (codes "raw") ≡ true → job_of_values name operands v ≡ raw_in operands (steps_in v)
+job_of_raw name operands v is = ap (λ n. job_of_values n operands v) ((bytes_eq-Decides name (codes "raw")).0 is)
+
 pub job_of_assemble : (name : Word) (operands : List Word) (v : Values) → is_word name (codes "assemble") ≡ true
     → job_of_values name operands v ≡ cond (has_no_value v) (assemble_job operands []) None
 job_of_assemble name operands v is = ap (λ n. job_of_values n operands v) ((bytes_eq-Decides name (codes "assemble")).0 is)
@@ -20,14 +23,6 @@ rewrite_undone true [] = refl
 rewrite_undone true (a ∷ []) = refl
 rewrite_undone true (a ∷ b ∷ []) = refl
 rewrite_undone true (a ∷ b ∷ c ∷ rest) = refl
-
-raw_undone : (operands : List Word) (steps : Option ℕ) → cut (raw_in operands steps) ≡ None
-raw_undone [] s = refl
-raw_undone (a ∷ []) s = refl
-raw_undone (a ∷ b ∷ []) s = refl
-raw_undone (a ∷ b ∷ c ∷ []) None = refl
-raw_undone (a ∷ b ∷ c ∷ []) (Some s) = refl
-raw_undone (a ∷ b ∷ c ∷ d ∷ rest) s = refl
 
 two_numbers : (seed count : Option ℕ) → cut (seed >>= λ s. count >>= λ c. Some (Sample s c)) ≡ None
 two_numbers None count = refl
@@ -45,8 +40,7 @@ either : (b : Bool) (x y : Option Job) (z : Option DoneJob) → cut x ≡ z → 
 either true x y z e f = e
 either false x y z e f = f
 
-pub job_of_others : (name : Word) (operands : List Word) (v : Values) → is_word name (codes "check") ≡ false → is_word name (codes "verify") ≡ false → is_word name (codes "assemble") ≡ false → cut (job_of_values name operands v) ≡ None
-job_of_others name operands v no_check no_verify no_assemble =
-    rw (no_check, no_verify, no_assemble) (either (is_word name (codes "rewrite")) _ _ None (rewrite_undone (has_no_value v) operands)
-    (either (is_word name (codes "raw")) _ _ None (raw_undone operands (steps_in v))
-    (either (is_word name (codes "sample")) _ None None (sample_undone (has_no_value v) operands) refl)))
+pub job_of_others : (name : Word) (operands : List Word) (v : Values) → is_word name (codes "check") ≡ false → is_word name (codes "verify") ≡ false → is_word name (codes "raw") ≡ false → is_word name (codes "assemble") ≡ false → cut (job_of_values name operands v) ≡ None
+job_of_others name operands v no_check no_verify no_raw no_assemble =
+    rw (no_check, no_verify, no_raw, no_assemble) (either (is_word name (codes "rewrite")) _ _ None (rewrite_undone (has_no_value v) operands)
+    (either (is_word name (codes "sample")) _ None None (sample_undone (has_no_value v) operands) refl))

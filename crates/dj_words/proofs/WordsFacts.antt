@@ -165,6 +165,36 @@ fives = refl
 -- ---- what is done so far
 
 done_so_far : map (λ line. done_job_of (words_in line)) (codes "check c" ∷ codes "verify c A in --jump=5" ∷ codes "raw 1 1 1" ∷ codes "--steps 5 raw c A in" ∷ codes "rewrite 1 1" ∷ codes "assemble t/" ∷ codes "assemble" ∷ codes "assemble t u" ∷ codes "assemble t --jump 5" ∷ codes "sample 1 1" ∷ codes "show 1 1" ∷ codes "check" ∷ [])
-    ≡ Some (done.OnFolder (done.Check (codes "c"))) ∷ Some (done.OnFolder (done.Verify (codes "c") (codes "A") (codes "in") (record { alloc = 67108864; invoke = 1000000; jump = 5; throw = 1000000 }))) ∷ None ∷ None ∷ None ∷ Some (done.Assemble (codes "t/")) ∷ None ∷ None ∷ None ∷ None ∷ None ∷ None ∷ []
+    ≡ Some (done.OnFolder (done.Check (codes "c"))) ∷ Some (done.OnFolder (done.Verify (codes "c") (codes "A") (codes "in") (record { alloc = 67108864; invoke = 1000000; jump = 5; throw = 1000000 })))
+    ∷ Some (done.OnFolder (done.Raw (codes "1") (codes "1") (codes "1") 10000000)) ∷ Some (done.OnFolder (done.Raw (codes "c") (codes "A") (codes "in") 5)) ∷ None
+    ∷ Some (done.Assemble (codes "t/")) ∷ None ∷ None ∷ None ∷ None ∷ None ∷ None ∷ []
 unfolding done_job_of
 done_so_far = refl
+
+-- ---- raw runs
+
+abbrev done_raw : ℕ → Option done.DoneJob
+done_raw steps = Some (done.OnFolder (done.Raw (codes "c") (codes "A") (codes "in") steps))
+
+raw_steps : map (λ line. done_job_of (words_in line)) (codes "raw c A in" ∷ codes "raw c/ A in" ∷ codes "raw c A in --steps 0" ∷ codes "raw --steps=0000000005 c A in" ∷ codes "raw c A in --steps=100000000" ∷ codes "raw c --steps 6 -- A in" ∷ [])
+    ≡ done_raw 10000000 ∷ done_raw 10000000 ∷ done_raw 0 ∷ done_raw 5 ∷ done_raw 100000000 ∷ done_raw 6 ∷ []
+unfolding done_job_of
+raw_steps = refl
+
+-- the steps twice, past their most, in eleven digits, without digits, or without a value
+raw_wrong_steps : map (λ line. done_job_of (words_in line)) (codes "raw c A in --steps 5 --steps 6" ∷ codes "--steps=5 raw c A in --steps=5" ∷ codes "raw c A in --steps 100000001" ∷ codes "raw c A in --steps=00000000005" ∷ codes "raw c A in --steps 99999999999" ∷ codes "raw c A in --steps x" ∷ codes "raw c A in --steps=" ∷ codes "raw c A in --steps" ∷ codes "raw c A in --steps -5" ∷ codes "raw c A --steps in" ∷ [])
+    ≡ None ∷ None ∷ None ∷ None ∷ None ∷ None ∷ None ∷ None ∷ None ∷ None ∷ []
+unfolding done_job_of
+raw_wrong_steps = refl
+
+-- a threshold, beside the steps too, and the steps of another command
+raw_wrong_options : map (λ line. done_job_of (words_in line)) (codes "raw c A in --alloc 5" ∷ codes "raw c A in --invoke=5" ∷ codes "raw c A in --jump 5" ∷ codes "raw c A in --throw=5" ∷ codes "raw c A in --steps 5 --alloc 5" ∷ codes "raw c A in --step 5" ∷ codes "verify c A in --steps 5" ∷ codes "check c --steps 5" ∷ codes "assemble t --steps=5" ∷ [])
+    ≡ None ∷ None ∷ None ∷ None ∷ None ∷ None ∷ None ∷ None ∷ None ∷ []
+unfolding done_job_of
+raw_wrong_options = refl
+
+-- no INPUT, no ENTRY, a word too many, and an INPUT after -- that looks like an option
+raw_wrong_words : map (λ line. done_job_of (words_in line)) (codes "raw c A" ∷ codes "raw c" ∷ codes "raw" ∷ codes "raw c A in x" ∷ codes "raw c A --steps 5" ∷ codes "raw c A in -- --steps 5" ∷ codes "Raw c A in" ∷ [])
+    ≡ None ∷ None ∷ None ∷ None ∷ None ∷ None ∷ None ∷ []
+unfolding done_job_of
+raw_wrong_words = refl

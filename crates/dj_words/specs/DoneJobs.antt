@@ -1,5 +1,5 @@
 -- The jobs of the commands that are done so far. Words that ask for another one are words of no job.
-use Rattle.std.specs.Prelude.{List, Option, Some, None}
+use Rattle.std.specs.Prelude.{ℕ, List, Option, Some, None}
 use Rattle.dj_bytes.specs.Options.{◌>>=◌}
 use Rattle.dj_names.specs.declared.run.Thresholds.{Thresholds}
 use Rattle.dj_words.specs.Words.{Word, Job, job_of}
@@ -11,6 +11,8 @@ pub data FolderJob : Type 0 where
   Check : Word → FolderJob
   -- verify FOLDER ENTRY INPUT
   Verify : Word → Word → Word → Thresholds → FolderJob
+  -- raw FOLDER ENTRY INPUT, and at most so many steps
+  Raw : Word → Word → Word → ℕ → FolderJob
 
 pub data DoneJob : Type 0 where
   OnFolder : FolderJob → DoneJob
@@ -20,6 +22,7 @@ pub data DoneJob : Type 0 where
 abbrev pub done : Job → Option DoneJob
 done (words.Check folder) = Some (OnFolder (Check folder))
 done (words.Verify folder entry input most) = Some (OnFolder (Verify folder entry input most))
+done (words.Raw folder entry input steps) = Some (OnFolder (Raw folder entry input steps))
 done (words.Assemble file) = Some (Assemble file)
 done _ = None
 

@@ -2,7 +2,7 @@
 use Rattle.std.specs.Prelude.{List, Option, map, option_map}
 use Rattle.std.specs.Borrow.{Bor}
 use Rattle.dj_words.specs.Words.{Word}
-use Rattle.dj_words.specs.DoneJobs.{DoneJob, FolderJob, Check, Verify, OnFolder, Assemble}
+use Rattle.dj_words.specs.DoneJobs.{DoneJob, FolderJob, Check, Verify, Raw, OnFolder, Assemble}
 use Rattle.dj_words.specs.WordsApp.{Values}
 use Rattle.dj_words.specs.declared.command.Command.{Command}
 use Rattle.dj_words.specs.declared.command.Command.TheVariants as commands
@@ -14,6 +14,7 @@ use Rattle.dj_words.specs.declared.options.Options.{Options}
 abbrev pub folder_job_view : FolderCommand → FolderJob
 folder_job_view (folder_commands.Check folder) = Check folder.now
 folder_job_view (folder_commands.Verify folder entry input thresholds) = Verify folder.now entry.now input.now thresholds
+folder_job_view (folder_commands.Raw folder entry input steps) = Raw folder.now entry.now input.now steps
 
 abbrev pub job_view : Command → DoneJob
 job_view (commands.OnFolder command) = OnFolder (folder_job_view command)

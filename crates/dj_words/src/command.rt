@@ -4,7 +4,7 @@ ghost use Rattle.std.specs.Prelude.{◌≡◌, [], None, IfOk, map, string_bytes
 ghost use Rattle.clap.specs.Words.{found_of, rows_of};
 ghost use Rattle.dj_words.specs.Words.{without_slash, check_job, assemble_job};
 ghost use Rattle.dj_words.specs.DoneJobs.{done, done_job_of};
-ghost use Rattle.dj_words.specs.WordsApp.{has_no_value, thresholds_in, verify_in, job_of_values, job_in};
+ghost use Rattle.dj_words.specs.WordsApp.{has_no_value, thresholds_in, steps_in, verify_in, raw_in, job_of_values, job_in};
 ghost use Rattle.dj_words.specs.Views.{job_view, texts, values_view};
 
 use crate::line::read_line;
@@ -26,6 +26,14 @@ pub enum FolderCommand<'a> {
         entry: &'a str,
         input: &'a str,
         thresholds: Thresholds,
+    },
+    /// Check the class files of the folder, and run the class of this name on the bytes of the file of this path, for so many steps at most, with
+    /// the library whose host answers.
+    Raw {
+        folder: &'a str,
+        entry: &'a str,
+        input: &'a str,
+        steps: u64,
     },
 }
 
@@ -74,6 +82,20 @@ fn verify_command<'a>(operands: &[&'a str], options: Options<'a>) -> Option<Comm
     }
 }
 
+fn raw_command<'a>(operands: &[&'a str], options: Options<'a>) -> Option<Command<'a>>
+    ensures { option_map job_view result ≡ option_and_then done (raw_in (texts operands.now) (steps_in (values_view options.entry))) }
+{
+    match operands {
+        [folder, entry, input] => Some(Command::OnFolder(FolderCommand::Raw {
+            folder: without_slash(folder),
+            entry,
+            input,
+            steps: options.most_steps()?,
+        })),
+        _ => None,
+    }
+}
+
 fn assemble_command<'a>(operands: &[&'a str], options: Options<'a>) -> Option<Command<'a>>
     ensures { option_map job_view result ≡ option_and_then done (if has_no_value (values_view options.entry) then assemble_job (texts operands.now) [] else None) }
 {
@@ -91,6 +113,8 @@ fn command_named<'a>(name: &str, operands: &[&'a str], options: Options<'a>) -> 
         check_command(operands, options)
     } else if name == "verify" {
         verify_command(operands, options)
+    } else if name == "raw" {
+        raw_command(operands, options)
     } else if name == "assemble" {
         assemble_command(operands, options)
     } else {

@@ -2,7 +2,7 @@
 
 ghost use Rattle.std.specs.Prelude.{◌≡◌};
 ghost use Rattle.clap.specs.Words.{found_of, rows_of};
-ghost use Rattle.dj_words.specs.WordsApp.{values_of, has_no_value, thresholds_in};
+ghost use Rattle.dj_words.specs.WordsApp.{values_of, has_no_threshold, has_no_value, thresholds_in, steps_in};
 ghost use Rattle.dj_words.specs.Views.{values_view};
 
 use crate::number::number_or;
@@ -27,6 +27,10 @@ const ALLOC: u64 = 67_108_864;
 
 const OTHERS: u64 = 1_000_000;
 
+const MOST_STEPS: u64 = 100_000_000;
+
+const STEPS: u64 = 10_000_000;
+
 impl<'a> Options<'a> {
     /// The options among the matches.
     pub fn of(matches: &ArgMatches<'a>) -> Options<'a>
@@ -50,6 +54,24 @@ impl<'a> Options<'a> {
             && self.jump.is_none()
             && self.throw.is_none()
             && self.steps.is_none()
+    }
+
+    // Whether no threshold is given.
+    fn has_no_threshold(self) -> bool
+        ensures { result ≡ has_no_threshold (values_view self.entry) }
+    {
+        self.alloc.is_none() && self.invoke.is_none() && self.jump.is_none() && self.throw.is_none()
+    }
+
+    /// The most steps of a run, where only they are given.
+    pub fn most_steps(self) -> Option<u64>
+        ensures { result ≡ steps_in (values_view self.entry) }
+    {
+        if self.has_no_threshold() {
+            number_or(self.steps, MOST_STEPS, STEPS)
+        } else {
+            None
+        }
     }
 
     /// The thresholds of a run, where only they are given.

@@ -2,7 +2,7 @@
 use Rattle.std.specs.Prelude.{◌≡◌, ℕ, List, [], ◌∷◌, ◌++◌, Some, None, map, codes}
 use Rattle.std.proofs.Common.{refl}
 use Rattle.dj_edge.specs.Held.{Held}
-use Rattle.dj_words.specs.DoneJobs.{Check, Verify, OnFolder, Assemble, done_job_of}
+use Rattle.dj_words.specs.DoneJobs.{Check, Verify, Raw, OnFolder, Assemble, done_job_of}
 use Rattle.djvm_cli.specs.Report.{class_paths, asks}
 use Rattle.djvm_cli.specs.Ends.{report_statuses, AsksInOrder}
 
@@ -33,6 +33,6 @@ asks_nothing held grows =
       none_is_some [] rest none some = absurd cc
       none_is_some (x ∷ front) rest none some = absurd cc
 
-statuses : map report_statuses (None ∷ Some (OnFolder (Check [])) ∷ Some (OnFolder (Verify [] [] [] (record { alloc = 0; invoke = 0; jump = 0; throw = 0 }))) ∷ Some (Assemble []) ∷ [])
-    ≡ (64 ∷ []) ∷ (0 ∷ 2 ∷ 7 ∷ []) ∷ (0 ∷ 1 ∷ 2 ∷ 3 ∷ 7 ∷ 65 ∷ 75 ∷ []) ∷ (0 ∷ 7 ∷ 65 ∷ 68 ∷ []) ∷ []
+statuses : map report_statuses (None ∷ Some (OnFolder (Check [])) ∷ Some (OnFolder (Verify [] [] [] (record { alloc = 0; invoke = 0; jump = 0; throw = 0 }))) ∷ Some (OnFolder (Raw [] [] [] 0)) ∷ Some (Assemble []) ∷ [])
+    ≡ (64 ∷ []) ∷ (0 ∷ 2 ∷ 7 ∷ []) ∷ (0 ∷ 1 ∷ 2 ∷ 3 ∷ 7 ∷ 65 ∷ 75 ∷ []) ∷ (0 ∷ 1 ∷ 2 ∷ 4 ∷ 5 ∷ 6 ∷ 7 ∷ 8 ∷ 9 ∷ 65 ∷ []) ∷ (0 ∷ 7 ∷ 65 ∷ 68 ∷ []) ∷ []
 statuses = refl

@@ -2,6 +2,7 @@
 use Rattle.std.proofs.Common.{◌≡◌, ◌≢◌, ℕ, ◌<◌, ◌≤◌, List, [], ◌∷◌, length, Option, Some, None, inl, inr, refl, sym, subst, arith}
 use Rattle.std.specs.Prelude.{codes, unwrap_or}
 use Rattle.std.specs.Io.KnownBytes.{Appends}
+use Rattle.dj_edge.specs.declared.host.HostAnswer.{HostAnswer}
 use Rattle.dj_edge.specs.Held.{File, Held, class_files, bytes_at}
 use Rattle.dj_edge.specs.Counts.{Rose}
 use Rattle.dj_report.specs.declared.report.Report.{Report}
@@ -122,81 +123,81 @@ check_words = codes "check" ∷ codes "c" ∷ []
 verify_words : List (List ℕ)
 verify_words = codes "verify" ∷ codes "c/" ∷ codes "A" ∷ codes "in" ∷ []
 
-order-files : (held : Held) → 4096 < length (class_files (codes "c") held) → IsReport verify_words held (reports.Limited limits.FileCount)
+order-files : (held : Held) (answers : List HostAnswer) → 4096 < length (class_files (codes "c") held) → IsReport verify_words held answers (reports.Limited limits.FileCount)
 unfolding verify_words done_job_of
-order-files held past = inl (refl, past)
+order-files held answers past = inl (refl, past)
 
-order-input : (held : Held) → length (class_files (codes "c") held) ≤ 4096 → bytes_at held (codes "in") ≡ None → IsReport verify_words held (reports.Absent (codes "in"))
+order-input : (held : Held) (answers : List HostAnswer) → length (class_files (codes "c") held) ≤ 4096 → bytes_at held (codes "in") ≡ None → IsReport verify_words held answers (reports.Absent (codes "in"))
 unfolding verify_words done_job_of
-order-input held few absent =
+order-input held answers few absent =
     let P : Option (List ℕ) → Type 0 = λ found. ReadsInput (codes "in") found (Some (reports.Absent (codes "in"))) in
     inr (few, inl (subst P (sym absent) refl))
 
-order-file : (held : Held) → length (class_files (codes "c") held) ≤ 4096 → IsFirstPast IsTooLong (class_files (codes "c") held) → IsReport check_words held (reports.Limited limits.File)
+order-file : (held : Held) (answers : List HostAnswer) → length (class_files (codes "c") held) ≤ 4096 → IsFirstPast IsTooLong (class_files (codes "c") held) → IsReport check_words held answers (reports.Limited limits.File)
 unfolding check_words done_job_of
-order-file held few past = inr (few, inr (tt, inl (inl (refl, past))))
+order-file held answers few past = inr (few, inr (tt, inl (inl (refl, past))))
 
-order-total : (held : Held) → length (class_files (codes "c") held) ≤ 4096 → IsFirstPast IsTooMuch (class_files (codes "c") held) → IsReport check_words held (reports.Limited limits.Total)
+order-total : (held : Held) (answers : List HostAnswer) → length (class_files (codes "c") held) ≤ 4096 → IsFirstPast IsTooMuch (class_files (codes "c") held) → IsReport check_words held answers (reports.Limited limits.Total)
 unfolding check_words done_job_of
-order-total held few past = inr (few, inr (tt, inl (inr (refl, past))))
+order-total held answers few past = inr (few, inr (tt, inl (inr (refl, past))))
 
-order-judged : (held : Held) (violations : List Violation) → length (class_files (codes "c") held) ≤ 4096 → AreWithin (class_files (codes "c") held)
-    → AreCheckViolations (files_within (codes "c") held) violations → violations ≢ [] → IsReport check_words held (reports.Rejected violations)
+order-judged : (held : Held) (answers : List HostAnswer) (violations : List Violation) → length (class_files (codes "c") held) ≤ 4096 → AreWithin (class_files (codes "c") held)
+    → AreCheckViolations (files_within (codes "c") held) violations → violations ≢ [] → IsReport check_words held answers (reports.Rejected violations)
 unfolding check_words done_job_of
-order-judged held violations few within are some = inr (few, inr (tt, inr (within, inl (violations, refl, are, some))))
+order-judged held answers violations few within are some = inr (few, inr (tt, inr (within, inl (violations, refl, are, some))))
 
 assemble_words : List (List ℕ)
 assemble_words = codes "assemble" ∷ codes "t" ∷ []
 
-order-text_absent : (held : Held) → bytes_at held (codes "t") ≡ None → IsReport assemble_words held (reports.Absent (codes "t"))
+order-text_absent : (held : Held) (answers : List HostAnswer) → bytes_at held (codes "t") ≡ None → IsReport assemble_words held answers (reports.Absent (codes "t"))
 unfolding assemble_words done_job_of
-order-text_absent held absent =
+order-text_absent held answers absent =
     let P : Option (List ℕ) → Type 0 = λ found. ReadsText (codes "t") found (Some (reports.Absent (codes "t"))) in
     inl (subst P (sym absent) refl)
 
-order-text_long : (held : Held) (text : List ℕ) → bytes_at held (codes "t") ≡ Some text → length text ≡ 4194305 → IsReport assemble_words held (reports.Limited limits.File)
+order-text_long : (held : Held) (answers : List HostAnswer) (text : List ℕ) → bytes_at held (codes "t") ≡ Some text → length text ≡ 4194305 → IsReport assemble_words held answers (reports.Limited limits.File)
 unfolding assemble_words done_job_of
-order-text_long held text there long =
+order-text_long held answers text there long =
     let P : Option (List ℕ) → Type 0 = λ found. ReadsText (codes "t") found (Some (reports.Limited limits.File)) in
     inl (subst P (sym there) (refl, omega arith))
 
-order-text_means : (held : Held) (text bytes : List ℕ) → bytes_at held (codes "t") ≡ Some text → length text ≡ 4194304 → IsTextOfBytes text bytes → IsReport assemble_words held (reports.Written bytes)
+order-text_means : (held : Held) (answers : List HostAnswer) (text bytes : List ℕ) → bytes_at held (codes "t") ≡ Some text → length text ≡ 4194304 → IsTextOfBytes text bytes → IsReport assemble_words held answers (reports.Written bytes)
 unfolding assemble_words done_job_of
-order-text_means held text bytes there short means =
+order-text_means held answers text bytes there short means =
     let P : Option (List ℕ) → Type 0 = λ found. ReadsText (codes "t") found None in
     let Q : Option (List ℕ) → Type 0 = λ found. Assembles (unwrap_or found []) (Some (reports.Written bytes)) in
     inr (subst P (sym there) (omega arith), inl (subst Q (sym there) (inl (bytes, refl, means))))
 
-order-text_fault : (held : Held) (text : List ℕ) → bytes_at held (codes "t") ≡ Some text → length text ≡ 4194304 → TextFault text (asm_errors.Syntax 1 10) → IsReport assemble_words held (reports.Syntax 1 10)
+order-text_fault : (held : Held) (answers : List HostAnswer) (text : List ℕ) → bytes_at held (codes "t") ≡ Some text → length text ≡ 4194304 → TextFault text (asm_errors.Syntax 1 10) → IsReport assemble_words held answers (reports.Syntax 1 10)
 unfolding assemble_words done_job_of
-order-text_fault held text there short fault =
+order-text_fault held answers text there short fault =
     let P : Option (List ℕ) → Type 0 = λ found. ReadsText (codes "t") found None in
     let Q : Option (List ℕ) → Type 0 = λ found. Assembles (unwrap_or found []) (Some (reports.Syntax 1 10)) in
     inr (subst P (sym there) (omega arith), inl (subst Q (sym there) (inr (asm_errors.Syntax 1 10, refl, fault))))
 
-order-words : (held : Held) → IsReport (codes "check" ∷ []) held reports.Usage
+order-words : (held : Held) (answers : List HostAnswer) → IsReport (codes "check" ∷ []) held answers reports.Usage
 unfolding done_job_of
-order-words held = inl refl
+order-words held answers = inl refl
 
 -- ---- how a call ends
 
 -- where the store tells nothing, 65 is answered only where it failed
-read-untold : (words : List (List ℕ)) (before now : ℕ) (old new : Option (List ℕ)) → ReadEnds words None before now old new → Rose before now
-read-untold words before now old new (inl fault) = fault.rose
-read-untold words before now old new (inr told) = let held = told.0 in absurd cc
+read-untold : (words : List (List ℕ)) (answers : List HostAnswer) (before now : ℕ) (old new : Option (List ℕ)) → ReadEnds words None answers before now old new → Rose before now
+read-untold words answers before now old new (inl fault) = fault.rose
+read-untold words answers before now old new (inr told) = let held = told.0 in absurd cc
 
 -- and then nothing is written
-read-nothing : (words : List (List ℕ)) (before now : ℕ) (new : List ℕ) → ReadEnds words None before now (Some []) (Some new) → new ≡ []
-read-nothing words before now new (inl fault) = fault.written
-read-nothing words before now new (inr told) = let held = told.0 in absurd cc
+read-nothing : (words : List (List ℕ)) (answers : List HostAnswer) (before now : ℕ) (new : List ℕ) → ReadEnds words None answers before now (Some []) (Some new) → new ≡ []
+read-nothing words answers before now new (inl fault) = fault.written
+read-nothing words answers before now new (inr told) = let held = told.0 in absurd cc
 
 front-none : (old new : Option (List ℕ)) (text : List ℕ) → Appends old new [] → WritesFront old new text
 front-none old new text nothing = ([], (text, refl), nothing)
 
 -- where memory ran out, a front of the right report was written
-memory-front : (words : List (List ℕ)) (held : Held) (report : Report) (old new : Option (List ℕ)) → IsReport words held report → OutOfMemory words (Some held) old new → WritesFront old new (report_text report)
-memory-front words held report old new right (inl broken) = same_front words held report old new right broken
-memory-front words held report old new right (inr nothing) = front-none old new (report_text report) nothing
+memory-front : (words : List (List ℕ)) (held : Held) (answers : List HostAnswer) (report : Report) (old new : Option (List ℕ)) → IsReport words held answers report → OutOfMemory words (Some held) answers old new → WritesFront old new (report_text report)
+memory-front words held answers report old new right (inl broken) = same_front words held answers report old new right broken
+memory-front words held answers report old new right (inr nothing) = front-none old new (report_text report) nothing
 
 -- only a store that tells what it holds has a report with the status 65
 absent-untold : IsReportStatus (Some (OnFolder (Verify [] [] [] (record { alloc = 0; invoke = 0; jump = 0; throw = 0 })))) None 65 → ⊥

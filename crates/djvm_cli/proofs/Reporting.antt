@@ -1,7 +1,8 @@
 -- From the steps of a job to its report.
-use Rattle.std.proofs.Common.{◌≡◌, ℕ, ◌≤◌, List, [], ◌∷◌, ◌++◌, length, map, All, IsTrue, Option, Some, None, IsSome, IfSome, string_bytes, vec_len, unwrap_or, refl, sym, ap, ◌∙◌, subst, inl, inr, arith}
+use Rattle.std.proofs.Common.{◌≡◌, ℕ, ◌<◌, ◌≤◌, List, [], ◌∷◌, ◌++◌, length, map, All, IsTrue, Option, Some, None, IsSome, IfSome, string_bytes, vec_len, unwrap_or, refl, sym, ap, ◌∙◌, subst, inl, inr, arith}
 use Rattle.std.specs.Prelude.{is_some}
 use Rattle.std.specs.Global.{Vec}
+use Rattle.dj_edge.specs.declared.host.HostAnswer.{HostAnswer}
 use Rattle.dj_edge.specs.InMemory.{String}
 use Rattle.std.proofs.lemmas.List.{length-map}
 use Rattle.std.proofs.lemmas.Simd.{map-map}
@@ -31,6 +32,9 @@ use Rattle.djvm_cli.specs.Jobs.{folder_of}
 use Rattle.djvm_cli.specs.Report.{input_asks, CountsFiles, FindsInput, ReadsFiles, judging, folder_stages, input_of, within_folder, files_within}
 use Rattle.djvm_cli.specs.Steps.{files_at, IsListed, AreClassPaths, AreRising, AreRead, IsLoaded}
 use Rattle.djvm_cli.specs.Views.{source_view}
+use Rattle.djvm_cli.specs.Engine.{Reaches}
+use Rattle.djvm_cli.proofs.Same.{job_input_one, files_one}
+use Rattle.djvm_cli.proofs.Leaving.{IsReached}
 
 abbrev path_of : File → List ℕ
 path_of file = file.0
@@ -143,6 +147,12 @@ asks_files job folder held list old mid next new same theirs is then_is grows =
 
 -- ---- stage by stage, where the store tells what it holds
 
+passed_stage : (limit : Limit) (files : List File) → IsLoaded files (loads.Passed limit) → ReadsFiles files (Some (reports.Limited limit))
+passed_stage limits.FileCount files past = absurd past
+passed_stage limits.File files past = inl (refl, past)
+passed_stage limits.Total files past = inr (refl, past)
+passed_stage limits.Input files past = absurd past
+
 module _ (job : FolderJob) (held : Option Held) where
   abbrev pub Counted : Type 0
   Counted = IfSome held (λ h. CountsFiles (class_files (folder_of job) h) None)
@@ -150,14 +160,25 @@ module _ (job : FolderJob) (held : Option Held) where
   abbrev pub Found : Type 0
   Found = IfSome held (λ h. FindsInput job h None)
 
-  abbrev pub Decides : Report → Type 0
-  Decides report = IfSome held (λ h. IsDecided (folder_stages job h) report)
+  abbrev pub Decides : List HostAnswer → Report → Type 0
+  Decides answers report = IfSome held (λ h. IsDecided (folder_stages job h answers) report)
 
-  pub too_many : (folder : List ℕ) (listing : Listing) → folder ≡ folder_of job → listing ≡ listings.TooMany → IfSome held (λ h. IsListed folder h listing)
-      → Decides (reports.Limited limits.FileCount)
-  too_many folder listing same is told =
-      told_so held (λ h. IsListed folder h listing) (λ h. IsDecided (folder_stages job h) (reports.Limited limits.FileCount))
+  pub too_many : (answers : List HostAnswer) (folder : List ℕ) (listing : Listing) → folder ≡ folder_of job → listing ≡ listings.TooMany → IfSome held (λ h. IsListed folder h listing)
+      → Decides answers (reports.Limited limits.FileCount)
+  too_many answers folder listing same is told =
+      told_so held (λ h. IsListed folder h listing) (λ h. IsDecided (folder_stages job h answers) (reports.Limited limits.FileCount))
       (λ h listed. inl (refl, subst (λ f. IsListed f h listings.TooMany) same (subst (IsListed folder h) is listed))) told
+
+  abbrev pub Unreached : Type 0
+  Unreached = IfSome held (λ h. Reaches job h → ⊥)
+
+  pub too_many_unreached : (folder : List ℕ) (listing : Listing) → folder ≡ folder_of job → listing ≡ listings.TooMany → IfSome held (λ h. IsListed folder h listing) → Unreached
+  too_many_unreached folder listing same is told =
+      told_so held (λ h. IsListed folder h listing) (λ h. Reaches job h → ⊥)
+      (λ h listed there.
+      let many : most_files < length (class_files (folder_of job) h) = subst (λ f. IsListed f h listings.TooMany) same (subst (IsListed folder h) is listed) in
+      let few : length (class_files (folder_of job) h) ≤ most_files = there.count in
+      absurd (omega (arith, many, few))) told
 
   pub counted : (folder : List ℕ) (list : List String) → folder ≡ folder_of job → length list ≤ 4096 → IfSome held (AreTheirs folder list) → Counted
   counted folder list same few theirs =
@@ -168,15 +189,28 @@ module _ (job : FolderJob) (held : Option Held) where
     input_told : (other : Input) → input ≡ other → IfSome held (λ h. IsJobInput job h other)
     input_told other is = subst (λ i. IfSome held (λ h. IsJobInput job h i)) is (subst (λ o. IfSome o (λ h. IsJobInput job h input)) same_held read)
 
-    pub absent : (path : List ℕ) → Counted → input ≡ inputs.Absent path → Decides (reports.Absent path)
-    absent path few is =
-        both_told held (λ h. CountsFiles (class_files (folder_of job) h) None) (λ h. IsJobInput job h (inputs.Absent path)) (λ h. IsDecided (folder_stages job h) (reports.Absent path))
+    pub absent : (answers : List HostAnswer) (path : List ℕ) → Counted → input ≡ inputs.Absent path → Decides answers (reports.Absent path)
+    absent answers path few is =
+        both_told held (λ h. CountsFiles (class_files (folder_of job) h) None) (λ h. IsJobInput job h (inputs.Absent path)) (λ h. IsDecided (folder_stages job h answers) (reports.Absent path))
         (λ h on here. inr (on, inl here)) few (input_told (inputs.Absent path) is)
 
-    pub too_long : Counted → input ≡ inputs.TooLong → Decides (reports.Limited limits.Input)
-    too_long few is =
-        both_told held (λ h. CountsFiles (class_files (folder_of job) h) None) (λ h. IsJobInput job h inputs.TooLong) (λ h. IsDecided (folder_stages job h) (reports.Limited limits.Input))
+    pub too_long : (answers : List HostAnswer) → Counted → input ≡ inputs.TooLong → Decides answers (reports.Limited limits.Input)
+    too_long answers few is =
+        both_told held (λ h. CountsFiles (class_files (folder_of job) h) None) (λ h. IsJobInput job h inputs.TooLong) (λ h. IsDecided (folder_stages job h answers) (reports.Limited limits.Input))
         (λ h on here. inr (on, inl here)) few (input_told inputs.TooLong is)
+
+    input_unreached : (h : Held) (report : Report) → FindsInput job h (Some report) → Reaches job h → ⊥
+    input_unreached h report decided there =
+        let same : Some report ≡ None = job_input_one job h (Some report) None decided there.input in
+        absurd cc
+
+    pub absent_unreached : (path : List ℕ) → input ≡ inputs.Absent path → Unreached
+    absent_unreached path is =
+        told_so held (λ h. IsJobInput job h (inputs.Absent path)) (λ h. Reaches job h → ⊥) (λ h here. input_unreached h (reports.Absent path) here) (input_told (inputs.Absent path) is)
+
+    pub too_long_unreached : input ≡ inputs.TooLong → Unreached
+    too_long_unreached is =
+        told_so held (λ h. IsJobInput job h inputs.TooLong) (λ h. Reaches job h → ⊥) (λ h here. input_unreached h (reports.Limited limits.Input) here) (input_told inputs.TooLong is)
 
     pub found : (bytes : Vec ℕ) → input ≡ inputs.Bytes bytes → IfSome held (λ h. FindsInput job h None × (bytes.items ≡ input_of job h))
     found bytes is = input_told (inputs.Bytes bytes) is
@@ -191,37 +225,56 @@ module _ (job : FolderJob) (held : Option Held) where
         (subst (λ files. IsLoaded files other) (files_same folder h (map string_bytes list) are) (subst (IsLoaded (files_at h (map string_bytes list))) is here)))
         theirs (subst (λ o. IfSome o (λ h. IsLoaded (files_at h (map string_bytes list)) loaded)) same_held read)
 
-    pub passed : (limit : Limit) → Counted → Found → loaded ≡ loads.Passed limit → Decides (reports.Limited limit)
-    passed limit few there is =
+    pub passed : (answers : List HostAnswer) (limit : Limit) → Counted → Found → loaded ≡ loads.Passed limit → Decides answers (reports.Limited limit)
+    passed answers limit few there is =
         both_told held (λ h. CountsFiles (class_files (folder_of job) h) None × FindsInput job h None) (λ h. IsLoaded (class_files (folder_of job) h) (loads.Passed limit))
-        (λ h. IsDecided (folder_stages job h) (reports.Limited limit))
+        (λ h. IsDecided (folder_stages job h answers) (reports.Limited limit))
         (λ h on past. inr (on.0, inr (on.1, inl (passed_stage limit (class_files (folder_of job) h) past))))
         (both_told held (λ h. CountsFiles (class_files (folder_of job) h) None) (λ h. FindsInput job h None)
         (λ h. CountsFiles (class_files (folder_of job) h) None × FindsInput job h None) (λ h a b. (a, b)) few there)
-        (files_told (loads.Passed limit) is) where
-          passed_stage : (limit : Limit) (files : List File) → IsLoaded files (loads.Passed limit) → ReadsFiles files (Some (reports.Limited limit))
-          passed_stage limits.FileCount files past = absurd past
-          passed_stage limits.File files past = inl (refl, past)
-          passed_stage limits.Total files past = inr (refl, past)
-          passed_stage limits.Input files past = absurd past
+        (files_told (loads.Passed limit) is)
 
-    pub judged : (sources : Vec SourceFile) (set : List File) (bytes : Vec ℕ) (report : Report) → Counted → IfSome held (λ h. FindsInput job h None × (bytes.items ≡ input_of job h))
+    pub passed_unreached : (limit : Limit) → loaded ≡ loads.Passed limit → Unreached
+    passed_unreached limit is =
+        told_so held (λ h. IsLoaded (class_files (folder_of job) h) (loads.Passed limit)) (λ h. Reaches job h → ⊥)
+        (λ h past there.
+        let files : List File = class_files (folder_of job) h in
+        let same : Some (reports.Limited limit) ≡ None = files_one files (Some (reports.Limited limit)) None (passed_stage limit files past) there.files in
+        absurd cc) (files_told (loads.Passed limit) is)
+
+    pub judged : (answers : List HostAnswer) (sources : Vec SourceFile) (set : List File) (bytes : Vec ℕ) (report : Report) → Counted → IfSome held (λ h. FindsInput job h None × (bytes.items ≡ input_of job h))
         → loaded ≡ loads.Files sources → AreRead (map string_bytes list) loaded → set ≡ map (within_folder folder) (map source_view sources.items)
-        → IsDecided (judging job set bytes.items) report → Decides report
-    judged sources set bytes report few there is all cut decided =
+        → IsDecided (judging job set bytes.items answers) report → Decides answers report
+    judged answers sources set bytes report few there is all cut decided =
         both_told held (λ h. CountsFiles (class_files (folder_of job) h) None × (FindsInput job h None × (bytes.items ≡ input_of job h)))
-        (λ h. IsLoaded (class_files (folder_of job) h) (loads.Files sources)) (λ h. IsDecided (folder_stages job h) report)
+        (λ h. IsLoaded (class_files (folder_of job) h) (loads.Files sources)) (λ h. IsDecided (folder_stages job h answers) report)
         (λ h on view. inr (
           on.0,
           inr (
             on.1.0,
             inr (
               subst AreWithin view (subst (AreRead (map string_bytes list)) is all).1,
-              subst (λ input. IsDecided (judging job (files_within (folder_of job) h) input) report) on.1.1
-                  (subst (λ files. IsDecided (judging job files bytes.items) report)
+              subst (λ input. IsDecided (judging job (files_within (folder_of job) h) input answers) report) on.1.1
+                  (subst (λ files. IsDecided (judging job files bytes.items answers) report)
                   (cut ∙ ap (λ f. map (within_folder f) (map source_view sources.items)) same ∙ ap (map (within_folder (folder_of job))) view) decided),
             ),
           ),
+        ))
+        (both_told held (λ h. CountsFiles (class_files (folder_of job) h) None) (λ h. FindsInput job h None × (bytes.items ≡ input_of job h))
+        (λ h. CountsFiles (class_files (folder_of job) h) None × (FindsInput job h None × (bytes.items ≡ input_of job h))) (λ h a b. (a, b)) few there)
+        (files_told (loads.Files sources) is)
+
+    -- what is judged are the held files and input
+    pub read_whole : (sources : Vec SourceFile) (set : List File) (bytes : Vec ℕ) → Counted → IfSome held (λ h. FindsInput job h None × (bytes.items ≡ input_of job h))
+        → loaded ≡ loads.Files sources → AreRead (map string_bytes list) loaded → set ≡ map (within_folder folder) (map source_view sources.items)
+        → IfSome held (IsReached job set bytes.items)
+    read_whole sources set bytes few there is all cut =
+        both_told held (λ h. CountsFiles (class_files (folder_of job) h) None × (FindsInput job h None × (bytes.items ≡ input_of job h)))
+        (λ h. IsLoaded (class_files (folder_of job) h) (loads.Files sources)) (IsReached job set bytes.items)
+        (λ h on view. (
+          record { count = on.0; input = on.1.0; files = subst AreWithin view (subst (AreRead (map string_bytes list)) is all).1 },
+          cut ∙ ap (λ f. map (within_folder f) (map source_view sources.items)) same ∙ ap (map (within_folder (folder_of job))) view,
+          on.1.1,
         ))
         (both_told held (λ h. CountsFiles (class_files (folder_of job) h) None) (λ h. FindsInput job h None × (bytes.items ≡ input_of job h))
         (λ h. CountsFiles (class_files (folder_of job) h) None × (FindsInput job h None × (bytes.items ≡ input_of job h))) (λ h a b. (a, b)) few there)

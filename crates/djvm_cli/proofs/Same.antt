@@ -6,9 +6,10 @@ use Rattle.std.proofs.lemmas.List.Sums.{sum_by-append, sum_by-cons}
 use Rattle.dj_asm.proofs.OneFault.{one_fault, no_file_where_fault}
 use Rattle.dj_asm.proofs.OneFile.{one_file}
 use Rattle.dj_edge.specs.Held.{File, Held, bytes_at, class_files}
+use Rattle.dj_edge.specs.declared.host.HostAnswer.{HostAnswer}
 use Rattle.dj_edge.specs.Counts.{IsFront}
 use Rattle.dj_edge.proofs.Lists.{cut_cases, at_cut}
-use Rattle.dj_report.specs.Stages.{DecidesOne, DecideOne}
+use Rattle.dj_report.specs.Stages.{IsDecided, DecidesOne, DecideOne}
 use Rattle.dj_report.proofs.Stages.{one_decided}
 use Rattle.dj_report.specs.declared.report.Report.{Report}
 use Rattle.dj_report.specs.declared.report.Report.TheVariants as reports
@@ -18,12 +19,13 @@ use Rattle.dj_report.specs.Text.{report_text, report_status}
 use Rattle.dj_sandbox.specs.Limits.{most_file_bytes, most_input_bytes, most_total_bytes, total_bytes, AreWithin, IsFirstPast, IsTooLong, IsTooMuch}
 use Rattle.dj_sandbox.specs.Entry.{entry_name}
 use Rattle.dj_sandbox.proofs.OneJudgement.{check_one, run_one}
+use Rattle.dj_sandbox.proofs.RawJudgement.{raw_one}
 use Rattle.dj_source.specs.declared.error.AsmError.{AsmError}
 use Rattle.dj_source.specs.declared.error.AsmError.TheVariants as asm_errors
-use Rattle.dj_words.specs.DoneJobs.{DoneJob, FolderJob, Check, Verify, OnFolder, Assemble, done_job_of}
-use Rattle.djvm_cli.specs.Jobs.{folder_of}
+use Rattle.dj_words.specs.DoneJobs.{DoneJob, FolderJob, Check, Verify, Raw, OnFolder, Assemble, done_job_of}
+use Rattle.djvm_cli.specs.Jobs.{folder_of, IsRawJob}
 use Rattle.djvm_cli.specs.Report.{RefusesWords, CountsFiles, ReadsWhole, FindsInput, ReadsFiles, TellsFault, Assembles, judging, folder_stages, text_stages, stages, files_within, input_of}
-use Rattle.djvm_cli.specs.OneReport.{HasOneReport, HasOneEnd, HasOneFront}
+use Rattle.djvm_cli.specs.OneReport.{HasOneReport, HasOneEnd, HasOneFront, HasOneAnswer}
 
 -- ---- the limits
 
@@ -75,13 +77,14 @@ whole_one most limit path (Some bytes) (Some r) None a b = absurd (omega (arith,
 whole_one most limit path (Some bytes) None (Some s) a b = absurd (omega (arith, a, b.1))
 whole_one most limit path (Some bytes) None None a b = refl
 
-job_input_one : (job : FolderJob) (held : Held) → DecidesOne (FindsInput job held)
+pub job_input_one : (job : FolderJob) (held : Held) → DecidesOne (FindsInput job held)
 job_input_one (Check folder) held (Some r) s a b = absurd a
 job_input_one (Check folder) held None (Some s) a b = absurd b
 job_input_one (Check folder) held None None a b = refl
 job_input_one (Verify folder entry path most) held r s a b = whole_one most_input_bytes limits.Input path (bytes_at held path) r s a b
+job_input_one (Raw folder entry path steps) held r s a b = whole_one most_input_bytes limits.Input path (bytes_at held path) r s a b
 
-files_one : (files : List File) → DecidesOne (ReadsFiles files)
+pub files_one : (files : List File) → DecidesOne (ReadsFiles files)
 files_one files (Some r) (Some s) (inl a) (inl b) = ap Some (a.0 ∙ sym b.0)
 files_one files (Some r) (Some s) (inl a) (inr b) = absurd (not_both files a.1 b.1)
 files_one files (Some r) (Some s) (inr a) (inl b) = absurd (not_both files b.1 a.1)
@@ -92,14 +95,15 @@ files_one files None (Some s) within (inl b) = absurd (not_long files within b.1
 files_one files None (Some s) within (inr b) = absurd (not_much files within b.1)
 files_one files None None a b = refl
 
-judging_one : (job : FolderJob) (files : List File) (input : List ℕ) → DecideOne (judging job files input)
-judging_one (Check folder) files input = check_one files
-judging_one (Verify folder entry path most) files input = run_one files (entry_name entry) input most
+judging_one : (job : FolderJob) (files : List File) (input : List ℕ) (answers : List HostAnswer) → DecideOne (judging job files input answers)
+judging_one (Check folder) files input answers = check_one files
+judging_one (Verify folder entry path most) files input answers = run_one files (entry_name entry) input most
+judging_one (Raw folder entry path steps) files input answers = raw_one files (entry_name entry) input steps answers
 
-folder_stages_one : (job : FolderJob) (held : Held) → DecideOne (folder_stages job held)
-folder_stages_one job held =
+folder_stages_one : (job : FolderJob) (held : Held) (answers : List HostAnswer) → DecideOne (folder_stages job held answers)
+folder_stages_one job held answers =
     let files = class_files (folder_of job) held in
-    (count_one files, (job_input_one job held, (files_one files, judging_one job (files_within (folder_of job) held) (input_of job held))))
+    (count_one files, (job_input_one job held, (files_one files, judging_one job (files_within (folder_of job) held) (input_of job held) answers)))
 
 -- ---- a text that is assembled
 
@@ -125,17 +129,17 @@ text_stages_one path held = (whole_one most_file_bytes limits.File path (bytes_a
 
 -- ---- a job
 
-stages_one : (job : Option DoneJob) (held : Held) → DecideOne (stages job held)
-stages_one None held = (words_one, tt)
-stages_one (Some (OnFolder job)) held = folder_stages_one job held
-stages_one (Some (Assemble path)) held = text_stages_one path held
+stages_one : (job : Option DoneJob) (held : Held) (answers : List HostAnswer) → DecideOne (stages job held answers)
+stages_one None held answers = (words_one, tt)
+stages_one (Some (OnFolder job)) held answers = folder_stages_one job held answers
+stages_one (Some (Assemble path)) held answers = text_stages_one path held
 
 pub same_report : HasOneReport
-same_report words held r s a b = one_decided (stages (done_job_of words) held) (stages_one (done_job_of words) held) r s a b
+same_report words held answers r s a b = one_decided (stages (done_job_of words) held answers) (stages_one (done_job_of words) held answers) r s a b
 
 pub same_end : HasOneEnd
-same_end words held a b old_a new_a old_b new_b first second =
-    let same : first.report ≡ second.report = same_report words held first.report second.report first.right second.right in
+same_end words held answers a b old_a new_a old_b new_b first second =
+    let same : first.report ≡ second.report = same_report words held answers first.report second.report first.right second.right in
     record {
       status = first.status_is ∙ ap report_status same ∙ sym second.status_is;
       text = report_text first.report;
@@ -144,6 +148,22 @@ same_end words held a b old_a new_a old_b new_b first second =
     }
 
 pub same_front : HasOneFront
-same_front words held report old new right broken =
-    let same : broken.report ≡ report = same_report words held broken.report report broken.right right in
+same_front words held answers report old new right broken =
+    let same : broken.report ≡ report = same_report words held answers broken.report report broken.right right in
     (broken.front, subst (λ (r : Report). IsFront broken.front (report_text r)) same broken.is_front, broken.written)
+
+-- ---- of jobs that aren't raw runs
+
+any_folder : (job : FolderJob) (held : Held) (first second : List HostAnswer) (r : Report) → (IsRawJob (Some (OnFolder job)) → ⊥) → IsDecided (folder_stages job held first) r
+    → IsDecided (folder_stages job held second) r
+any_folder (Check folder) held first second r other is = is
+any_folder (Verify folder entry path most) held first second r other is = is
+any_folder (Raw folder entry path steps) held first second r other is = absurd (other tt)
+
+any_answers : (job : Option DoneJob) (held : Held) (first second : List HostAnswer) (r : Report) → (IsRawJob job → ⊥) → IsDecided (stages job held first) r → IsDecided (stages job held second) r
+any_answers None held first second r other is = is
+any_answers (Some (OnFolder job)) held first second r other is = any_folder job held first second r other is
+any_answers (Some (Assemble path)) held first second r other is = is
+
+pub any_answer : HasOneAnswer
+any_answer words held first second r other is = any_answers (done_job_of words) held first second r other is

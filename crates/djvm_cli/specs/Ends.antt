@@ -2,11 +2,12 @@
 use Rattle.std.specs.Prelude.{◌≡◌, ℕ, List, [], ◌∷◌, Option, Some, IfSome, IsSome, ◌⊎◌, ◌↔◌, None}
 use Rattle.std.specs.Io.KnownBytes.{Appends}
 use Rattle.dj_edge.specs.Held.{Held}
+use Rattle.dj_edge.specs.declared.host.HostAnswer.{HostAnswer}
 use Rattle.dj_edge.specs.Counts.{Rose, IsFront, GrowsByFront}
 use Rattle.dj_report.specs.declared.report.Report.{Report}
 use Rattle.dj_report.specs.Text.{report_text, report_status}
 use Rattle.dj_sandbox.specs.Statuses.{IsAmong}
-use Rattle.dj_words.specs.DoneJobs.{DoneJob, Check, Verify, OnFolder, Assemble, done_job_of}
+use Rattle.dj_words.specs.DoneJobs.{DoneJob, Check, Verify, Raw, OnFolder, Assemble, done_job_of}
 use Rattle.djvm_cli.specs.Report.{IsReport, asks}
 
 -- the store failed or lacks a file, the sink failed, there was no memory
@@ -19,22 +20,22 @@ write_fault = 66
 abbrev pub no_memory : ℕ
 no_memory = 67
 
--- where the store tells what it holds, the report is that of the words and of what is held
-abbrev pub IsRight : List (List ℕ) → Option Held → Report → Type 0
-IsRight words held report = IfSome held (λ h. IsReport words h report)
+-- where the store tells what it holds, the report is that of the words, of what is held and of the host's answers
+abbrev pub IsRight : List (List ℕ) → Option Held → List HostAnswer → Report → Type 0
+IsRight words held answers report = IfSome held (λ h. IsReport words h answers report)
 
 -- the right report was written, and the status is its
-pub record Finished (words : List (List ℕ)) (held : Option Held) (status : ℕ) (old new : Option (List ℕ)) : Type 0 where
+pub record Finished (words : List (List ℕ)) (held : Option Held) (answers : List HostAnswer) (status : ℕ) (old new : Option (List ℕ)) : Type 0 where
   pub report : Report
-  pub right : IsRight words held report
+  pub right : IsRight words held answers report
   pub written : Appends old new (report_text report)
   pub status_is : status ≡ report_status report
 
 -- a front of the right report was written
-pub record Broken (words : List (List ℕ)) (held : Option Held) (old new : Option (List ℕ)) : Type 0 where
+pub record Broken (words : List (List ℕ)) (held : Option Held) (answers : List HostAnswer) (old new : Option (List ℕ)) : Type 0 where
   pub report : Report
   pub front : List ℕ
-  pub right : IsRight words held report
+  pub right : IsRight words held answers report
   pub is_front : IsFront front (report_text report)
   pub written : Appends old new front
 
@@ -48,24 +49,25 @@ pub record ReadFault (faults_before faults_now : ℕ) (old new : Option (List �
   pub written : Appends old new []
 
 -- the store failed, or it tells what it holds and lacks the input or the text, which is reported
-abbrev pub ReadEnds : List (List ℕ) → Option Held → ℕ → ℕ → Option (List ℕ) → Option (List ℕ) → Type 0
-ReadEnds words held faults_before faults_now old new =
-    ReadFault faults_before faults_now old new ⊎ (IsSome held × Finished words held read_fault old new)
+abbrev pub ReadEnds : List (List ℕ) → Option Held → List HostAnswer → ℕ → ℕ → Option (List ℕ) → Option (List ℕ) → Type 0
+ReadEnds words held answers faults_before faults_now old new =
+    ReadFault faults_before faults_now old new ⊎ (IsSome held × Finished words held answers read_fault old new)
 
 -- the sink failed in this call, after a front of the right report
-pub record WriteFault (words : List (List ℕ)) (held : Option Held) (faults_before faults_now : ℕ) (old new : Option (List ℕ)) : Type 0 where
+pub record WriteFault (words : List (List ℕ)) (held : Option Held) (answers : List HostAnswer) (faults_before faults_now : ℕ) (old new : Option (List ℕ)) : Type 0 where
   pub rose : Rose faults_before faults_now
-  pub broken : Broken words held old new
+  pub broken : Broken words held answers old new
 
 -- there was no memory, after a front of the right report or before there was one
-abbrev pub OutOfMemory : List (List ℕ) → Option Held → Option (List ℕ) → Option (List ℕ) → Type 0
-OutOfMemory words held old new = Broken words held old new ⊎ Appends old new []
+abbrev pub OutOfMemory : List (List ℕ) → Option Held → List HostAnswer → Option (List ℕ) → Option (List ℕ) → Type 0
+OutOfMemory words held answers old new = Broken words held answers old new ⊎ Appends old new []
 
 -- the statuses of the reports of a job: ABSENT has 65
 abbrev pub report_statuses : Option DoneJob → List ℕ
 report_statuses None = 64 ∷ []
 report_statuses (Some (OnFolder (Check folder))) = 0 ∷ 2 ∷ 7 ∷ []
 report_statuses (Some (OnFolder (Verify folder entry input most))) = 0 ∷ 1 ∷ 2 ∷ 3 ∷ 7 ∷ 65 ∷ 75 ∷ []
+report_statuses (Some (OnFolder (Raw folder entry input steps))) = 0 ∷ 1 ∷ 2 ∷ 4 ∷ 5 ∷ 6 ∷ 7 ∷ 8 ∷ 9 ∷ 65 ∷ []
 report_statuses (Some (Assemble path)) = 0 ∷ 7 ∷ 65 ∷ 68 ∷ []
 
 -- every status that a call with these words ends with: those of its reports, and those of faults and of want of memory

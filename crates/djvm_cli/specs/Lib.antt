@@ -1,6 +1,7 @@
 pub mod Jobs
 pub mod Report
 pub mod Ends
+pub mod Engine
 pub mod OneReport
 pub mod Views
 pub mod Steps

@@ -2,18 +2,23 @@
 use Rattle.std.specs.Prelude.{◌≡◌, ℕ, List, Option, Some}
 use Rattle.std.specs.Io.KnownBytes.{Appends}
 use Rattle.dj_edge.specs.Held.{Held}
+use Rattle.dj_edge.specs.declared.host.HostAnswer.{HostAnswer}
+use Rattle.dj_names.specs.declared.run.Costs.{Costs}
 use Rattle.dj_report.specs.declared.report.Report.{Report}
 use Rattle.dj_report.specs.Text.{report_text}
+use Rattle.dj_words.specs.DoneJobs.{done_job_of}
+use Rattle.djvm_cli.specs.Jobs.{IsRawJob}
 use Rattle.djvm_cli.specs.Report.{IsReport}
 use Rattle.djvm_cli.specs.Ends.{Finished, Broken, WritesFront}
+use Rattle.djvm_cli.specs.Engine.{AreRuns}
 
--- two right reports are one
+-- two right reports under the same answers are one
 abbrev pub HasOneReport : Type 0
-HasOneReport = (words : List (List ℕ)) (held : Held) (r s : Report) → IsReport words held r → IsReport words held s → r ≡ s
+HasOneReport = (words : List (List ℕ)) (held : Held) (answers : List HostAnswer) (r s : Report) → IsReport words held answers r → IsReport words held answers s → r ≡ s
 
--- no words and files are without a report
+-- no words and files are without a report, under some answers
 abbrev pub HasSomeReport : Type 0
-HasSomeReport = (words : List (List ℕ)) (held : Held) → ((r : Report) → IsReport words held r → ⊥) → ⊥
+HasSomeReport = (words : List (List ℕ)) (held : Held) → ((answers : List HostAnswer) (r : Report) → IsReport words held answers r → ⊥) → ⊥
 
 -- what two finished calls wrote and answered is the same
 pub record IsSameEnd (a b : ℕ) (old_a new_a old_b new_b : Option (List ℕ)) : Type 0 where
@@ -22,12 +27,21 @@ pub record IsSameEnd (a b : ℕ) (old_a new_a old_b new_b : Option (List ℕ)) :
   pub first : Appends old_a new_a text
   pub second : Appends old_b new_b text
 
--- two calls with the same words, on stores that hold the same, end as one where both finish
+-- two calls with the same words, on stores that hold the same, end as one where both finish and their hosts gave the same
 abbrev pub HasOneEnd : Type 0
-HasOneEnd = (words : List (List ℕ)) (held : Held) (a b : ℕ) (old_a new_a old_b new_b : Option (List ℕ))
-    → Finished words (Some held) a old_a new_a → Finished words (Some held) b old_b new_b → IsSameEnd a b old_a new_a old_b new_b
+HasOneEnd = (words : List (List ℕ)) (held : Held) (answers : List HostAnswer) (a b : ℕ) (old_a new_a old_b new_b : Option (List ℕ))
+    → Finished words (Some held) answers a old_a new_a → Finished words (Some held) answers b old_b new_b → IsSameEnd a b old_a new_a old_b new_b
 
 -- what a call wrote that the sink or want of memory broke off is a front of the right report's text
 abbrev pub HasOneFront : Type 0
-HasOneFront = (words : List (List ℕ)) (held : Held) (report : Report) (old new : Option (List ℕ))
-    → IsReport words held report → Broken words (Some held) old new → WritesFront old new (report_text report)
+HasOneFront = (words : List (List ℕ)) (held : Held) (answers : List HostAnswer) (report : Report) (old new : Option (List ℕ))
+    → IsReport words held answers report → Broken words (Some held) answers old new → WritesFront old new (report_text report)
+
+-- the answers matter to raw runs alone: of any other job the report is one, whatever the host answers
+abbrev pub HasOneAnswer : Type 0
+HasOneAnswer = (words : List (List ℕ)) (held : Held) (first second : List HostAnswer) (r : Report) → (IsRawJob (done_job_of words) → ⊥) → IsReport words held first r → IsReport words held second r
+
+-- the runs of which the report tells are the same under the same answers
+abbrev pub HasSameRuns : Type 0
+HasSameRuns = (words : List (List ℕ)) (held : Held) (answers : List HostAnswer) (first second : List (Costs × ℕ))
+    → AreRuns (done_job_of words) held answers first → AreRuns (done_job_of words) held answers second → first ≡ second

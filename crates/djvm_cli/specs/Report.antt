@@ -1,9 +1,10 @@
--- The report of a job, and what the job asks of the store of files. In this order it is decided: the words; then of a job on a folder the number
+-- The report of a job under the answers that the host gives, which matter to raw runs alone, and what the job asks of the store of files. In this order it is decided: the words; then of a job on a folder the number
 -- of files, the input, the limits on the files, and what the files are judged and run to be; of a text that is assembled the limit on its file,
 -- and what it means.
 use Rattle.std.specs.Prelude.{◌≡◌, ℕ, ◌+◌, ◌<◌, ◌≤◌, ◌⊎◌, ⊤, List, [], ◌∷◌, ◌++◌, Option, Some, None, length, drop, map, unwrap_or}
 use Rattle.dj_asm.specs.Texts.{IsTextOfBytes, TextFault}
 use Rattle.dj_edge.specs.Held.{File, Held, class_files, bytes_at}
+use Rattle.dj_edge.specs.declared.host.HostAnswer.{HostAnswer}
 use Rattle.dj_report.specs.Stages.{Stage, IsDecided}
 use Rattle.dj_report.specs.declared.report.Report.{Report}
 use Rattle.dj_report.specs.declared.report.Report.TheVariants as reports
@@ -11,10 +12,10 @@ use Rattle.dj_report.specs.declared.report.Limit.{Limit}
 use Rattle.dj_report.specs.declared.report.Limit.TheVariants as limits
 use Rattle.dj_sandbox.specs.Limits.{most_files, most_file_bytes, most_input_bytes, AreWithin, IsFirstPast, IsTooLong, IsTooMuch}
 use Rattle.dj_sandbox.specs.Entry.{entry_name}
-use Rattle.dj_sandbox.specs.Judging.{check_stages, run_stages}
+use Rattle.dj_sandbox.specs.Judging.{check_stages, run_stages, raw_stages}
 use Rattle.dj_source.specs.declared.error.AsmError.{AsmError}
 use Rattle.dj_source.specs.declared.error.AsmError.TheVariants as asm_errors
-use Rattle.dj_words.specs.DoneJobs.{DoneJob, FolderJob, Check, Verify, OnFolder, Assemble, done_job_of}
+use Rattle.dj_words.specs.DoneJobs.{DoneJob, FolderJob, Check, Verify, Raw, OnFolder, Assemble, done_job_of}
 use Rattle.djvm_cli.specs.Jobs.{folder_of}
 
 -- the file under its path within the folder
@@ -50,6 +51,7 @@ abbrev pub FindsInput : FolderJob → Held → Stage Report
 FindsInput (Check folder) held (Some report) = ⊥
 FindsInput (Check folder) held None = ⊤
 FindsInput (Verify folder entry path most) held answer = ReadsInput path (bytes_at held path) answer
+FindsInput (Raw folder entry path steps) held answer = ReadsInput path (bytes_at held path) answer
 
 -- the files are within the limits; or else the limit that is passed first is told
 abbrev pub ReadsFiles : List File → Stage Report
@@ -62,17 +64,19 @@ ReadsFiles files None = AreWithin files
 abbrev pub input_of : FolderJob → Held → List ℕ
 input_of (Check folder) held = []
 input_of (Verify folder entry path most) held = unwrap_or (bytes_at held path) []
+input_of (Raw folder entry path steps) held = unwrap_or (bytes_at held path) []
 
--- how files and an input that were read are judged
-abbrev pub judging : FolderJob → List File → List ℕ → List (Stage Report)
-judging (Check folder) files input = check_stages files
-judging (Verify folder entry path most) files input = run_stages files (entry_name entry) input most
+-- how files and an input that were read are judged, and what follows under these answers of the host
+abbrev pub judging : FolderJob → List File → List ℕ → List HostAnswer → List (Stage Report)
+judging (Check folder) files input answers = check_stages files
+judging (Verify folder entry path most) files input answers = run_stages files (entry_name entry) input most
+judging (Raw folder entry path steps) files input answers = raw_stages files (entry_name entry) input steps answers
 
 -- how a job on a folder is worked on, where this is held
-abbrev pub folder_stages : FolderJob → Held → List (Stage Report)
-folder_stages job held =
+abbrev pub folder_stages : FolderJob → Held → List HostAnswer → List (Stage Report)
+folder_stages job held answers =
     CountsFiles (class_files (folder_of job) held) ∷ FindsInput job held ∷ ReadsFiles (class_files (folder_of job) held)
-    ∷ judging job (files_within (folder_of job) held) (input_of job held)
+    ∷ judging job (files_within (folder_of job) held) (input_of job held) answers
 
 -- ---- a text that is assembled
 
@@ -100,14 +104,14 @@ text_stages path held = ReadsText path (bytes_at held path) ∷ Assembles (unwra
 -- ---- a job
 
 -- how a job is worked on, where this is held
-abbrev pub stages : Option DoneJob → Held → List (Stage Report)
-stages None held = RefusesWords ∷ []
-stages (Some (OnFolder job)) held = folder_stages job held
-stages (Some (Assemble path)) held = text_stages path held
+abbrev pub stages : Option DoneJob → Held → List HostAnswer → List (Stage Report)
+stages None held answers = RefusesWords ∷ []
+stages (Some (OnFolder job)) held answers = folder_stages job held answers
+stages (Some (Assemble path)) held answers = text_stages path held
 
--- the report of the job that the words ask for, where this is held
-abbrev pub IsReport : List (List ℕ) → Held → Report → Type 0
-IsReport words held report = IsDecided (stages (done_job_of words) held) report
+-- the report of the job that the words ask for, where this is held and the host answers so
+abbrev pub IsReport : List (List ℕ) → Held → List HostAnswer → Report → Type 0
+IsReport words held answers report = IsDecided (stages (done_job_of words) held answers) report
 
 -- ---- what is asked
 
@@ -118,6 +122,7 @@ class_paths folder held = map (λ file. file.0) (class_files folder held)
 abbrev pub input_asks : FolderJob → List (List ℕ)
 input_asks (Check folder) = []
 input_asks (Verify folder entry path most) = path ∷ []
+input_asks (Raw folder entry path steps) = path ∷ []
 
 abbrev pub folder_asks : FolderJob → Held → List (List ℕ)
 folder_asks job held = folder_of job ∷ (input_asks job ++ class_paths (folder_of job) held)

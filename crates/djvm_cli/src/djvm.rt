@@ -1,12 +1,17 @@
-ghost use Rattle.std.specs.Prelude.{◌≡◌, ◌≢◌, ◌≤◌, Some, length, map, IfOk, IfErr, IfSome, string_bytes};
+ghost use Rattle.std.specs.Prelude.{◌≡◌, ◌≢◌, ◌≤◌, ◌++◌, Some, None, length, map, IfOk, IfErr, IfSome, string_bytes};
 ghost use Rattle.std.specs.Io.KnownBytes.{Appends};
 ghost use Rattle.dj_edge.specs.Counts.{Rose, GrowsByFront};
 ghost use Rattle.dj_report.specs.Stages.{IsDecided};
 ghost use Rattle.dj_report.specs.Text.{report_text, report_status};
+ghost use Rattle.dj_host.specs.Hosted.{given_since};
+ghost use Rattle.dj_sandbox.specs.Entry.{entry_name};
+ghost use Rattle.dj_sandbox.specs.Judging.{raw_stages};
 ghost use Rattle.dj_sandbox.specs.Limits.{most_input_bytes};
+ghost use Rattle.dj_sandbox.specs.Statuses.{IsAmong, raw_statuses};
 ghost use Rattle.djvm_cli.specs.declared.load.Stop.TheVariants.{Memory};
 ghost use Rattle.dj_words.specs.DoneJobs.{OnFolder, done_job_of};
-ghost use Rattle.djvm_cli.specs.Jobs.{folder_of, IsAllowed, IsAllowedJob};
+ghost use Rattle.djvm_cli.specs.Engine.{AddsRuns, AddsFront, TellsNoRun, LeavesRaw, LeavesJudged, LeavesJob};
+ghost use Rattle.djvm_cli.specs.Jobs.{folder_of, IsAllowed, IsAllowedJob, IsRawJob};
 ghost use Rattle.djvm_cli.specs.Report.{judging, folder_stages, folder_asks, stages, job_asks};
 ghost use Rattle.djvm_cli.specs.Ends.{IsStatus, IsReportStatus, IsWritten, read_fault, write_fault, no_memory, IsRight, Finished, ReadEnds, WriteFault, OutOfMemory, AsksInOrder, WritesFront, TellsUsage};
 ghost use Rattle.djvm_cli.specs.Steps.{Counted};
@@ -17,6 +22,7 @@ use crate::cut::class_set;
 use crate::load::{Input, Listing, Loaded, Stop, list_paths, read_files, read_job_input};
 use dj_edge::{Files, Host, Sink, SinkError, put_all};
 use dj_report::{Limit, Report, bytes_of, status_of};
+use dj_running::{Engine, raw};
 use dj_sandbox::{ClassSet, check, entry_name, verify};
 use dj_words::{Command, FolderCommand, command_of};
 use std::alloc::Global;
@@ -26,22 +32,46 @@ fn folder<'a>(command: FolderCommand<'a>) -> &'a str
     ensures { result.now ≡ folder_of (folder_job_view command.entry) }
 {
     match command {
-        FolderCommand::Check { folder } | FolderCommand::Verify { folder, .. } => folder,
+        FolderCommand::Check { folder }
+        | FolderCommand::Verify { folder, .. }
+        | FolderCommand::Raw { folder, .. } => folder,
     }
 }
 
+// Judges a set that was read, and runs the class of this name on the input with the library whose host answers.
+fn judge_raw<H: Host, E: Engine>(
+    alloc: Global,
+    entry: &str,
+    set: &ClassSet,
+    input: &[u8],
+    steps: u64,
+    host: &mut H,
+    engine: &mut E,
+) -> Result<Report, Stop>
+    ensures decided { IfOk result (IsDecided (raw_stages set.now (entry_name entry.now) input.now steps (given_since (H.given host.old) (H.given host.new)))) }
+    ensures status { IfOk result (λ report. IsAmong (report_status report) raw_statuses) }
+    ensures no_fault { IfErr result (λ stop. stop ≡ Memory) }
+    ensures leaves { LeavesRaw set.now (entry_name entry.now) input.now steps (H.given host.old) (H.given host.new) (E.runs engine.old) (E.runs engine.new) result }
+{
+    let class = entry_name(alloc, entry)?;
+    Ok(raw(alloc, set, class.as_slice(), input, steps, host, engine)?)
+}
+
 /// Judges a set and an input that were read, as the job asks.
-fn judge(
+fn judge<H: Host, E: Engine>(
     alloc: Global,
     command: FolderCommand<'_>,
     set: &ClassSet,
     input: &[u8],
+    host: &mut H,
+    engine: &mut E,
 ) -> Result<Report, Stop>
     requires input { length input.now ≤ most_input_bytes }
     requires allowed { IsAllowed (folder_job_view command) }
-    ensures decided { IfOk result (IsDecided (judging (folder_job_view command.entry) set.now input.now)) }
+    ensures decided { IfOk result (IsDecided (judging (folder_job_view command.entry) set.now input.now (given_since (H.given host.old) (H.given host.new)))) }
     ensures status { IfOk result (λ report. IsReportStatus (Some (OnFolder (folder_job_view command.entry))) None (report_status report)) }
     ensures no_fault { IfErr result (λ stop. stop ≡ Memory) }
+    ensures leaves { LeavesJudged (folder_job_view command.entry) set.now input.now (H.given host.old) (H.given host.new) (E.runs engine.old) (E.runs engine.new) result }
 {
     match command {
         FolderCommand::Check { .. } => Ok(check(alloc, set)?),
@@ -53,22 +83,28 @@ fn judge(
             let class = entry_name(alloc, entry)?;
             Ok(verify(alloc, set, class.as_slice(), input, thresholds)?)
         }
+        FolderCommand::Raw { entry, steps, .. } => {
+            judge_raw(alloc, entry, set, input, steps, host, engine)
+        }
     }
 }
 
 /// The report of a job on a folder. Each step decides it or hands on to the next: the number of files, the input, the limits on the files, and
 /// then what the files are judged to be.
-fn report_of_folder<F: Files>(
+fn report_of_folder<F: Files, H: Host, E: Engine>(
     alloc: Global,
     command: FolderCommand<'_>,
     files: &mut F,
+    host: &mut H,
+    engine: &mut E,
 ) -> Result<Report, Stop>
     requires allowed { IsAllowed (folder_job_view command) }
     ensures held { F.held files.new ≡ F.held files.old }
     ensures counts { Counted (F.faults files.old) (F.faults files.new) result }
     ensures asks { IfSome (F.held files.old) (λ h. GrowsByFront (F.asked files.old) (F.asked files.new) (folder_asks (folder_job_view command.entry) h)) }
-    ensures right { IfOk result (λ report. IfSome (F.held files.old) (λ h. IsDecided (folder_stages (folder_job_view command.entry) h) report)) }
+    ensures right { IfOk result (λ report. IfSome (F.held files.old) (λ h. IsDecided (folder_stages (folder_job_view command.entry) h (given_since (H.given host.old) (H.given host.new))) report)) }
     ensures status { IfOk result (λ report. IsReportStatus (Some (OnFolder (folder_job_view command.entry))) (F.held files.old) (report_status report)) }
+    ensures leaves { LeavesJob (Some (OnFolder (folder_job_view command.entry))) (F.held files.old) (H.given host.old) (H.given host.new) (E.runs engine.old) (E.runs engine.new) result }
 {
     let paths = match list_paths(alloc, files, folder(command))? {
         Listing::Paths(paths) => paths,
@@ -84,39 +120,49 @@ fn report_of_folder<F: Files>(
         Loaded::Passed(limit) => return Ok(Report::Limited(limit)),
     };
     let set = class_set(alloc, folder(command), sources)?;
-    judge(alloc, command, &set, &input)
+    judge(alloc, command, &set, &input, host, engine)
 }
 
 /// The report of a job.
-fn report_of_job<F: Files>(
+fn report_of_job<F: Files, H: Host, E: Engine>(
     alloc: Global,
     command: Command<'_>,
     files: &mut F,
+    host: &mut H,
+    engine: &mut E,
 ) -> Result<Report, Stop>
     requires allowed { IsAllowedJob (job_view command) }
     ensures held { F.held files.new ≡ F.held files.old }
     ensures counts { Counted (F.faults files.old) (F.faults files.new) result }
     ensures asks { IfSome (F.held files.old) (λ h. GrowsByFront (F.asked files.old) (F.asked files.new) (job_asks (Some (job_view command.entry)) h)) }
-    ensures right { IfOk result (λ report. IfSome (F.held files.old) (λ h. IsDecided (stages (Some (job_view command.entry)) h) report)) }
+    ensures right { IfOk result (λ report. IfSome (F.held files.old) (λ h. IsDecided (stages (Some (job_view command.entry)) h (given_since (H.given host.old) (H.given host.new))) report)) }
     ensures status { IfOk result (λ report. IsReportStatus (Some (job_view command.entry)) (F.held files.old) (report_status report)) }
+    ensures leaves { LeavesJob (Some (job_view command.entry)) (F.held files.old) (H.given host.old) (H.given host.new) (E.runs engine.old) (E.runs engine.new) result }
 {
     match command {
-        Command::OnFolder(command) => report_of_folder(alloc, command, files),
+        Command::OnFolder(command) => report_of_folder(alloc, command, files, host, engine),
         Command::Assemble { file } => report_of_text(alloc, file, files),
     }
 }
 
 /// The report of the job that the words ask for.
-fn report_of<F: Files>(alloc: Global, words: &[String], files: &mut F) -> Result<Report, Stop>
+fn report_of<F: Files, H: Host, E: Engine>(
+    alloc: Global,
+    words: &[String],
+    files: &mut F,
+    host: &mut H,
+    engine: &mut E,
+) -> Result<Report, Stop>
     ensures held { F.held files.new ≡ F.held files.old }
     ensures counts { Counted (F.faults files.old) (F.faults files.new) result }
     ensures asks { AsksInOrder (map string_bytes words.now) (F.held files.old) (F.asked files.old) (F.asked files.new) }
-    ensures right { IfOk result (IsRight (map string_bytes words.now) (F.held files.old)) }
+    ensures right { IfOk result (IsRight (map string_bytes words.now) (F.held files.old) (given_since (H.given host.old) (H.given host.new))) }
     ensures usage { IfOk result (λ report. TellsUsage (map string_bytes words.now) (report_status report)) }
     ensures status { IfOk result (λ report. IsReportStatus (done_job_of (map string_bytes words.now)) (F.held files.old) (report_status report)) }
+    ensures leaves { LeavesJob (done_job_of (map string_bytes words.now)) (F.held files.old) (H.given host.old) (H.given host.new) (E.runs engine.old) (E.runs engine.new) result }
 {
     match command_of(alloc, words) {
-        Ok(Some(command)) => report_of_job(alloc, command, files),
+        Ok(Some(command)) => report_of_job(alloc, command, files, host, engine),
         Ok(None) => Ok(Report::Usage),
         Err(_) => Err(Stop::Memory),
     }
@@ -142,35 +188,44 @@ fn write_report<S: Sink>(alloc: Global, report: &Report, sink: &mut S) -> u8
 }
 
 /// Does the job that the words ask for, writes its one report and answers the status.
-pub fn djvm<F: Files, H: Host, S: Sink>(
+pub fn djvm<F: Files, H: Host, S: Sink, E: Engine>(
     alloc: Global,
     words: &[String],
     files: &mut F,
     host: &mut H,
     sink: &mut S,
+    engine: &mut E,
 ) -> u8
     ensures statuses { IsStatus (map string_bytes words.now) result }
 
     // The right report is written, and the status is its; else the store failed, the sink failed, or there was no memory.
     ensures finished { result ≢ read_fault → result ≢ write_fault → result ≢ no_memory
-        → Finished (map string_bytes words.now) (F.held files.old) result (S.written sink.old) (S.written sink.new) }
+        → Finished (map string_bytes words.now) (F.held files.old) (given_since (H.given host.old) (H.given host.new)) result (S.written sink.old) (S.written sink.new) }
     ensures usage { result ≢ read_fault → result ≢ write_fault → result ≢ no_memory
         → TellsUsage (map string_bytes words.now) result }
     ensures read_fault { result ≡ read_fault
-        → ReadEnds (map string_bytes words.now) (F.held files.old)
+        → ReadEnds (map string_bytes words.now) (F.held files.old) (given_since (H.given host.old) (H.given host.new))
         (F.faults files.old) (F.faults files.new) (S.written sink.old) (S.written sink.new) }
     ensures write_fault { result ≡ write_fault
-        → WriteFault (map string_bytes words.now) (F.held files.old)
+        → WriteFault (map string_bytes words.now) (F.held files.old) (given_since (H.given host.old) (H.given host.new))
         (S.faults sink.old) (S.faults sink.new) (S.written sink.old) (S.written sink.new) }
     ensures no_memory { result ≡ no_memory
-        → OutOfMemory (map string_bytes words.now) (F.held files.old) (S.written sink.old) (S.written sink.new) }
+        → OutOfMemory (map string_bytes words.now) (F.held files.old) (given_since (H.given host.old) (H.given host.new)) (S.written sink.old) (S.written sink.new) }
 
-    // The store is asked only what the words ask of it, and the host nothing.
+    // The store is asked only what the words ask of it, and the host only what a raw run asks.
     ensures asks { AsksInOrder (map string_bytes words.now) (F.held files.old) (F.asked files.old) (F.asked files.new) }
     ensures held { F.held files.new ≡ F.held files.old }
-    ensures given { H.given host.new ≡ H.given host.old }
+    ensures given { (IsRawJob (done_job_of (map string_bytes words.now)) → ⊥) → H.given host.new ≡ H.given host.old }
+    ensures gave { H.given host.new ≡ H.given host.old ++ given_since (H.given host.old) (H.given host.new) }
+    ensures unasked { TellsNoRun (map string_bytes words.now) (F.held files.old) (given_since (H.given host.old) (H.given host.new)) → H.given host.new ≡ H.given host.old }
+
+    // The engine made the runs of which the report tells, and none else; and none where no raw run is asked for.
+    ensures runs { result ≢ read_fault → result ≢ write_fault → result ≢ no_memory
+        → AddsRuns (map string_bytes words.now) (F.held files.old) (given_since (H.given host.old) (H.given host.new)) (E.runs engine.old) (E.runs engine.new) }
+    ensures front { IfSome (F.held files.old) (λ h. AddsFront (map string_bytes words.now) (Some h) (given_since (H.given host.old) (H.given host.new)) (E.runs engine.old) (E.runs engine.new)) }
+    ensures idle { (IsRawJob (done_job_of (map string_bytes words.now)) → ⊥) → E.runs engine.new ≡ E.runs engine.old }
 {
-    match report_of(alloc, words, files) {
+    match report_of(alloc, words, files, host, engine) {
         Ok(report) => write_report(alloc, &report, sink),
         Err(Stop::Fault) => 65,
         Err(Stop::Memory) => 67,

@@ -1,6 +1,6 @@
-ghost use Rattle.djvm_cli.specs.OneReport.{HasOneFront, HasOneReport, HasSomeReport, HasOneEnd};
+ghost use Rattle.djvm_cli.specs.OneReport.{HasOneAnswer, HasOneFront, HasOneReport, HasSomeReport, HasOneEnd, HasSameRuns};
 
-/// The words and what is held have at most one report.
+/// The words and what is held have at most one report, under the same answers of the host.
 pub fn one_report()
     ensures { HasOneReport }
 {}
@@ -18,4 +18,14 @@ pub fn one_end()
 /// What a call wrote that the sink or want of memory broke off is a front of the right report's text.
 pub fn one_front()
     ensures { HasOneFront }
+{}
+
+/// The host's answers matter to raw runs alone.
+pub fn one_answer()
+    ensures { HasOneAnswer }
+{}
+
+/// The words, what is held and the host's answers tell which runs the engine makes.
+pub fn same_runs()
+    ensures { HasSameRuns }
 {}

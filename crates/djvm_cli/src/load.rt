@@ -178,7 +178,9 @@ pub fn read_job_input<F: Files>(
 {
     match command {
         FolderCommand::Check { .. } => Ok(Input::Bytes(Vec::new(alloc))),
-        FolderCommand::Verify { input, .. } => read_whole(alloc, files, input, MOST_INPUT_BYTES),
+        FolderCommand::Verify { input, .. } | FolderCommand::Raw { input, .. } => {
+            read_whole(alloc, files, input, MOST_INPUT_BYTES)
+        }
     }
 }
 

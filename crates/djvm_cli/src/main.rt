@@ -14,6 +14,7 @@ mod tests;
 
 use clock_host::ClockHost;
 use dj_edge::FolderFiles;
+use dj_running::PlainEngine;
 use out_sink::OutSink;
 use std::alloc::AllocError;
 use std::env;
@@ -44,6 +45,14 @@ fn main(rt: HostRuntime) -> ExitCode {
     let mut files = FolderFiles::new(rt.alloc(), SystemFiles::new(&rt));
     let mut host = ClockHost::new(&rt);
     let mut sink = OutSink::new(&rt);
-    let status = djvm::djvm(rt.alloc(), &words, &mut files, &mut host, &mut sink);
+    let mut engine = PlainEngine::new(rt.alloc());
+    let status = djvm::djvm(
+        rt.alloc(),
+        &words,
+        &mut files,
+        &mut host,
+        &mut sink,
+        &mut engine,
+    );
     ExitCode::from(status)
 }

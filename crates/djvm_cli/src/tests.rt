@@ -1,5 +1,6 @@
 use crate::djvm::djvm;
 use dj_edge::{MemFiles, MemHost, MemSink, Order, paths_differ};
+use dj_running::PlainEngine;
 use std::alloc::{AllocError, Global};
 use std::test::Fail;
 
@@ -109,7 +110,8 @@ fn ends(alloc: Global, row: &Row) -> Result<bool, AllocError> {
     let mut files = MemFiles::new(alloc, held, row.1, vec![in alloc; row.2]?);
     let mut host = MemHost::new(alloc, 7, 5);
     let mut sink = MemSink::new(alloc, 1, row.3);
-    let status = djvm(alloc, &words, &mut files, &mut host, &mut sink);
+    let mut engine = PlainEngine::new(alloc);
+    let status = djvm(alloc, &words, &mut files, &mut host, &mut sink, &mut engine);
     Ok(status == row.4 && sink.bytes() == row.5)
 }
 

@@ -1,20 +1,21 @@
-use Rattle.std.proofs.Common.{map, subst}
+use Rattle.std.proofs.Common.{◌≡◌, [], map, inl, subst}
+use Rattle.dj_names.specs.Library.{Library, deterministic_library}
+use Rattle.dj_natives.specs.Views.{library_view}
+use Rattle.dj_report.specs.Lines.{Adds}
+use Rattle.dj_report.proofs.Adding.{exactly_found}
 use Rattle.dj_rules.specs.Views.{path_file_view}
-use Rattle.dj_sandbox.specs.Late.{AreLinks}
-use Rattle.dj_sandbox.proofs.LateLaws.{malformed_breaks, shared_breaks, cycle_breaks}
+use Rattle.dj_sandbox.specs.Checked.{IsLineBy}
+use Rattle.dj_sandbox.proofs.LateLaws.{ok_mapped}
 use Rattle.dj_sandbox.proofs.checking.check_violations.Goals as goal
 
-pub broken_violations-requires-clause-broken : goal.broken_violations-requires-clause-broken
-broken_violations-requires-clause-broken c =
-    let files = map path_file_view c.args.files.now in
-    malformed_breaks files (subst (AreLinks files) c.in-NotClassFile.is c.in_ok-linker.ensures)
+pub judge_set-requires-clause-library : goal.judge_set-requires-clause-library
+judge_set-requires-clause-library c =
+    inl (ok_mapped c.deterministic.result _ (λ library. library_view library ≡ deterministic_library) _ c.in_ok-library.ensures.cases c.in_ok-library.ensures.variant c.deterministic.ensures)
 
-pub broken_violations-requires-in-SharedName-clause-broken : goal.broken_violations-requires-in-SharedName-clause-broken
-broken_violations-requires-in-SharedName-clause-broken c =
+pub returns : goal.returns
+returns c =
     let files = map path_file_view c.args.files.now in
-    shared_breaks files (subst (AreLinks files) c.in-SharedName.is c.in_ok-linker.ensures)
-
-pub broken_violations-requires-in-Cycle-clause-broken : goal.broken_violations-requires-in-Cycle-clause-broken
-broken_violations-requires-in-Cycle-clause-broken c =
-    let files = map path_file_view c.args.files.now in
-    cycle_breaks files (subst (AreLinks files) c.in-Cycle.is c.in_ok-linker.ensures)
+    let told : library_view c.in_ok-library.library ≡ deterministic_library =
+    ok_mapped c.deterministic.result _ (λ library. library_view library ≡ deterministic_library) _ c.in_ok-library.ensures.cases c.in_ok-library.ensures.variant c.deterministic.ensures in
+    exactly_found (IsLineBy deterministic_library files) c.in_ok-judged.judged.found.items c.in_order.result
+    (subst (λ (l : Library). Adds (IsLineBy l files) [] c.in_ok-judged.judged.found.items) told c.in_ok-judged.ensures.lines) c.in_order.ensures.ordered c.in_order.ensures.members

@@ -3,9 +3,13 @@ use Rattle.dj_edge.proofs.Lists.{ok_so}
 use Rattle.dj_model.specs.Program.{Class}
 use Rattle.dj_model.specs.Libraries.{joined}
 use Rattle.dj_loader.proofs.Moved.{rise_of_table}
+use Rattle.dj_natives.specs.Views.{library_view}
 use Rattle.dj_sandbox.specs.Late.{IsLinkOf, AreLinksOf}
-use Rattle.dj_sandbox.proofs.LateLaws.{are_links_of}
+use Rattle.dj_sandbox.proofs.LateLaws.{few_all, are_links_of}
 use Rattle.dj_sandbox.proofs.late.link_classes.Goals as goal
+
+pub of-requires : goal.of-requires
+of-requires c = few_all (library_view c.args.library.now) c.args.declared.items c.add_library.new.declared.items c.requires.library c.requires.few c.in_ok-add_library.ensures
 
 pub link_table-requires : goal.link_table-requires
 link_table-requires c = rise_of_table _ c.in-Ok.table c.in-Ok.ensures.ok c.in-Ok.ensures.differ
@@ -13,4 +17,5 @@ link_table-requires c = rise_of_table _ c.in-Ok.table c.in-Ok.ensures.ok c.in-Ok
 pub returns-in-Ok : goal.returns-in-Ok
 returns-in-Ok c =
     let is = c.in-Ok.ensures.ok ∙ ap (λ (classes : List Class). joined classes []) c.in_ok-add_library.ensures in
-    ok_so c.link_table.result (IsLinkOf c.in-Ok.table) (AreLinksOf c.args.declared.items) (λ links of. are_links_of c.args.declared.items c.in-Ok.table links is of) c.link_table.ensures
+    let library = library_view c.args.library.now in
+    ok_so c.link_table.result (IsLinkOf c.in-Ok.table) (AreLinksOf library c.args.declared.items) (λ links of. are_links_of library c.args.declared.items c.in-Ok.table links is of) c.link_table.ensures

@@ -2,14 +2,19 @@ use Rattle.std.proofs.Common.{sym, ap, ◌∙◌}
 use Rattle.std.specs.Prelude.{option_and_then}
 use Rattle.dj_words.specs.DoneJobs.{done}
 use Rattle.dj_words.specs.Views.{texts, values_view}
-use Rattle.dj_words.proofs.Done.{job_of_assemble, job_of_others}
+use Rattle.dj_words.proofs.Done.{job_of_raw, job_of_assemble, job_of_others}
 use Rattle.dj_words.proofs.command.command_named.Goals as goal
 
 pub returns-then-eq-3 : goal.returns-then-eq-3
 returns-then-eq-3 c =
-    c.assemble_command.ensures
-    ∙ sym (ap (option_and_then done) (job_of_assemble c.args.name.now (texts c.args.operands.now) (values_view c.args.options) (sym c.if-eq-3.ensures)))
+    c.raw_command.ensures
+    ∙ sym (ap (option_and_then done) (job_of_raw c.args.name.now (texts c.args.operands.now) (values_view c.args.options) (sym c.if-eq-3.ensures)))
 
-pub returns-else-eq-3 : goal.returns-else-eq-3
-returns-else-eq-3 c =
-    sym (job_of_others c.args.name.now (texts c.args.operands.now) (values_view c.args.options) (sym c.if-eq.ensures) (sym c.if-eq-2.ensures) (sym c.if-eq-3.ensures))
+pub returns-then-eq-4 : goal.returns-then-eq-4
+returns-then-eq-4 c =
+    c.assemble_command.ensures
+    ∙ sym (ap (option_and_then done) (job_of_assemble c.args.name.now (texts c.args.operands.now) (values_view c.args.options) (sym c.if-eq-4.ensures)))
+
+pub returns-else-eq-4 : goal.returns-else-eq-4
+returns-else-eq-4 c =
+    sym (job_of_others c.args.name.now (texts c.args.operands.now) (values_view c.args.options) (sym c.if-eq.ensures) (sym c.if-eq-2.ensures) (sym c.if-eq-3.ensures) (sym c.if-eq-4.ensures))

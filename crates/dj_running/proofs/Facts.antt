@@ -1,0 +1,24 @@
+-- Runs of which a report tells and runs of which it doesn't, at plain values.
+use Rattle.std.proofs.Common.{◌≡◌, ℕ, true, false, List, [], ◌∷◌, map, refl}
+use Rattle.dj_edge.specs.Held.{File}
+use Rattle.dj_edge.specs.declared.host.HostAnswer.{HostAnswer}
+use Rattle.dj_names.specs.declared.run.Charge.TheVariants as charges
+use Rattle.dj_names.specs.declared.run.Costs.{Costs}
+use Rattle.dj_names.specs.declared.run.Outcome.TheVariants as outcomes
+use Rattle.dj_sandbox.specs.RawRules.{AreRawViolations}
+use Rattle.dj_running.specs.Runs.{AreRawRuns, is_stopped}
+
+-- no run where a rule is violated, and one where none is
+no_run : (files : List File) (class input : List ℕ) (steps : ℕ) (answers : List HostAnswer) → AreRawViolations files class [] → AreRawRuns files class input steps answers [] → ⊥
+no_run files class input steps answers silent violated = violated silent
+
+a_run : (files : List File) (class input : List ℕ) (steps : ℕ) (answers : List HostAnswer) (run : Costs × ℕ) → (AreRawViolations files class [] → ⊥)
+    → AreRawRuns files class input steps answers (run ∷ []) → ⊥
+a_run files class input steps answers run violated told = violated told.0
+
+two_runs : (files : List File) (class input : List ℕ) (steps : ℕ) (answers : List HostAnswer) (a b : Costs × ℕ) → AreRawRuns files class input steps answers (a ∷ b ∷ []) → ⊥
+two_runs files class input steps answers a b told = told
+
+stopped : map is_stopped (outcomes.Stopped charges.Jump ∷ outcomes.OkNull ∷ outcomes.Link ∷ outcomes.TooDeep ∷ outcomes.OutOfSteps 5 ∷ outcomes.HeapFull 16 67108880 ∷ [])
+    ≡ true ∷ false ∷ false ∷ false ∷ false ∷ false ∷ []
+stopped = refl

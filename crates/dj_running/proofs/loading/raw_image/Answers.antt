@@ -1,0 +1,41 @@
+use Rattle.std.proofs.Common.{◌≡◌, map, subst, arith}
+use Rattle.dj_names.specs.Library.{Library, raw_library}
+use Rattle.dj_natives.specs.Views.{library_view}
+use Rattle.dj_class.specs.Views.{class_of}
+use Rattle.dj_program.specs.Programs.{IsProgramIn}
+use Rattle.dj_image.specs.Imaged.{program_of}
+use Rattle.dj_sandbox.proofs.LateLaws.{ok_mapped}
+use Rattle.dj_running.proofs.LoadingLaws.{string_there, rows_described, few_rows, few_members}
+use Rattle.dj_running.proofs.loading.raw_image.Goals as goal
+
+pub load-requires-clause-described : goal.load-requires-clause-described
+load-requires-clause-described c =
+    let told : library_view c.in_ok-library.library ≡ raw_library =
+    ok_mapped c.raw.result _ (λ library. library_view library ≡ raw_library) _ c.in_ok-library.ensures.cases c.in_ok-library.ensures.variant c.raw.ensures in
+    rows_described c.in_ok-library.library told
+
+pub load-requires-clause-few : goal.load-requires-clause-few
+load-requires-clause-few c =
+    let told : library_view c.in_ok-library.library ≡ raw_library =
+    ok_mapped c.raw.result _ (λ library. library_view library ≡ raw_library) _ c.in_ok-library.ensures.cases c.in_ok-library.ensures.variant c.raw.ensures in
+    let rows = few_rows c.in_ok-library.library told in
+    let views = c.requires.few in
+    omega (arith, rows, views)
+
+pub load-requires-clause-few_members : goal.load-requires-clause-few_members
+load-requires-clause-few_members c =
+    let told : library_view c.in_ok-library.library ≡ raw_library =
+    ok_mapped c.raw.result _ (λ library. library_view library ≡ raw_library) _ c.in_ok-library.ensures.cases c.in_ok-library.ensures.variant c.raw.ensures in
+    few_members c.in_ok-library.library c.args.views.now told c.requires.few c.requires.valid
+
+pub load-requires-clause-string : goal.load-requires-clause-string
+load-requires-clause-string c =
+    let told : library_view c.in_ok-library.library ≡ raw_library =
+    ok_mapped c.raw.result _ (λ library. library_view library ≡ raw_library) _ c.in_ok-library.ensures.cases c.in_ok-library.ensures.variant c.raw.ensures in
+    string_there c.in_ok-library.library told
+
+pub returns-in-Ok-clause-program : goal.returns-in-Ok-clause-program
+returns-in-Ok-clause-program c =
+    let told : library_view c.in_ok-library.library ≡ raw_library =
+    ok_mapped c.raw.result _ (λ library. library_view library ≡ raw_library) _ c.in_ok-library.ensures.cases c.in_ok-library.ensures.variant c.raw.ensures in
+    subst (λ (l : Library). IsProgramIn l (map class_of c.args.views.now) (program_of c.in-Ok.image)) told c.in-Ok.ensures.program

@@ -1,0 +1,46 @@
+use Rattle.std.proofs.Common.{Some, map, inl}
+use Rattle.std.proofs.lemmas.Result.{err_from_is_err_and}
+use Rattle.dj_edge.proofs.Lists.{ok_so}
+use Rattle.dj_rules.specs.Views.{path_file_view}
+use Rattle.dj_host.specs.Hosted.{given_since}
+use Rattle.dj_running.proofs.GivenNothing.{gave_nothing}
+use Rattle.dj_sandbox.specs.Judging.{RunsRaw}
+use Rattle.dj_running.specs.Runs.{TellsEnding}
+use Rattle.dj_running.proofs.RunLaws.{image_sound, image_entry, runs_raw, adds_told, adds_nothing}
+use Rattle.dj_running.proofs.running.run_files.Goals as goal
+
+pub image_of_files-requires-clause-silent : goal.image_of_files-requires-clause-silent
+image_of_files-requires-clause-silent g c = (c.args.entry.now, c.requires.silent)
+
+pub returns-in_err-image-clause-runs : goal.returns-in_err-image-clause-runs
+returns-in_err-image-clause-runs g c =
+    let p = err_from_is_err_and c.from_residual.result c.from_residual.ensures.1 in
+    adds_nothing (map path_file_view c.args.files.now) c.args.entry.now c.args.input.now c.args.steps (given_since (g.H.Host.given c.args.host.now) (g.H.Host.given c.args.host.now))
+    (g.E.Engine.runs c.args.engine.now) c.from_residual.result p.0 p.1
+
+pub returns-in_err-image-clause-gave : goal.returns-in_err-image-clause-gave
+returns-in_err-image-clause-gave g c = gave_nothing (g.H.Host.given c.args.host.now)
+
+pub run_image-requires-clause-sound : goal.run_image-requires-clause-sound
+run_image-requires-clause-sound g c = image_sound (map path_file_view c.args.files.now) c.args.entry.now c.in_ok-image.image c.in_ok-image.ensures c.requires.silent
+
+pub run_image-requires-clause-entry : goal.run_image-requires-clause-entry
+run_image-requires-clause-entry g c = image_entry (map path_file_view c.args.files.now) c.args.entry.now c.in_ok-image.image c.in_ok-image.ensures c.requires.silent
+
+pub returns-in-Ok-clause-ran : goal.returns-in-Ok-clause-ran
+returns-in-Ok-clause-ran g c =
+    let files = map path_file_view c.args.files.now in
+    let gave = given_since (g.H.Host.given c.args.host.now) (g.H.Host.given c.run_image.new.host) in
+    ok_so c.report_of.result (TellsEnding c.in-Ok.ending) (λ report. RunsRaw files c.args.entry.now c.args.input.now c.args.steps gave (Some report))
+    (λ report told. runs_raw files c.args.entry.now c.in_ok-image.image c.in_ok-image.ensures c.requires.silent c.args.input.now c.args.steps gave c.in-Ok.ending report c.in-Ok.ensures.ran told)
+    c.report_of.ensures.told
+
+pub returns-in-Ok-clause-runs : goal.returns-in-Ok-clause-runs
+returns-in-Ok-clause-runs g c =
+    let files = map path_file_view c.args.files.now in
+    let gave = given_since (g.H.Host.given c.args.host.now) (g.H.Host.given c.run_image.new.host) in
+    adds_told files c.args.entry.now c.in_ok-image.image c.in_ok-image.ensures c.requires.silent c.args.input.now c.args.steps gave
+    (g.E.Engine.runs c.args.engine.now) (g.E.Engine.runs c.run_image.new.engine) c.in-Ok.ending c.report_of.result c.in-Ok.ensures.ran c.in-Ok.ensures.runs
+
+pub returns-clause-runs : goal.returns-clause-runs
+returns-clause-runs g c = inl c.in-Err.ensures.runs

@@ -1,0 +1,22 @@
+-- The code's own: the image of files, and the entry in it.
+use Rattle.std.specs.Prelude.{◌≡◌, ◌<◌, ℕ, List, [], length}
+use Rattle.dj_edge.specs.Held.{File}
+use Rattle.dj_names.specs.Types.{Name}
+use Rattle.dj_names.specs.Library.{raw_library}
+use Rattle.dj_class.specs.ClassFile.{ClassFile}
+use Rattle.dj_program.specs.Programs.{IsProgramIn}
+use Rattle.dj_types.specs.Members.{all_methods}
+use Rattle.dj_image.specs.Imaged.{Imaged, program_of}
+use Rattle.dj_activations.specs.Activations.{declared_at}
+use Rattle.dj_sandbox.specs.Checked.{AreGoodFiles}
+use Rattle.dj_sandbox.specs.RawRules.{entry_of}
+
+-- its program is that of the class files of the files and of the library whose host answers
+abbrev pub IsImageOf : List File → Imaged → Type 0
+IsImageOf files imaged =
+    (classes : List ClassFile) × AreGoodFiles files classes × IsProgramIn raw_library classes (program_of imaged) × (imaged.prefix ≡ [])
+
+-- the method of the number is the entry of the class of this name
+pub record IsEntryAt (imaged : Imaged) (class : Name) (number : ℕ) : Type 0 where
+  pub there : number < length (all_methods (program_of imaged))
+  pub named : declared_at (program_of imaged) number ≡ entry_of class

@@ -1,0 +1,6 @@
+ghost use Rattle.dj_running.specs.Laws.{HasRawRun};
+
+/// Under some answers of the host, all of which it takes, a raw run of files in which no rule is violated ends or makes all of its steps.
+pub fn has_raw_run()
+    ensures { HasRawRun }
+{}

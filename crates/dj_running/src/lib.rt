@@ -1,0 +1,12 @@
+//! Runs of class files that were judged: a class of theirs is run with the library whose host answers.
+#![tactic(auto)]
+
+mod entry;
+mod laws;
+mod loading;
+mod raw_run;
+mod running;
+
+pub use dj_machine::{Engine, PlainEngine};
+pub use laws::has_raw_run;
+pub use running::raw;

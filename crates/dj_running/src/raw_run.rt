@@ -1,0 +1,83 @@
+//! The run of an image, and what is told of it.
+ghost use Rattle.std.specs.Prelude.{◌≡◌, ◌++◌, IfOk};
+ghost use Rattle.dj_model.specs.Sound.{IsSound};
+ghost use Rattle.dj_model.specs.Standing.{IsEntry};
+ghost use Rattle.dj_report.specs.Text.{report_status};
+ghost use Rattle.dj_image.specs.Imaged.{program_of};
+ghost use Rattle.dj_host.specs.Hosted.{given_since};
+ghost use Rattle.dj_machine.specs.Engines.{AddsRun, RunsPlainly};
+ghost use Rattle.dj_sandbox.specs.Limits.{most_heap_bytes};
+ghost use Rattle.dj_sandbox.specs.RawRules.{entry_of};
+ghost use Rattle.dj_sandbox.specs.Statuses.{IsAmong, raw_statuses};
+ghost use Rattle.dj_running.specs.Runs.{no_limits, is_stopped, TellsEnding};
+
+use crate::entry::entry_in;
+use dj_edge::Host;
+use dj_image::Image;
+use dj_machine::{Ending, Engine, EngineError};
+use dj_names::{Outcome, Thresholds};
+use dj_report::Report;
+use dj_rules::RulesError;
+use std::alloc::Global;
+
+// The most bytes that the objects of a run take.
+const MOST_HEAP_BYTES: u64 = 67_108_864;
+
+// Nobody counts charges.
+const NO_LIMITS: Thresholds = Thresholds {
+    alloc: 0,
+    invoke: 0,
+    jump: 0,
+    throw: 0,
+};
+
+/// Runs the entry of the class of this name.
+pub fn run_image<H: Host, E: Engine>(
+    alloc: Global,
+    image: &Image,
+    entry: &[u8],
+    input: &[u8],
+    steps: u64,
+    host: &mut H,
+    engine: &mut E,
+) -> Result<Ending, EngineError>
+    requires sound { IsSound (program_of image.now) image.now.prefix }
+    requires entry { IsEntry (program_of image.now) (entry_of entry.now) }
+    ensures ran { IfOk result (RunsPlainly image.now (entry_of entry.now) input.now no_limits most_heap_bytes steps (given_since (H.given host.old) (H.given host.new))) }
+    ensures runs { AddsRun (E.runs engine.old) (E.runs engine.new) result }
+    ensures gave { H.given host.new ≡ H.given host.old ++ given_since (H.given host.old) (H.given host.new) }
+{
+    let Some(method) = entry_in(image, entry) else {
+        // The entry is there, since the rule ENTRY isn't violated.
+        return Err(EngineError::Memory);
+    };
+    engine.plain(
+        alloc,
+        image,
+        method,
+        input,
+        NO_LIMITS,
+        MOST_HEAP_BYTES,
+        steps,
+        host,
+    )
+}
+
+// Whether a charge passed its threshold.
+fn is_stopped(outcome: &Outcome) -> bool
+    ensures { result ≡ is_stopped outcome.now }
+{
+    matches!(outcome, Outcome::Stopped(_))
+}
+
+/// The report on a run of which nobody counts the charges: none of them passes its threshold.
+pub fn report_of(ending: Ending) -> Result<Report, RulesError>
+    ensures told { IfOk result (TellsEnding ending) }
+    ensures status { IfOk result (λ report. IsAmong (report_status report) raw_statuses) }
+{
+    if is_stopped(&ending.outcome) {
+        return Err(RulesError::Memory);
+    }
+    let Ending { outcome, steps, .. } = ending;
+    Ok(Report::Raw { outcome, steps })
+}

@@ -1,0 +1,107 @@
+//! Raw runs: files are judged, and the entry of a class of theirs is run.
+ghost use Rattle.std.specs.Prelude.{◌≡◌, ◌<◌, ◌≤◌, ◌^◌, ◌++◌, [], length, map, All, Some, IfOk};
+ghost use Rattle.dj_names.specs.Types.{Name};
+ghost use Rattle.dj_report.specs.Stages.{IsDecided};
+ghost use Rattle.dj_report.specs.Text.{report_status};
+ghost use Rattle.dj_rules.specs.Views.{path_file_view};
+ghost use Rattle.dj_host.specs.Hosted.{given_since};
+ghost use Rattle.dj_sandbox.specs.Judging.{RunsRaw, raw_stages};
+ghost use Rattle.dj_sandbox.specs.Limits.{most_files};
+ghost use Rattle.dj_sandbox.specs.RawRules.{AreRawViolations};
+ghost use Rattle.dj_sandbox.specs.Statuses.{IsAmong, raw_statuses};
+ghost use Rattle.dj_running.specs.Loading.{IsImageOf};
+ghost use Rattle.dj_running.specs.Runs.{AddsRawRuns};
+
+use crate::loading::{raw_image, views_of};
+use crate::raw_run::{report_of, run_image};
+use dj_edge::Host;
+use dj_image::Image;
+use dj_machine::Engine;
+use dj_report::{PathFile, Report};
+use dj_rules::RulesError;
+use dj_sandbox::{ClassSet, SandboxError, raw_violations};
+use std::alloc::Global;
+
+// The image of files in which no rule is violated.
+fn image_of_files(alloc: Global, files: &[PathFile<'_>]) -> Result<Image, RulesError>
+    requires few { length files.now ≤ most_files }
+    requires short { All (λ file. length file.bytes.now < 2 ^ 32) files.now }
+    requires silent { (class : Name) × AreRawViolations (map path_file_view files.now) class [] }
+    ensures { IfOk result (IsImageOf (map path_file_view files.now)) }
+{
+    let views = views_of(alloc, files)?;
+    raw_image(alloc, &views)
+}
+
+// Runs files in which no rule is violated.
+fn run_files<H: Host, E: Engine>(
+    alloc: Global,
+    files: &[PathFile<'_>],
+    entry: &[u8],
+    input: &[u8],
+    steps: u64,
+    host: &mut H,
+    engine: &mut E,
+) -> Result<Report, RulesError>
+    requires few { length files.now ≤ most_files }
+    requires short { All (λ file. length file.bytes.now < 2 ^ 32) files.now }
+    requires silent { AreRawViolations (map path_file_view files.now) entry.now [] }
+    ensures ran { IfOk result (λ report. RunsRaw (map path_file_view files.now) entry.now input.now steps (given_since (H.given host.old) (H.given host.new)) (Some report)) }
+    ensures status { IfOk result (λ report. IsAmong (report_status report) raw_statuses) }
+    ensures runs { AddsRawRuns (map path_file_view files.now) entry.now input.now steps (given_since (H.given host.old) (H.given host.new)) (E.runs engine.old) (E.runs engine.new) result }
+    ensures gave { H.given host.new ≡ H.given host.old ++ given_since (H.given host.old) (H.given host.new) }
+{
+    let image = image_of_files(alloc, files)?;
+    match run_image(alloc, &image, entry, input, steps, host, engine) {
+        Ok(ending) => report_of(ending),
+        Err(_) => Err(RulesError::Memory),
+    }
+}
+
+// The report on a run of the class of this name. Each file stands under its path within the folder.
+fn raw_files<H: Host, E: Engine>(
+    alloc: Global,
+    files: &[PathFile<'_>],
+    entry: &[u8],
+    input: &[u8],
+    steps: u64,
+    host: &mut H,
+    engine: &mut E,
+) -> Result<Report, RulesError>
+    requires few { length files.now ≤ most_files }
+    requires short { All (λ file. length file.bytes.now < 2 ^ 32) files.now }
+    ensures decided { IfOk result (IsDecided (raw_stages (map path_file_view files.now) entry.now input.now steps (given_since (H.given host.old) (H.given host.new)))) }
+    ensures status { IfOk result (λ report. IsAmong (report_status report) raw_statuses) }
+    ensures runs { AddsRawRuns (map path_file_view files.now) entry.now input.now steps (given_since (H.given host.old) (H.given host.new)) (E.runs engine.old) (E.runs engine.new) result }
+    ensures quiet { (AreRawViolations (map path_file_view files.now) entry.now [] → ⊥) → H.given host.new ≡ H.given host.old }
+    ensures gave { H.given host.new ≡ H.given host.old ++ given_since (H.given host.old) (H.given host.new) }
+{
+    let violations = raw_violations(alloc, files, entry)?;
+    if !violations.as_slice().is_empty() {
+        return Ok(Report::Rejected(violations));
+    }
+    run_files(alloc, files, entry, input, steps, host, engine)
+}
+
+/// The report on a run of the class of this name on the input for so many steps at most, with the library whose host answers.
+pub fn raw<H: Host, E: Engine>(
+    alloc: Global,
+    set: &ClassSet,
+    entry: &[u8],
+    input: &[u8],
+    steps: u64,
+    host: &mut H,
+    engine: &mut E,
+) -> Result<Report, SandboxError>
+    // The report is decided by the files, the input and the answers that the host gave in this call, all of which the run took.
+    ensures decided { IfOk result (IsDecided (raw_stages set.now entry.now input.now steps (given_since (H.given host.old) (H.given host.new)))) }
+    ensures status { IfOk result (λ report. IsAmong (report_status report) raw_statuses) }
+
+    // The engine made the run that is told of, and else none, nor was the host asked.
+    ensures runs { AddsRawRuns set.now entry.now input.now steps (given_since (H.given host.old) (H.given host.new)) (E.runs engine.old) (E.runs engine.new) result }
+    ensures quiet { (AreRawViolations set.now entry.now [] → ⊥) → H.given host.new ≡ H.given host.old }
+    ensures gave { H.given host.new ≡ H.given host.old ++ given_since (H.given host.old) (H.given host.new) }
+{
+    let files = set.path_files(alloc)?;
+    Ok(raw_files(alloc, &files, entry, input, steps, host, engine)?)
+}

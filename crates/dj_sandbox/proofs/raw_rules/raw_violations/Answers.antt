@@ -1,0 +1,22 @@
+use Rattle.std.proofs.Common.{◌≡◌, map, inr, subst}
+use Rattle.dj_names.specs.Library.{Library, raw_library}
+use Rattle.dj_natives.specs.Views.{library_view}
+use Rattle.dj_report.proofs.Adding.{exactly_found}
+use Rattle.dj_rules.specs.Views.{path_file_view}
+use Rattle.dj_sandbox.specs.RawRules.{IsRawLine}
+use Rattle.dj_sandbox.specs.Late.{IsJudgedSet}
+use Rattle.dj_sandbox.proofs.LateLaws.{ok_mapped}
+use Rattle.dj_sandbox.proofs.raw_rules.raw_violations.Goals as goal
+
+pub judge_set-requires-clause-library : goal.judge_set-requires-clause-library
+judge_set-requires-clause-library c =
+    inr (ok_mapped c.raw.result _ (λ library. library_view library ≡ raw_library) _ c.in_ok-library.ensures.cases c.in_ok-library.ensures.variant c.raw.ensures)
+
+pub returns : goal.returns
+returns c =
+    let files = map path_file_view c.args.files.now in
+    let told : library_view c.in_ok-library.library ≡ raw_library =
+    ok_mapped c.raw.result _ (λ library. library_view library ≡ raw_library) _ c.in_ok-library.ensures.cases c.in_ok-library.ensures.variant c.raw.ensures in
+    let judged = subst (λ (l : Library). IsJudgedSet l files c.in_ok-judged.judged) told c.in_ok-judged.ensures in
+    exactly_found (IsRawLine files c.args.entry.now) c.in_ok-found.found.items c.in_order.result (c.in_ok-found.ensures files judged) c.in_order.ensures.ordered
+    c.in_order.ensures.members

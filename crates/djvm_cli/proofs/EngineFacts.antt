@@ -1,0 +1,110 @@
+-- Runs of which a report tells and runs of which none does, at plain values.
+use Rattle.std.proofs.Common.{◌≡◌, ℕ, ◌<◌, List, [], ◌∷◌, ◌++◌, length, Option, Some, None, codes, inl, inr, refl, subst, arith}
+use Rattle.dj_edge.specs.Held.{Held, class_files, bytes_at}
+use Rattle.dj_edge.specs.declared.host.HostAnswer.{HostAnswer}
+use Rattle.dj_names.specs.declared.run.Costs.{Costs}
+use Rattle.dj_sandbox.specs.Entry.{entry_name}
+use Rattle.dj_sandbox.specs.Limits.{AreWithin}
+use Rattle.dj_sandbox.specs.RawRules.{AreRawViolations}
+use Rattle.dj_running.specs.Runs.{IsRawRun}
+use Rattle.dj_words.specs.DoneJobs.{FolderJob, Check, Raw, OnFolder, Assemble, done_job_of}
+use Rattle.djvm_cli.specs.Engine.{AreRuns, AddsRuns, AddsFront, TellsNoRun}
+use Rattle.djvm_cli.specs.Jobs.{IsRawJob}
+use Rattle.djvm_cli.specs.Report.{FindsInput, ReadsInput, files_within, input_of}
+
+abbrev raw_job : FolderJob
+raw_job = Raw (codes "c") (codes "A") (codes "in") 5
+
+abbrev FindsIn : Option (List ℕ) → Type 0
+FindsIn found = ReadsInput (codes "in") found None
+
+-- ---- which jobs are raw runs
+
+raw_words : List (List ℕ)
+raw_words = codes "raw" ∷ codes "c/" ∷ codes "A" ∷ codes "in" ∷ []
+
+verify_words : List (List ℕ)
+verify_words = codes "verify" ∷ codes "c/" ∷ codes "A" ∷ codes "in" ∷ []
+
+is_raw : IsRawJob (done_job_of raw_words)
+unfolding raw_words done_job_of
+is_raw = tt
+
+is_not_raw : IsRawJob (done_job_of verify_words) → ⊥
+unfolding verify_words done_job_of
+is_not_raw raw = raw
+
+-- ---- other jobs have none
+
+check_has_none : (held : Held) (answers : List HostAnswer) (run : Costs × ℕ) → AreRuns (Some (OnFolder (Check (codes "c")))) held answers (run ∷ []) → ⊥
+check_has_none held answers run (inl made) = let none : run ∷ [] ≡ [] = made.1 in absurd cc
+check_has_none held answers run (inr not_made) = let none : run ∷ [] ≡ [] = not_made.1 in absurd cc
+
+assemble_has_none : (held : Held) (answers : List HostAnswer) (run : Costs × ℕ) → AreRuns (Some (Assemble (codes "t"))) held answers (run ∷ []) → ⊥
+assemble_has_none held answers run none = absurd cc
+
+no_job_has_none : (held : Held) (answers : List HostAnswer) → AreRuns None held answers []
+no_job_has_none held answers = refl
+
+-- ---- a raw run
+
+-- two are never told of
+not_two : (held : Held) (answers : List HostAnswer) (a b : Costs × ℕ) → AreRuns (Some (OnFolder raw_job)) held answers (a ∷ b ∷ []) → ⊥
+not_two held answers a b (inl made) = made.1
+not_two held answers a b (inr not_made) = let none : a ∷ b ∷ [] ≡ [] = not_made.1 in absurd cc
+
+-- none, where a rule is violated
+none_where_rejected : (held : Held) (answers : List HostAnswer) (run : Costs × ℕ) → (AreRawViolations (files_within (codes "c") held) (entry_name (codes "A")) [] → ⊥)
+    → AreRuns (Some (OnFolder raw_job)) held answers (run ∷ []) → ⊥
+none_where_rejected held answers run violated (inl made) = violated made.1.0
+none_where_rejected held answers run violated (inr not_made) = let none : run ∷ [] ≡ [] = not_made.1 in absurd cc
+
+found_nowhere : (found : Option (List ℕ)) → found ≡ None → FindsIn found → ⊥
+found_nowhere None absent input = input
+found_nowhere (Some bytes) absent input = absurd cc
+
+-- nor where the input isn't there, or there are too many files
+none_where_absent : (held : Held) (answers : List HostAnswer) (run : Costs × ℕ) → bytes_at held (codes "in") ≡ None → AreRuns (Some (OnFolder raw_job)) held answers (run ∷ []) → ⊥
+none_where_absent held answers run absent (inl made) =
+    let input : FindsInput raw_job held None = made.0.input in
+    found_nowhere (bytes_at held (codes "in")) absent input
+none_where_absent held answers run absent (inr not_made) = let none : run ∷ [] ≡ [] = not_made.1 in absurd cc
+
+none_where_many : (held : Held) (answers : List HostAnswer) (run : Costs × ℕ) → 4096 < length (class_files (codes "c") held) → AreRuns (Some (OnFolder raw_job)) held answers (run ∷ []) → ⊥
+none_where_many held answers run many (inl made) = omega (arith, many, made.0.count)
+none_where_many held answers run many (inr not_made) = let none : run ∷ [] ≡ [] = not_made.1 in absurd cc
+
+-- one, where all is read and no rule is violated
+one_where_accepted : (held : Held) (answers : List HostAnswer) (run : Costs × ℕ) → length (class_files (codes "c") held) ≡ 1 → FindsInput raw_job held None
+    → AreWithin (class_files (codes "c") held) → AreRawViolations (files_within (codes "c") held) (entry_name (codes "A")) []
+    → IsRawRun (files_within (codes "c") held) (entry_name (codes "A")) (input_of raw_job held) 5 answers run → AreRuns (Some (OnFolder raw_job)) held answers (run ∷ [])
+one_where_accepted held answers run one input within silent made = inl (record { count = omega (arith, one); input = input; files = within }, (silent, made))
+
+-- and then it may not be left out
+not_left_out : (held : Held) (answers : List HostAnswer) → length (class_files (codes "c") held) ≡ 1 → FindsInput raw_job held None
+    → AreWithin (class_files (codes "c") held) → AreRawViolations (files_within (codes "c") held) (entry_name (codes "A")) [] → AreRuns (Some (OnFolder raw_job)) held answers [] → ⊥
+not_left_out held answers one input within silent (inl made) = made.1 silent
+not_left_out held answers one input within silent (inr not_made) = not_made.0 (record { count = omega (arith, one); input = input; files = within })
+
+-- ---- what a call adds
+
+-- runs that were told before stay
+not_forgotten : (held : Held) (answers : List HostAnswer) (run : Costs × ℕ) → AddsRuns [] (Some held) answers (run ∷ []) [] → ⊥
+unfolding done_job_of
+not_forgotten held answers run adds = gone adds.0 adds.2 where
+  gone : (runs : List (Costs × ℕ)) → [] ≡ (run ∷ []) ++ runs → ⊥
+  gone runs none = absurd cc
+
+-- words of no job add none
+none_added : (held : Held) (answers : List HostAnswer) (run : Costs × ℕ) → AddsFront [] (Some held) answers [] (run ∷ []) → ⊥
+unfolding done_job_of
+none_added held answers run (inl same) = absurd cc
+none_added held answers run (inr adds) =
+    let none : adds.0 ≡ [] = adds.1 in
+    let is : run ∷ [] ≡ adds.0 = adds.2 in
+    let gone : run ∷ [] ≡ [] = subst (λ (runs : List (Costs × ℕ)). run ∷ [] ≡ runs) none is in
+    absurd cc
+
+-- of a store that tells nothing it isn't told that no run is told of
+not_told : (answers : List HostAnswer) → TellsNoRun raw_words None answers → ⊥
+not_told answers none = none
