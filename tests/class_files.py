@@ -171,7 +171,7 @@ def row(*numbers):
 
 def parts(this_class=2, super_class=4, interfaces=(), fields=b"\0\0", methods=b"\0\0", listed=b"\0\0", more=(), count=None):
     """A class file by its indexes. Entry 1 is `A`, 2 its class, 3 and 4 Object, 5 `f`, 6 `I`, 7 `()V`, 8 `[I`, 9 its class;
-    `more` come after them. The count is that of the entries where it isn't told."""
+    `more` come after them. The count is that of the entries where it isn't given."""
     pool = Pool()
     for text in (b"A", OBJECT.encode()):
         pool.add(class_entry(pool.add(text_entry(text))))

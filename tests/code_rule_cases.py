@@ -1,5 +1,5 @@
 """The cases of `djvm check FOLDER` on the rules that are asked of constants, members and code, 9 to 16, in tests/cases;
-make_cases.py makes their folders. rule_cases.py tells how they are written, and has the other rules.
+make_cases.py makes their folders. rule_cases.py says how they are written, and has the other rules.
 
 A method that a rule doesn't refuse is named `near` and so on.
 """

@@ -58,7 +58,7 @@ def copy(source, target, backwards):
 
 
 def difference(wanted, outcome, before=None, after=None):
-    """The lines that tell how an outcome differs from the wanted one; none where it doesn't."""
+    """The lines that say how an outcome differs from the wanted one; none where it doesn't."""
     lines = []
     if outcome.status != wanted.status:
         lines.append("status: %s, wanted %s" % (outcome.status, wanted.status))

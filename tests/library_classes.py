@@ -1,6 +1,6 @@
 """The classes of the deterministic library and of the raw one, with their methods; the reference implementation takes them from here.
 
-They are told by the tables of docs/RULES.md and docs/LIBRARY.md. A name without a package is of java/lang, in descriptors too.
+They are those of the tables of docs/RULES.md and docs/LIBRARY.md. A name without a package is of java/lang, in descriptors too.
 """
 
 import re

@@ -1,5 +1,5 @@
 """The cases of `djvm check FOLDER` on rule 17, and on the arrays and handlers of rules 17 and 18, in tests/cases; make_cases.py
-makes their folders. rule_cases.py tells how they are written, and resolution_cases.py has those on rule 18.
+makes their folders. rule_cases.py says how they are written, and resolution_cases.py has those on rule 18.
 
 Most methods here have one instruction that names something: what it takes is pushed first, and what it leaves is taken away.
 So its number is how much it takes. A method that no rule refuses is named `near` and so on.
@@ -46,7 +46,7 @@ def uses(op, index, descriptor=""):
 
 
 def member(pool, op, text, tag=None):
-    """An instruction on the member that is told as `CLASS NAME DESCRIPTOR`; the tag is the one that the instruction asks."""
+    """An instruction on the member that is given as `CLASS NAME DESCRIPTOR`; the tag is the one that the instruction asks."""
     of_class, name, descriptor = text.split()
     asked = FIELD if op in FIELDS else INTERFACE_METHOD if op == INTERFACE else METHOD
     return uses(op, pool.member(tag or asked, of_class, name, descriptor), descriptor)
@@ -79,7 +79,7 @@ def handled(pool, name, *catch_types, body=NOP + RETURN, flags=PUBLIC | STATIC):
 
 
 def declared(name, *told, flags=PUBLIC | STATIC):
-    """Methods with code, told as name and descriptor."""
+    """Methods with code, given as name and descriptor."""
     ends = {"V": RETURN, "I": ZERO + b"\xac", "J": b"\x09\xad"}
     parted = [(text[: text.index("(")], text[text.index("(") :]) for text in (name, *told)]
     return [method(each, ends.get(text[-1], NULL + b"\xb0"), flags=flags, descriptor=text) for each, text in parted]
@@ -193,7 +193,7 @@ def told(kinds):
 
 
 def makes(pool, text):
-    """An object of the class, made by the constructor that is told."""
+    """An object of the class, made by the given constructor."""
     name, _, descriptor = text.split()
     made = names(NEW, pool.class_name(name)) + b"\x59" + b"".join(PUSHES[each[0]] for each in parameters(descriptor))
     return made + names(SPECIAL, pool.member(METHOD, *text.split())) + POP

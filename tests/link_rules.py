@@ -37,7 +37,7 @@ def classes_of(good, library):
 
 
 class SetClass:
-    """A class of the set as that of the library is told."""
+    """A class of the set, given as that of the library is."""
 
     def __init__(self, view):
         self.name, self.flags, self.super_class, self.interfaces = view.this_class, view.flags, view.super_class, view.interfaces

@@ -1,11 +1,11 @@
 #!/usr/bin/env python3
-"""Makes the folders of tests/cases anew.
+"""Makes the folders of tests/cases anew. `tests/generated` says whether they are as this makes them.
 
 The class files come from class_files.py, the cases of `djvm verify` from verify_cases.py, those of `djvm raw` from raw_cases.py, those on
 constant pools from pool_cases.py, and those on the rules of `djvm check` from rule_cases.py, code_rule_cases.py, link_rule_cases.py,
 resolution_cases.py, shape_rule_cases.py and shape_instruction_cases.py. The expected output and status of each case are those of reference.py, a small reference implementation
 that was written from the description of the commands and not from the program. The cases on rules say by hand which lines
-they have, and nothing is made where reference.py tells others. What a run of `raw` writes is told by hand, where reference.py comes to the run.
+they have, and nothing is made where reference.py gives others. What a run of `raw` writes is written by hand, where reference.py comes to the run.
 
 A case is a folder with `files/`, in which the program is run, `words`, one a line (an empty line is an empty word),
 `stdout` and `status`. An empty `.keep` makes a folder exist; it is no class file.
@@ -13,7 +13,6 @@ A case is a folder with `files/`, in which the program is run, `words`, one a li
 
 import os
 import shutil
-import subprocess
 import sys
 
 sys.dont_write_bytecode = True
@@ -55,7 +54,7 @@ cases = {}
 
 
 def case(name, files, words=("check", "c"), folders=()):
-    """Files are told by their paths in the case's folder; the folders are made too, empty."""
+    """Files are given by their paths in the case's folder; the folders are made too, empty."""
     assert name not in cases
     cases[name] = (files, list(words), list(folders))
 
@@ -502,9 +501,12 @@ def write(path, data):
 
 def outcome_of(inside, words):
     """What reference.py writes, run in this folder, and its status."""
-    command = [sys.executable, os.path.join(HERE, "reference.py"), *words]
-    ran = subprocess.run(command, cwd=inside, stdin=subprocess.DEVNULL, stdout=subprocess.PIPE)
-    return ran.stdout, ran.returncode
+    before = os.getcwd()
+    os.chdir(inside)
+    try:
+        return reference.outcome([os.fsencode(word) for word in words])
+    finally:
+        os.chdir(before)
 
 
 def told_lines(text):
@@ -518,8 +520,8 @@ def told_lines(text):
     return found
 
 
-def make(name, files, words, folders):
-    top = os.path.join(CASES, name)
+def make(target, name, files, words, folders):
+    top = os.path.join(target, name)
     inside = os.path.join(top, "files")
     os.makedirs(inside)
     for path, data in files.items():
@@ -540,14 +542,19 @@ def make(name, files, words, folders):
     write(os.path.join(top, "status"), b"%d\n" % status)
 
 
-def main():
+def make_all(target):
+    """Makes the folder of each case in this folder."""
     for name, made in [*pool_cases.found.items(), *verify_cases.found.items(), *raw_cases.found.items()]:
         case(name, *made)
     for name, (files, _) in rule_cases.found.items():
         case(name, files)
-    shutil.rmtree(CASES, ignore_errors=True)
     for name, made in cases.items():
-        make(name, *made)
+        make(target, name, *made)
+
+
+def main():
+    shutil.rmtree(CASES, ignore_errors=True)
+    make_all(CASES)
     print("%d cases" % len(cases))
 
 

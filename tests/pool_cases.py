@@ -220,7 +220,7 @@ case(
         "long-last": parts(more=[LONG], count=11),
         "double-last": parts(more=[DOUBLE], count=11),
         "double-after-long-last": parts(more=[LONG, DOUBLE], count=13),
-        # The count is told as if each took one index, and the other way round.
+        # The count is given as if each took one index, and the other way round.
         "long-of-one-index": parts(more=[LONG, DOUBLE], count=12),
         "integer-of-two-indexes": parts(more=[INTEGER], count=12),
         "long-alone": u4(0xCAFEBABE) + row(0, 52, 2) + LONG + row(0x21, 1, 0, 0, 0, 0, 0),

@@ -1,5 +1,5 @@
 """The cases of `djvm raw FOLDER ENTRY INPUT` in tests/cases that the words, the limits and the rules decide; make_cases.py makes their
-folders. Where the run decides, which reference.py doesn't make, its report is told here by hand. Those of tests/raw go through
+folders. Where the run decides, which reference.py doesn't make, its report is written here by hand. Those of tests/raw go through
 what runs do."""
 
 from class_files import NATIVE, PUBLIC, STATIC, RETURNS_ITS_ARGUMENT, class_file, native, straight
@@ -12,7 +12,7 @@ returns = straight(instructions("aload_0, areturn"))
 bad_shape = straight(instructions("areturn"))
 
 found = {}
-# What a run writes, and its status, by the names of the cases. The others are told by reference.py.
+# What a run writes, and its status, by the names of the cases. The others are those of reference.py.
 told = {}
 
 RAW = ["raw", "c", "A", "in"]
@@ -24,7 +24,7 @@ def stopped(steps):
 
 
 def case(name, files, entry="A", words=None, ran=None, folders=()):
-    """Files are told by their paths in the case's folder; the input is `in`."""
+    """Files are given by their paths in the case's folder; the input is `in`."""
     name = "raw-" + name
     assert name not in found
     found[name] = ({**files, "in": b"\x0a\x0b"}, words or ["raw", "c", entry, "in"], folders)

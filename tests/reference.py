@@ -609,15 +609,18 @@ def read(path, most):
         raise Failed
 
 
-def main():
-    words = [os.fsencode(word) for word in sys.argv[1:]]
+def outcome(words):
+    """What is written for these words, each as bytes, in the folder where this runs, and the status."""
     if not all(is_utf8(word) for word in words):
-        text, status = b"USAGE\n", USAGE
-    else:
-        try:
-            text, status = report([word.decode("utf-8") for word in words])
-        except Failed:
-            text, status = b"", FAULT
+        return b"USAGE\n", USAGE
+    try:
+        return report([word.decode("utf-8") for word in words])
+    except Failed:
+        return b"", FAULT
+
+
+def main():
+    text, status = outcome([os.fsencode(word) for word in sys.argv[1:]])
     try:
         while text:
             text = text[os.write(1, text) :]

@@ -1,5 +1,5 @@
 """The cases of `djvm check FOLDER` on rule 18, on what keeps 17 and 18 silent, and on sets, in tests/cases; make_cases.py makes
-their folders. link_rule_cases.py tells how they are written, and has those on rule 17, on arrays and on handlers.
+their folders. link_rule_cases.py says how they are written, and has those on rule 17, on arrays and on handlers.
 """
 
 from class_files import ABSTRACT, FIELD, INTEGER, INTERFACE_METHOD, LONG, METHOD, PUBLIC, STATIC, Pool, class_file, invoke_dynamic, method_handle

@@ -1,7 +1,7 @@
 """The cases of `djvm check FOLDER` on the rules that are asked of whole files and of sets of them, 1 to 8, in tests/cases;
 make_cases.py makes their folders. code_rule_cases.py has those of the other rules.
 
-Each case says by hand which lines its report has, and make_cases.py asks that reference.py tells just these. A line is written
+Each case says by hand which lines its report has, and make_cases.py asks that reference.py gives just these. A line is written
 `PATH RULE`, `PATH MEMBER RULE` or `PATH MEMBER NUMBER RULE`, without `.class` and the rule's name. Files that are
 malformed are named for what is wrong with them.
 """
@@ -150,7 +150,7 @@ refused(
 
 
 def table(low, high, *targets, padding=b"\0\0", op=0xAA):
-    """nop, iconst_0, then a switch at 2 whose default and targets are told from 2 on."""
+    """nop, iconst_0, then a switch at 2 whose default and targets are given from 2 on."""
     numbers = [targets[0], low, high, *targets[1:]]
     return NOP + ZERO + u1(op) + padding[:1] + b"".join(number.to_bytes(4, "big", signed=True) for number in numbers)
 

@@ -1,5 +1,5 @@
 """The cases of `djvm check FOLDER` on what each instruction takes and leaves by rule 19, in tests/cases; make_cases.py makes their
-folders. shape_rule_cases.py tells how they are written, and has the others on this rule.
+folders. shape_rule_cases.py says how they are written, and has the others on this rule.
 """
 
 from class_files import ABSTRACT, PUBLIC, STATIC, class_file

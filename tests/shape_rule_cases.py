@@ -1,8 +1,8 @@
 """The cases of `djvm check FOLDER` on rule 19 in tests/cases, but for those on what each instruction takes and leaves, which
-shape_instruction_cases.py has; make_cases.py makes their folders. rule_cases.py tells how cases are written, shaped_code.py how code is.
+shape_instruction_cases.py has; make_cases.py makes their folders. rule_cases.py says how cases are written, shaped_code.py how code is.
 
 The instruction of which a method has a line is marked with `!` in its text. A method that has shape is named `near` and so on. Methods have
-room for nine operands and nine local variables where nothing else is told.
+room for nine operands and nine local variables where nothing else is said.
 """
 
 from class_files import ABSTRACT, PUBLIC, STATIC, Pool, class_file, native, row, u4
@@ -147,7 +147,7 @@ shaped(
 )
 shaped(
     "19-2-the-first-frame",
-    # Frames are asked before instructions, and the first that fails is told.
+    # Frames are asked before instructions, and the first that fails is reported.
     Method("beforeInstructions", "pop, nop, !{stack top} nop, {chop 1} return"),
     Method("ofTwo", "nop, !{chop 1} nop, {stack top} return"),
     Method("atTheStart", "!{chop 1} nop, return"),
@@ -199,7 +199,7 @@ case(
     "B floats(F)V 12",
 )
 
-# 3. What flows into a frame has its operands, and each kind that it tells of a local variable.
+# 3. What flows into a frame has its operands, and each kind that it has of a local variable.
 
 shaped(
     "19-3-into-the-first-frame",
@@ -553,7 +553,7 @@ shaped(
     told=["A f()LA(I)LB; 0 14"],
 )
 
-# Of one method the first instruction that fails is told, once.
+# Of one method the first instruction that fails is reported, once.
 
 shaped(
     "19-the-first-instruction",

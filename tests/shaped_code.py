@@ -4,7 +4,7 @@ A text has instructions, separated by commas, as
 
     iconst_0, ifeq Else, goto End, Else: {same} nop, !End: {append int} return
 
-Before an instruction may stand labels, each with a colon; its frame in braces; and `!`, by which a case tells that rule 19 has
+Before an instruction may stand labels, each with a colon; its frame in braces; and `!`, by which a case says that rule 19 has
 this instruction's number. An instruction is a name of JVMS 6.5 and its operands: a number, a slot, labels, a type of newarray, a class, or
 a class, a name and a descriptor. `wide` stands before the name. A tableswitch has its least number and a label for each number from there on,
 a lookupswitch a number and a label for each; the last word is the default's label. ldc and its like have the name of a constant.
@@ -100,7 +100,7 @@ class Body:
         return *map(self.address, (start, end, handler)), self.pool.class_name(of_class) if of_class else 0
 
     def bytes_of(self, words, at, target=None):
-        """The bytes of an instruction at this address; each label stands for the target, where one is told."""
+        """The bytes of an instruction at this address; each label stands for the target, where one is given."""
 
         def offset(label, size):
             return signed(self.address(label) - at if target is None else target, size)
@@ -193,7 +193,7 @@ class Body:
 
 
 class Method:
-    """A method that a case tells: its name and its descriptor, `()V` where it has none, with a blank between them where the name has a
+    """A method that a case has: its name and its descriptor, `()V` where it has none, with a blank between them where the name has a
     parenthesis too; and its text."""
 
     def __init__(self, head, text, rows="", flags=PUBLIC | STATIC, stack=9, locals=9):
@@ -209,7 +209,7 @@ class Method:
 
 
 def made_all(pool, methods, of_file="A"):
-    """The methods, and the lines that are told of them."""
+    """The methods, and the lines that they have."""
     made, lines = [], []
     for one in methods:
         method, number = one.made(pool)

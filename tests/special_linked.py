@@ -1,5 +1,5 @@
 """A class that names what stands beside it and above it in each way: each of its bytes is changed in turn, and it is checked beside the
-others of its set. What is wanted is told by reference.py; of a third of the sets the rules 1 to 6 hold, so 17 and 18 are judged.
+others of its set. What is wanted is what reference.py says; of a third of the sets the rules 1 to 6 hold, so 17 and 18 are judged.
 """
 
 import os

@@ -13,7 +13,7 @@ from harness import Outcome
 HERE = os.path.dirname(os.path.abspath(__file__))
 TOP = os.path.dirname(HERE)
 
-# The commands that the pages show, with what they print; the report's first word tells the status.
+# The commands that the pages show, with what they print; the report's first word gives the status.
 
 PAGES = ("README.md", "docs/ASSEMBLER.md", *("examples/%s/README.md" % folder for folder in ("assembler", "first", "javac", "raw", "rules", "straight")))
 SHOWN_STATUS = {b"ACCEPTED": 0, b"OK": 0, b"EXCEPTION": 1, b"REJECTED": 2, b"THRESHOLD": 3, b"DEPTH": 4, b"INIT": 5, b"LINK": 6, b"LIMIT": 7}

@@ -1,4 +1,4 @@
-"""Methods that are drawn at random, the same in each run, which `check` judges by rule 19; what is wanted is told by reference.py.
+"""Methods that are drawn at random, the same in each run, which `check` judges by rule 19; what is wanted is what reference.py says.
 
 Those named `near` have shape by the way they are drawn: each instruction is one that finds what it takes, each jump goes to a frame into which
 the state flows, and each handler has a frame that fits its range. Those named `changed` are such methods, changed in one place. Those named
@@ -49,7 +49,7 @@ class Part:
 
 
 class Drawn:
-    """A method as it is drawn: its parts and its rows, which are told by numbers of instructions."""
+    """A method as it is drawn: its parts and its rows, which are given by numbers of instructions."""
 
     def __init__(self, draw):
         self.draw, self.parts, self.rows, self.count = draw, [], [], 0
@@ -196,7 +196,7 @@ class WithShape(Drawn):
     # Frames.
 
     def place(self, label, locals, stack):
-        """A frame at the next instruction, which tells these kinds or fewer."""
+        """A frame at the next instruction, which has these kinds or fewer."""
         self.locals = [kind if self.draw.random() < 0.8 else None for kind in locals]
         self.stack = list(stack)
         self.give([])
@@ -224,7 +224,7 @@ class WithShape(Drawn):
     # A handler stands behind all else.
 
     def handler(self, count):
-        """One of so many rows; its frame tells what all of their ranges have."""
+        """One of so many rows; its frame has what all of their ranges have."""
         spans = [self.span() for _ in range(count)]
         states = [state for start, end in spans for state in self.before[start:end]]
         common = [kinds[0] if len(set(kinds)) == 1 else None for kinds in zip(*states)]

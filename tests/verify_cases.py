@@ -24,7 +24,7 @@ found = {}
 
 
 def case(name, files, entry="A", data=b"\x0a\x0b", words=None, folders=()):
-    """Files are told by their paths in the case's folder; the input is `in`."""
+    """Files are given by their paths in the case's folder; the input is `in`."""
     name = "verify-" + name
     assert name not in found
     found[name] = ({**files, "in": data}, words or ["verify", "c", entry, "in"], folders)

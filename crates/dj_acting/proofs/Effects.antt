@@ -179,7 +179,7 @@ object_there heap (values.Ref r ∷ rest) is = by (nat_eq r 0) refl is where
       let some : 0 < r = grind (arith, nat_tests) in
       absurd (none_past heap.objects (r - 1) (omega (arith, some, le)) none)
 
-module _ (imaged : Imaged) (m : Machine) (is : IsHeap imaged m.frames m.store.heap) (class : Ty) (k : ℕ) (at : types imaged k ≡ class) where
+module _ (imaged : Imaged) (m : Machine) (there : IsTopThere m.store.heap.heap (top m)) (class : Ty) (k : ℕ) (at : types imaged k ≡ class) where
   abbrev below : ℕ → Bool
   below = below_of (program_of imaged) imaged.prefix (types_of (typed_of imaged)) k
 
@@ -190,32 +190,32 @@ module _ (imaged : Imaged) (m : Machine) (is : IsHeap imaged m.frames m.store.he
   unfolding effect
   cast_is terms own account answers limit =
       check_cast_is (program_of imaged) imaged.prefix (types_of (typed_of imaged)) class below (part_of imaged m account answers) m.store.heap.heap tells refl
-      (object_there m.store.heap.heap (top m) is.top)
+      (object_there m.store.heap.heap (top m) there)
 
   pub instance_is : IsOnHeap imaged (model.InstanceOf class) m (instance_of_by below)
   unfolding effect
   instance_is terms own account answers limit =
       instance_of_is (program_of imaged) imaged.prefix (types_of (typed_of imaged)) class below (part_of imaged m account answers) m.store.heap.heap tells refl
-      (object_there m.store.heap.heap (top m) is.top)
+      (object_there m.store.heap.heap (top m) there)
 
-pub throw_is : (imaged : Imaged) (m : Machine) → IsHeap imaged m.frames m.store.heap → (k : ℕ) → types imaged k ≡ class_type (throwable_name imaged.prefix)
+pub throw_is : (imaged : Imaged) (m : Machine) → IsTopThere m.store.heap.heap (top m) → (k : ℕ) → types imaged k ≡ class_type (throwable_name imaged.prefix)
     → IsThrown imaged model.Throw m (throw_by (below_of (program_of imaged) imaged.prefix (types_of (typed_of imaged)) k) m.store.heap.heap (top_operands m.frames))
 unfolding effect
-throw_is imaged m is k at terms own account answers =
+throw_is imaged m there k at terms own account answers =
     throw_top_is (program_of imaged) imaged.prefix (types_of (typed_of imaged)) (below_of (program_of imaged) imaged.prefix (types_of (typed_of imaged)) k) (part_of imaged m account answers)
-    m.store.heap.heap (tells imaged m is (class_type (throwable_name imaged.prefix)) k at) refl (object_there m.store.heap.heap (top m) is.top)
+    m.store.heap.heap (tells imaged m there (class_type (throwable_name imaged.prefix)) k at) refl (object_there m.store.heap.heap (top m) there)
 
 -- ---- on fields
 
 -- which instances have a field is told by the names of their classes
-instances_tell : (imaged : Imaged) (m : Machine) → IsHeap imaged m.frames m.store.heap → (name : Name) (r class : ℕ) (fields : List ℕ) → object_at m.store.heap.heap.objects r ≡ Some (Instance class fields)
+instances_tell : (imaged : Imaged) (m : Machine) → IsHeap imaged m.store.heap → (name : Name) (r class : ℕ) (fields : List ℕ) → object_at m.store.heap.heap.objects r ≡ Some (Instance class fields)
     → has_of (program_of imaged) (types_of (typed_of imaged)) name most_classes class ≡ is_among (chain (program_of imaged) (member_class imaged.prefix (types imaged class))) name
 instances_tell imaged m is name r class fields there =
     let own = is.instances r class fields there in
     ap (λ (ty : Ty). among_above (program_of imaged) name most_classes ty.dims ty.of) own.1
     ∙ ap (λ (ty : Ty). is_among (chain (program_of imaged) (member_class imaged.prefix ty)) name) (sym own.1)
 
-module _ (imaged : Imaged) (m : Machine) (is : IsHeap imaged m.frames m.store.heap) (member : Member) (found : FoundField) (kind : Kind)
+module _ (imaged : Imaged) (m : Machine) (is : IsHeap imaged m.store.heap) (member : Member) (found : FoundField) (kind : Kind)
     (resolves : resolve_field (program_of imaged) imaged.prefix member ≡ Some found) (kind_is : field_kind member.desc ≡ Some kind) where
   abbrev has : ℕ → Bool
   has = has_of (program_of imaged) (types_of (typed_of imaged)) found.class most_classes

@@ -26,7 +26,7 @@ use Rattle.dj_types.specs.Members.{field_count_at}
 use Rattle.dj_image.specs.Imaged.{Imaged, program_of, typed_of}
 use Rattle.dj_initialising.specs.Store.{store}
 use Rattle.dj_acting.specs.declared.acted.Acted.{Acted}
-use Rattle.dj_acting.specs.Acting.{Acts, ActsOnHeap, IsHeap, machine}
+use Rattle.dj_acting.specs.Acting.{Acts, ActsOnHeap, IsTopThere, machine}
 use Rattle.dj_acting.specs.Flows.{flow_acted, thrown_acted}
 use Rattle.dj_acting.proofs.Told.{IsOnHeap, heap_acted, throw_acted}
 use Rattle.dj_acting.proofs.Effects.{new_object_is, throw_is}
@@ -42,13 +42,13 @@ acted_on_heap imaged i old new before after flow acted effect_of is on does stat
     (heap_acted imaged i old new before after statics literals flow effect_of (on statics literals) does are)
 
 pub thrown_on_heap : (imaged : Imaged) (old new : List StackFrame) (heap : LimitedHeap) (k : ℕ) (t : Option Thrown) (acted : Acted) → acted ≡ thrown_acted t
-    → IsHeap imaged old heap → type_at (types_of (typed_of imaged)) k ≡ class_type (throwable_name imaged.prefix)
+    → IsTopThere heap.heap (top_operands old) → type_at (types_of (typed_of imaged)) k ≡ class_type (throwable_name imaged.prefix)
     → t ≡ throw_by (below_of (program_of imaged) imaged.prefix (types_of (typed_of imaged)) k) heap.heap (top_operands old) → SameButOperands old new
     → ActsOnHeap imaged model.Throw old new heap heap acted
-thrown_on_heap imaged old new heap k t acted is known at told same statics literals are =
+thrown_on_heap imaged old new heap k t acted is there at told same statics literals are =
     subst (Acts imaged model.Throw (machine old (store heap statics literals)) (machine new (store heap statics literals))) (sym (is ∙ ap thrown_acted told))
     (throw_acted imaged model.Throw old new (store heap statics literals) (throw_by (below_of (program_of imaged) imaged.prefix (types_of (typed_of imaged)) k) heap.heap (top_operands old))
-    (throw_is imaged (machine old (store heap statics literals)) known k at) same are)
+    (throw_is imaged (machine old (store heap statics literals)) there k at) same are)
 
 pub new_on_heap : (imaged : Imaged) (old new : List StackFrame) (before after : LimitedHeap) (class fields : ℕ) (name : Name) (flow : Flow) (acted : Acted) → acted ≡ flow_acted (Some flow)
     → name_at (program_of imaged) class ≡ Some name → fields ≡ field_count_at (typed_of imaged) class

@@ -1,5 +1,5 @@
 -- The field of a number is that of the member which resolves to it.
-use Rattle.std.proofs.Common.{◌≡◌, ◌+◌, ℕ, Bool, List, Option, Some, None, refl, sym, ap, subst, ◌∙◌}
+use Rattle.std.proofs.Common.{◌≡◌, ◌+◌, ℕ, List, Option, Some, None, refl, sym, ap, subst, ◌∙◌}
 use Rattle.std.specs.Prelude.{slice_get}
 use Rattle.std.specs.Option.{option_map}
 use Rattle.std.proofs.lemmas.Option.{same_Some}
@@ -10,22 +10,19 @@ use Rattle.dj_names.specs.Types.{Name, field_kind}
 use Rattle.dj_model.specs.Types.{Member}
 use Rattle.dj_model.specs.Instructions as model
 use Rattle.dj_model.specs.Program.{Program, class_at}
-use Rattle.dj_model.specs.Linking.{FoundField, chain, fields_in, most_classes, own_place, place_of, superclasses}
+use Rattle.dj_model.specs.Linking.{FoundField, chain, fields_in, own_place, place_of, superclasses}
 use Rattle.dj_model.specs.Effects.{effect}
 use Rattle.dj_heap.specs.Heaps.{LimitedHeap}
 use Rattle.dj_stack.specs.Frames.{StackFrame}
 use Rattle.dj_effects.specs.DoesOnHeap.{DoesOnHeap}
 use Rattle.dj_effects.specs.declared.way.Flow.{Flow}
 use Rattle.dj_members.specs.Fields.{get_field_by, put_field_by}
-use Rattle.dj_members.specs.Numbering.{TellsHolders, has_of}
 use Rattle.dj_members.specs.declared.fields.FieldAccess.{FieldAccess}
-use Rattle.dj_calls.specs.Known.{AreKnown}
-use Rattle.dj_types.specs.Typed.{types_of}
+use Rattle.dj_classes.specs.Tables.{name_at}
 use Rattle.dj_types.specs.Members.{all_fields, IsFieldThere}
 use Rattle.dj_types.specs.declared.types.MemberOf.{MemberOf}
 use Rattle.dj_image.specs.Imaged.{Imaged, program_of, typed_of}
-use Rattle.dj_image.specs.Numbering.{AreSettled}
-use Rattle.dj_standing.proofs.Wholes.{images_tell}
+use Rattle.dj_standing.specs.Holders.{has_named, holds}
 use Rattle.dj_initialising.specs.Store.{store}
 use Rattle.dj_acting.specs.declared.acted.Acted.TheVariants as acts
 use Rattle.dj_acting.specs.Accesses.{IsAccess, IsAccessTo}
@@ -33,8 +30,6 @@ use Rattle.dj_acting.specs.Acting.{ActsOnHeap, IsHeap, IsMember, machine}
 use Rattle.dj_acting.specs.Flows.{flow_acted}
 use Rattle.dj_acting.proofs.Told.{heap_acted, stuck_acted}
 use Rattle.dj_acting.proofs.Effects.{get_is, put_is}
-use Rattle.dj_acting.proofs.KnownHeaps.{put_known}
-use Rattle.dj_acting.proofs.Standing.{class_there}
 
 abbrev place_by : Program → Name → Name → Desc → ℕ
 place_by program class name desc = fields_in program (superclasses (chain program class)) + own_place (class_at program class) name desc
@@ -65,7 +60,7 @@ module _ (imaged : Imaged) (member : Member) (found : FoundField) (n : ℕ) (is 
       stuck_acted imaged (model.PutField member) (machine old (store heap statics literals))
       (λ terms own p. rw (kind_alike is.other is.there None (none is.other is.there)) refl)
 
-  module _ (settled : AreSettled (typed_of imaged)) (access : FieldAccess) (to : IsAccessTo imaged n access) where
+  module _ (access : FieldAccess) (to : IsAccessTo imaged n access) where
     same : to.found ≡ is.other
     same = same_Some to.found is.other (sym to.there ∙ is.there)
 
@@ -75,45 +70,27 @@ module _ (imaged : Imaged) (member : Member) (found : FoundField) (n : ℕ) (is 
     place_is : access.place ≡ place_of (program_of imaged) found
     place_is = to.place ∙ (ap (place_of (program_of imaged)) same ∙ place_alike (program_of imaged) is.other found is.class is.name is.desc)
 
-    tells : TellsHolders (types_of (typed_of imaged)) (program_of imaged) access.declaring (has_of (program_of imaged) (types_of (typed_of imaged)) found.class)
-    tells = images_tell imaged settled access.declaring found.class
-        (class_there (program_of imaged) imaged.arrays access.declaring found.class (to.class ∙ ap Some (ap (λ (f : FoundField). f.class) same ∙ is.class)))
+    -- which classes have the field is told by the name of the one that declares it
+    named : name_at (program_of imaged) access.declaring ≡ Some found.class
+    named = to.class ∙ ap Some (ap (λ (f : FoundField). f.class) same ∙ is.class)
 
-    abbrev TellsGet : List StackFrame → List StackFrame → LimitedHeap → Option Flow → Type 0
-    TellsGet old new heap flow = (has : ℕ → ℕ → Bool) → TellsHolders (types_of (typed_of imaged)) (program_of imaged) access.declaring has
-        → DoesOnHeap (get_field_by (has most_classes) access.kind access.place) old new heap heap flow
-
-    abbrev TellsPut : List StackFrame → List StackFrame → LimitedHeap → LimitedHeap → Option Flow → Type 0
-    TellsPut old new before after flow = (has : ℕ → ℕ → Bool) → TellsHolders (types_of (typed_of imaged)) (program_of imaged) access.declaring has
-        → DoesOnHeap (put_field_by (has most_classes) access.kind access.place) old new before after flow
-
-    pub got : (old new : List StackFrame) (heap : LimitedHeap) (flow : Option Flow) → IsHeap imaged old heap → TellsGet old new heap flow
+    pub got : (old new : List StackFrame) (heap : LimitedHeap) (flow : Option Flow) → IsHeap imaged heap
+        → DoesOnHeap (get_field_by (holds imaged access.declaring) access.kind access.place) old new heap heap flow
         → ActsOnHeap imaged (model.GetField member) old new heap heap (flow_acted flow)
     got old new heap flow known does statics literals are =
         heap_acted imaged (model.GetField member) old new heap heap statics literals flow _
         (get_is imaged (machine old (store heap statics literals)) known member found access.kind is.resolves kind_is)
-        (subst (λ (place : ℕ). DoesOnHeap (get_field_by (has_of (program_of imaged) (types_of (typed_of imaged)) found.class most_classes) access.kind place) old new heap heap flow) place_is
-        (does (has_of (program_of imaged) (types_of (typed_of imaged)) found.class) tells)) are
+        (subst (λ (place : ℕ). DoesOnHeap (get_field_by (has_named imaged (Some found.class)) access.kind place) old new heap heap flow) place_is
+        (subst (λ (name : Option Name). DoesOnHeap (get_field_by (has_named imaged name) access.kind access.place) old new heap heap flow) named does)) are
 
-    pub put : (old new : List StackFrame) (before after : LimitedHeap) (flow : Option Flow) → IsHeap imaged old before → TellsPut old new before after flow
+    pub put : (old new : List StackFrame) (before after : LimitedHeap) (flow : Option Flow) → IsHeap imaged before
+        → DoesOnHeap (put_field_by (holds imaged access.declaring) access.kind access.place) old new before after flow
         → ActsOnHeap imaged (model.PutField member) old new before after (flow_acted flow)
     put old new before after flow known does statics literals are =
         heap_acted imaged (model.PutField member) old new before after statics literals flow _
         (put_is imaged (machine old (store before statics literals)) known member found access.kind is.resolves kind_is)
-        (subst (λ (place : ℕ). DoesOnHeap (put_field_by (has_of (program_of imaged) (types_of (typed_of imaged)) found.class most_classes) access.kind place) old new before after flow) place_is
-        (does (has_of (program_of imaged) (types_of (typed_of imaged)) found.class) tells)) are
-
--- ---- the heap is known still
-
-pub put_keeps : (imaged : Imaged) (n : ℕ) → AreSettled (typed_of imaged) → (access : FieldAccess) → IsAccessTo imaged n access → (old new : List StackFrame) (before after : LimitedHeap) (flow : Flow)
-    → AreKnown (types_of (typed_of imaged)) before
-    → ((has : ℕ → ℕ → Bool) → TellsHolders (types_of (typed_of imaged)) (program_of imaged) access.declaring has
-    → DoesOnHeap (put_field_by (has most_classes) access.kind access.place) old new before after (Some flow))
-    → AreKnown (types_of (typed_of imaged)) after
-put_keeps imaged n settled access to old new before after flow known does =
-    let has : ℕ → ℕ → Bool = has_of (program_of imaged) (types_of (typed_of imaged)) to.found.class in
-    put_known (types_of (typed_of imaged)) (has most_classes) access.kind access.place old new before after flow known
-    (does has (images_tell imaged settled access.declaring to.found.class (class_there (program_of imaged) imaged.arrays access.declaring to.found.class to.class)))
+        (subst (λ (place : ℕ). DoesOnHeap (put_field_by (has_named imaged (Some found.class)) access.kind place) old new before after flow) place_is
+        (subst (λ (name : Option Name). DoesOnHeap (put_field_by (has_named imaged name) access.kind access.place) old new before after flow) named does)) are
 
 -- ---- what is found of the field of a number
 

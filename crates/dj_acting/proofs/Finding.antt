@@ -366,12 +366,12 @@ if_call : (b : Bool) (i j : Instruction) → is_call_or_other i ≡ true → is_
 if_call true i j a c = a
 if_call false i j a c = c
 
-method_call : (op : ℕ) (m : Member) → is_call_or_other (member op (AMethod m)) ≡ true
+pub method_call : (op : ℕ) (m : Member) → is_call_or_other (member op (AMethod m)) ≡ true
 method_call op m =
     if_call (nat_eq op 182) (model.Invoke model.Virtual m) _ refl
     (if_call (nat_eq op 183) (model.Invoke model.Special m) _ refl (if_call (nat_eq op 184) (model.Invoke model.Static m) _ refl refl))
 
-interface_method_call : (op : ℕ) (m : Member) → is_call_or_other (member op (AnInterfaceMethod m)) ≡ true
+pub interface_method_call : (op : ℕ) (m : Member) → is_call_or_other (member op (AnInterfaceMethod m)) ≡ true
 interface_method_call op m = if_call (nat_eq op 183) (model.Invoke model.Special m) _ refl (if_call (nat_eq op 184) (model.Invoke model.Static m) _ refl refl)
 
 method_taken : (instr : Instr) (m : Member) → takes_named instr (AMethod m) ≡ true → is_call_or_other (instruction_of instr (AMethod m)) ≡ true

@@ -1,10 +1,8 @@
 -- What instructions make of a heap whose objects are known: they are known still.
 use Rattle.std.proofs.Common.{◌≡◌, ◌+◌, ◌-◌, ◌<◌, ◌≤◌, ◌++◌, ℕ, ℤ, pos, negsuc, Bool, true, false, List, [], ◌∷◌, length, set, replicate, Option, Some, None, nat_eq, if◌then◌else◌, Ok, Err, refl, sym, ap, subst, arith}
-use Rattle.std.specs.Prelude.{⊤, slice_get, unsigned_abs}
+use Rattle.std.specs.Prelude.{⊤, slice_get}
 use Rattle.std.specs.List.{All}
-use Rattle.std.proofs.lemmas.Bool.{false≢true}
-use Rattle.std.proofs.lemmas.List.{length-append, length-set}
-use Rattle.std.proofs.lemmas.List.Elements.{All-get_or, All-push, All-replicate, All-set, All-weaker}
+use Rattle.std.proofs.lemmas.List.Elements.{All-get_or, All-push, All-set, All-weaker}
 use Rattle.std.proofs.lemmas.Option.{get_or_from_slice_get, slice_get_within}
 use Rattle.dj_names.specs.declared.descriptor.Kind.{Kind}
 use Rattle.dj_names.specs.declared.descriptor.Ty.{Ty}
@@ -17,7 +15,6 @@ use Rattle.dj_names.specs.Heaps.{Object, Instance, Array, Text, Heap, array_size
 use Rattle.dj_natives.specs.Numbered.{type_at, holds_references}
 use Rattle.dj_model.specs.Instructions as model
 use Rattle.dj_model.specs.Instructions.{Access}
-use Rattle.dj_model.specs.Natives.{is_reference}
 use Rattle.dj_model.specs.Numbers.{is_of_kind}
 use Rattle.dj_model.specs.State.{Next}
 use Rattle.dj_model.specs.Arrays as arrays
@@ -31,8 +28,7 @@ use Rattle.dj_members.specs.Fields.{Holder, Holds, NoHolder, holder_by, holder_i
 use Rattle.dj_members.specs.Literals.{DoesOnLiterals, LiteralTable, OnLiterals, literal_flows, object_of, push_text_by, pushed}
 use Rattle.dj_members.specs.Numbering.{AreNumbered}
 use Rattle.dj_members.specs.Objects.{new_by}
-use Rattle.dj_calls.specs.Known.{AreKnown, HoldsThere, IsClassType, IsKnown}
-use Rattle.dj_acting.specs.Acting.{IsThere, IsTopThere}
+use Rattle.dj_calls.specs.Known.{AreKnown, IsClassType, IsKnown}
 use Rattle.dj_acting.specs.Elements.{HoldsElements}
 
 -- ---- an object by its number
@@ -41,17 +37,17 @@ found_there : {X : Type 0} (b : Bool) (found : Option X) (x : X) → (if b then 
 found_there true found x e = absurd cc
 found_there false found x e = e
 
-known_at : (types : List Ty) (h : LimitedHeap) → AreKnown types h → (r : ℕ) (object : Object ℕ) → object_at h.heap.objects r ≡ Some object → IsKnown types (length h.heap.objects) object
+known_at : (types : List Ty) (h : LimitedHeap) → AreKnown types h → (r : ℕ) (object : Object ℕ) → object_at h.heap.objects r ≡ Some object → IsKnown types object
 known_at types h known r object at =
     let there : slice_get h.heap.objects (r - 1) ≡ Some object = found_there (nat_eq r 0) (slice_get h.heap.objects (r - 1)) object at in
-    subst (IsKnown types (length h.heap.objects)) (get_or_from_slice_get h.heap.objects (r - 1) object object there)
-    (All-get_or (IsKnown types (length h.heap.objects)) h.heap.objects (r - 1) object (slice_get_within h.heap.objects (r - 1) object there) known)
+    subst (IsKnown types) (get_or_from_slice_get h.heap.objects (r - 1) object object there)
+    (All-get_or (IsKnown types) h.heap.objects (r - 1) object (slice_get_within h.heap.objects (r - 1) object there) known)
 
 -- ---- what is told of the classes of objects
 
 pub classes_numbered : (types : List Ty) (h : LimitedHeap) → AreKnown types h → AreNumbered (length types) h.heap
 classes_numbered types h known =
-    All-weaker (IsKnown types (length h.heap.objects)) (λ object. class_of object < length types) (λ object is. is.class) h.heap.objects known
+    All-weaker (IsKnown types) (λ object. class_of object < length types) (λ object is. is.class) h.heap.objects known
 
 pub instance_named : (types : List Ty) (h : LimitedHeap) → AreKnown types h → (r class : ℕ) (fields : List ℕ) → object_at h.heap.objects r ≡ Some (Instance class fields) → IsClassType (type_at types class)
 instance_named types h known r class fields at = (known_at types h known r (Instance class fields) at).holds
@@ -63,29 +59,14 @@ array_holds types h known r class contents at = (known_at types h known r (Array
 -- ---- one object more, and another in the place of one
 
 abbrev pub AllKnown : List Ty → Heap ℕ → Type 0
-AllKnown types heap = All (IsKnown types (length heap.objects)) heap.objects
-
-there_more : (count more : ℕ) → count ≤ more → (object : Object ℕ) → HoldsThere count object → HoldsThere more object
-there_more count more le (Instance class fields) there = tt
-there_more count more le (Array class element contents) there = λ e.
-    All-weaker (λ z. unsigned_abs z ≤ count) (λ z. unsigned_abs z ≤ more) (λ z is. omega (arith, is, le)) contents (there e)
-there_more count more le (Text class units) there = tt
-
-known_more : (types : List Ty) (count more : ℕ) → count ≤ more → (object : Object ℕ) → IsKnown types count object → IsKnown types more object
-known_more types count more le object is = record { class = is.class; holds = is.holds; there = there_more count more le object is.there }
+AllKnown types heap = All (IsKnown types) heap.objects
 
 module _ (types : List Ty) (heap : Heap ℕ) (known : AllKnown types heap) where
-  made_known : (object : Object ℕ) → IsKnown types (length heap.objects) object → AllKnown types (with_new heap object)
-  made_known object is =
-      let long = length-append heap.objects (object ∷ []) in
-      All-weaker (IsKnown types (length heap.objects)) (IsKnown types (length (heap.objects ++ object ∷ [])))
-      (λ o. known_more types (length heap.objects) (length (heap.objects ++ object ∷ [])) (omega (arith, long)) o)
-      (heap.objects ++ object ∷ []) (All-push (IsKnown types (length heap.objects)) heap.objects object known is)
+  made_known : (object : Object ℕ) → IsKnown types object → AllKnown types (with_new heap object)
+  made_known object is = All-push (IsKnown types) heap.objects object known is
 
-  replaced_known : (r : ℕ) (object : Object ℕ) → IsKnown types (length heap.objects) object → AllKnown types (with_object heap r object)
-  replaced_known r object is =
-      subst (λ (n : ℕ). All (IsKnown types n) (set heap.objects (r - 1) object)) (sym (length-set heap.objects (r - 1) object))
-      (All-set (IsKnown types (length heap.objects)) heap.objects (r - 1) object is known)
+  replaced_known : (r : ℕ) (object : Object ℕ) → IsKnown types object → AllKnown types (with_object heap r object)
+  replaced_known r object is = All-set (IsKnown types) heap.objects (r - 1) object is known
 
   -- ---- elements
 
@@ -104,51 +85,28 @@ module _ (types : List Ty) (heap : Heap ℕ) (known : AllKnown types heap) where
     by true z f = absurd cc
     by false z f = array_found (object_at heap.objects r) class element contents f
 
-  array_known : (limit r class : ℕ) (element : Element) (contents : List ℤ) → array_at heap r ≡ IsArray class element contents → IsKnown types (length heap.objects) (Array class element contents)
+  array_known : (limit r class : ℕ) (element : Element) (contents : List ℤ) → array_at heap r ≡ IsArray class element contents → IsKnown types (Array class element contents)
   array_known limit r class element contents e =
       known_at types (record { heap = heap; limit = limit }) known r (Array class element contents) (array_there r class element contents e)
 
-  -- what an array of references takes is a reference
-  stored_there : (access : Access) (element : Element) (v : Value) → IsThere heap v → is_of_kind (access_kind access) v ≡ true → reaches access element ≡ true → is_reference element ≡ true
-      → unsigned_abs (kept element (value_number v)) ≤ length heap.objects
-  stored_there access elements.Ref (values.Ref r) there is reached e = there
-  stored_there model.References elements.Ref (values.Int z) there is reached e = absurd (false≢true is)
-  stored_there model.References elements.Ref (values.Long z) there is reached e = absurd (false≢true is)
-  stored_there model.Bytes elements.Ref v there is reached e = absurd (false≢true reached)
-  stored_there model.Chars elements.Ref v there is reached e = absurd (false≢true reached)
-  stored_there model.Shorts elements.Ref v there is reached e = absurd (false≢true reached)
-  stored_there model.Ints elements.Ref v there is reached e = absurd (false≢true reached)
-  stored_there model.Longs elements.Ref v there is reached e = absurd (false≢true reached)
-  stored_there access element v there is reached e = absurd (false≢true e)
-
-  with_element_there : (contents : List ℤ) (index z : ℤ) → unsigned_abs z ≤ length heap.objects → All (λ z. unsigned_abs z ≤ length heap.objects) contents
-      → All (λ z. unsigned_abs z ≤ length heap.objects) (with_element contents index z)
-  with_element_there contents (pos i) z le all = All-set (λ z. unsigned_abs z ≤ length heap.objects) contents i z le all
-  with_element_there contents (negsuc i) z le all = all
-
-  store_at_known : (operands rest : List Value) (r : ℕ) (array : Object ℕ) (o : Option ℤ) (takes : Bool) → IsKnown types (length heap.objects) array
+  store_at_known : (operands rest : List Value) (r : ℕ) (array : Object ℕ) (o : Option ℤ) (takes : Bool) → IsKnown types array
       → AllKnown types (arrays.store_at heap operands rest r array o takes).heap
   store_at_known operands rest r array None takes is = known
   store_at_known operands rest r array (Some z) true is = replaced_known r array is
   store_at_known operands rest r array (Some z) false is = known
 
-  store_in_known : (access : Access) (operands rest : List Value) (r : ℕ) (index : ℤ) (v : Value) (takes : Bool) → IsThere heap v → is_of_kind (access_kind access) v ≡ true
-      → (found : Found ℕ) → array_at heap r ≡ found → AllKnown types (arrays.store_in heap operands rest r index v takes (only access found)).heap
-  store_in_known access operands rest r index v takes there is Null at = known
-  store_in_known access operands rest r index v takes there is NoArray at = known
-  store_in_known access operands rest r index v takes there is (IsArray class element contents) at = by (reaches access element) refl where
-    old : IsKnown types (length heap.objects) (Array class element contents)
+  store_in_known : (access : Access) (operands rest : List Value) (r : ℕ) (index : ℤ) (v : Value) (takes : Bool) (found : Found ℕ) → array_at heap r ≡ found → AllKnown types (arrays.store_in heap operands rest r index v takes (only access found)).heap
+  store_in_known access operands rest r index v takes Null at = known
+  store_in_known access operands rest r index v takes NoArray at = known
+  store_in_known access operands rest r index v takes (IsArray class element contents) at = by (reaches access element) refl where
+    old : IsKnown types (Array class element contents)
     old = array_known 0 r class element contents at
 
     by : (b : Bool) → reaches access element ≡ b → AllKnown types (arrays.store_in heap operands rest r index v takes (if b then IsArray class element contents else NoArray)).heap
     by false e = known
     by true e =
         store_at_known operands rest r (Array class element (with_element contents index (kept element (value_number v)))) _ takes
-        (record {
-          class = old.class;
-          holds = old.holds;
-          there = λ reference. with_element_there contents index (kept element (value_number v)) (stored_there access element v there is e reference) (old.there reference);
-        })
+        (record { class = old.class; holds = old.holds })
 
 -- ---- what an effect leaves
 
@@ -164,18 +122,18 @@ if_known : (types : List Ty) (b : Bool) (e : OnHeap ℕ) → (b ≡ true → All
 if_known types true e known = known refl
 if_known types false e known = tt
 
-store_leaves : (types : List Ty) (heap : Heap ℕ) → AllKnown types heap → (takes : ℕ → ℕ → Bool) (access : Access) (operands : List Value) → IsTopThere heap operands
+store_leaves : (types : List Ty) (heap : Heap ℕ) → AllKnown types heap → (takes : ℕ → ℕ → Bool) (access : Access) (operands : List Value)
     → LeavesKnown types (arrays.store_element takes access heap operands)
 unfolding arrays.store_element
-store_leaves types heap known takes access (v ∷ (values.Int index ∷ (values.Ref r ∷ rest))) there =
+store_leaves types heap known takes access (v ∷ (values.Int index ∷ (values.Ref r ∷ rest))) =
     if_known types (is_of_kind (access_kind access) v) _
-    (λ is. store_in_known types heap known access (v ∷ (values.Int index ∷ (values.Ref r ∷ rest))) rest r index v (is_taken takes r v) there is (array_at heap r) refl)
-store_leaves types heap known takes access _ there = tt
+    (λ is. store_in_known types heap known access (v ∷ (values.Int index ∷ (values.Ref r ∷ rest))) rest r index v (is_taken takes r v) (array_at heap r) refl)
+store_leaves types heap known takes access _ = tt
 
 pub store_known : (types : List Ty) (takes : ℕ → ℕ → Bool) (access : Access) (old new : List StackFrame) (before after : LimitedHeap) (flow : Flow) → AreKnown types before
-    → IsTopThere before.heap (top_operands old) → DoesOnHeap (arrays.store_element takes access) old new before after (Some flow) → AreKnown types after
-store_known types takes access old new before after flow known there does =
-    known_after types (arrays.store_element takes access) old new before after flow does (store_leaves types before.heap known takes access (top_operands old) there)
+    → DoesOnHeap (arrays.store_element takes access) old new before after (Some flow) → AreKnown types after
+store_known types takes access old new before after flow known does =
+    known_after types (arrays.store_element takes access) old new before after flow does (store_leaves types before.heap known takes access (top_operands old))
 
 -- ---- fields
 
@@ -203,9 +161,9 @@ module _ (types : List Ty) (heap : Heap ℕ) (known : AllKnown types heap) (has 
   put_in_known operands rest place r v fields_of.Null e = known
   put_in_known operands rest place r v NoHolder e = known
   put_in_known operands rest place r v (Holds class fields) e =
-      let old : IsKnown types (length heap.objects) (Instance class fields) =
+      let old : IsKnown types (Instance class fields) =
       known_at types (record { heap = heap; limit = 0 }) known r (Instance class fields) (holder_there r class fields e) in
-      replaced_known types heap known r (Instance class (set fields place (field_bits v))) (record { class = old.class; holds = old.holds; there = tt })
+      replaced_known types heap known r (Instance class (set fields place (field_bits v))) (record { class = old.class; holds = old.holds })
 
   put_leaves : (kind : Kind) (place : ℕ) (operands : List Value) → LeavesKnown types (put_field_by has kind place heap operands)
   unfolding put_field_by
@@ -220,7 +178,7 @@ put_known types has kind place old new before after flow known does =
 
 -- ---- new objects
 
-made_if : (types : List Ty) (heap : Heap ℕ) → AllKnown types heap → (full : Bool) (operands rest : List Value) (object : Object ℕ) (size : ℕ) → IsKnown types (length heap.objects) object
+made_if : (types : List Ty) (heap : Heap ℕ) → AllKnown types heap → (full : Bool) (operands rest : List Value) (object : Object ℕ) (size : ℕ) → IsKnown types object
     → AllKnown types (if full then flows heap operands (Err (outcomes.HeapFull heap.used size)) else with_value (with_new heap object) rest (values.Ref (next_number heap))).heap
 made_if types heap known true operands rest object size is = known
 made_if types heap known false operands rest object size is = made_known types heap known object is
@@ -230,7 +188,7 @@ pub new_known : (types : List Ty) (limit : Option ℕ) (class fields : ℕ) (old
 new_known types limit class fields old new before after flow known within is does =
     known_after types (new_by limit class fields) old new before after flow does
     (made_if types before.heap known (passes_limit limit (before.heap.used + object_size (Instance class (replicate fields 0)))) (top_operands old) (top_operands old)
-    (Instance class (replicate fields 0)) (object_size (Instance class (replicate fields 0))) (record { class = within; holds = is; there = tt }))
+    (Instance class (replicate fields 0)) (object_size (Instance class (replicate fields 0))) (record { class = within; holds = is }))
 
 array_leaves : (types : List Ty) (heap : Heap ℕ) → AllKnown types heap → (limit : Option ℕ) (class : ℕ) (element : Element) (operands : List Value) → class < length types → HoldsElements types class element
     → LeavesKnown types (arrays.make_array limit class element heap operands)
@@ -240,7 +198,7 @@ array_leaves types heap known limit class element (values.Int (pos n) ∷ rest) 
   by true = known
   by false =
       made_known types heap known (Array class element (replicate n (pos 0)))
-      (record { class = within; holds = holds; there = λ reference. All-replicate (λ z. unsigned_abs z ≤ length heap.objects) n (pos 0) (omega arith) })
+      (record { class = within; holds = holds })
 array_leaves types heap known limit class element (values.Int (negsuc n) ∷ rest) within holds = known
 array_leaves types heap known limit class element _ within holds = tt
 
@@ -258,7 +216,7 @@ text_known types limit class text units old new before after literals now flow k
       by_limit : (full : Bool) → AllKnown types (if full then literal_flows before.heap literals.made (top_operands old) (Err (outcomes.HeapFull before.heap.used (text_size units)))
           else literal_flows (with_new before.heap (Text class units)) (literals.made ++ (text, next_number before.heap) ∷ []) (values.Ref (next_number before.heap) ∷ top_operands old) (Ok Next)).heap
       by_limit true = known
-      by_limit false = made_known types before.heap known (Text class units) (record { class = within; holds = tt; there = tt })
+      by_limit false = made_known types before.heap known (Text class units) (record { class = within; holds = tt })
 
       by : (o : Option ℕ) → AllKnown types (pushed limit class text units before.heap literals.made (top_operands old) o).heap
       by (Some r) = known

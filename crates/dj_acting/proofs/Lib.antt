@@ -18,3 +18,8 @@ pub mod UsedFacts
 pub mod OperandFacts
 mod ActingFacts
 pub mod LiteralPushes
+pub mod UnnamedFacts
+pub mod BegunLaws
+pub mod AbsentFacts
+pub mod Frugal
+pub mod Resolved

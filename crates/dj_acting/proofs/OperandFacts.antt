@@ -17,7 +17,7 @@ use Rattle.dj_model.specs.Opcodes.{instruction_of}
 use Rattle.dj_model.specs.Program.{Code}
 use Rattle.dj_model.specs.Sound.{is_linked}
 use Rattle.dj_model.specs.State.{instruction_in}
-use Rattle.dj_stack.specs.Frames.{StackFrame, top_operands}
+use Rattle.dj_stack.specs.Frames.{StackFrame}
 use Rattle.dj_heap.specs.Heaps.{LimitedHeap}
 use Rattle.dj_effects.specs.Does.{Does}
 use Rattle.dj_effects.specs.declared.way.Way.{Way}
@@ -41,7 +41,7 @@ use Rattle.dj_initialising.specs.Places.{Places}
 use Rattle.dj_initialising.specs.Store.{IsStore, store}
 use Rattle.dj_initialising.proofs.StoreLaws.{units_at}
 use Rattle.dj_acting.specs.declared.acted.Acted.{Acted}
-use Rattle.dj_acting.specs.Acting.{Acts, HasInstruction, IsActed, IsDone, IsHeap, IsReady, IsTopThere, Machine, machine}
+use Rattle.dj_acting.specs.Acting.{Acts, HasInstruction, IsActed, IsDone, IsHeap, IsReady, Machine, machine}
 use Rattle.dj_acting.specs.Flows.{way_acted}
 use Rattle.dj_acting.specs.Numbers.{literal_push, literal_value, push_of}
 use Rattle.dj_acting.specs.Operands.{IsInstrAt}
@@ -148,13 +148,12 @@ literal_acted imaged operand v told old new heap statics literals way does are =
 
 -- ---- the heap
 
-pub heap_is : (imaged : Imaged) (frames : List StackFrame) (heap : LimitedHeap) → AreKnown (types_of (typed_of imaged)) heap → IsTopThere heap.heap (top_operands frames) → IsHeap imaged frames heap
-heap_is imaged frames heap known top = record {
+pub heap_is : (imaged : Imaged) (heap : LimitedHeap) → AreKnown (types_of (typed_of imaged)) heap → IsHeap imaged heap
+heap_is imaged heap known = record {
   known = known;
   numbered = classes_numbered (types_of (typed_of imaged)) heap known;
   instances = instance_named (types_of (typed_of imaged)) heap known;
   arrays = array_holds (types_of (typed_of imaged)) heap known;
-  top = top;
 }
 
 -- ---- the whole

@@ -75,12 +75,12 @@ has_instr imaged method number instr named s =
 
 -- ---- it is linked
 
-record HasBody (program : Program) (m : Declared) (code : Code) : Type 0 where
-  method : Method
-  there : method_at program m ≡ Some method
-  body : method.body ≡ Runs code
+pub record HasBody (program : Program) (m : Declared) (code : Code) : Type 0 where
+  pub method : Method
+  pub there : method_at program m ≡ Some method
+  pub body : method.body ≡ Runs code
 
-body_of_code : (program : Program) (m : Declared) (code : Code) → code_of program m ≡ Some code → HasBody program m code
+pub body_of_code : (program : Program) (m : Declared) (code : Code) → code_of program m ≡ Some code → HasBody program m code
 unfolding code_of
 body_of_code program m code e = by (method_at program m) refl e where
   in_body : (b : Body) → body_code b ≡ Some code → b ≡ Runs code
@@ -147,7 +147,7 @@ typed_by (c ∷ program) arrays (suc k) text e = typed_by program arrays k text 
 pub type_is : (typed : Typed) (k : ℕ) (ty : Ty) → slice_get (types_of typed) k ≡ Some ty → type_at typed k ≡ ty
 type_is typed k ty e = ap (λ (o : Option Ty). unwrap_or o (class_type [])) e
 
-array_text : (n : ℕ) (of : Of) → text_of_type (record { dims = suc n; of = of }) ≡ type_text (record { dims = suc n; of = of })
+pub array_text : (n : ℕ) (of : Of) → text_of_type (record { dims = suc n; of = of }) ≡ type_text (record { dims = suc n; of = of })
 array_text n (ofs.Base base) = refl
 array_text n (ofs.Class name) =
     ap (λ (b : Bool). cond b name (type_text (record { dims = suc n; of = ofs.Class name }))) (ne_eqb (suc n) 0 (λ e. omega (arith, e)))

@@ -5,11 +5,12 @@ use Rattle.std.specs.Option.{option_map}
 use Rattle.std.proofs.lemmas.Bool.{false≢true, ne_eqb}
 use Rattle.std.proofs.lemmas.List.{get_or-reverse, length-reverse}
 use Rattle.std.proofs.lemmas.Option.{none-some, same_Some, slice_get-get_or, slice_get_past}
+use Rattle.dj_names.specs.declared.descriptor.Base.TheVariants as bases
 use Rattle.dj_names.specs.declared.descriptor.Ty.{Ty}
 use Rattle.dj_names.specs.declared.run.Element.TheVariants as elements
 use Rattle.dj_names.specs.declared.run.Value.{Value}
 use Rattle.dj_names.specs.Heaps.{Object, Instance, Array, Text, Heap, class_of, heap_map, object_map, object_at}
-use Rattle.dj_names.specs.Types.{component_type, class_type}
+use Rattle.dj_names.specs.Types.{base_array, component_type, class_type}
 use Rattle.dj_natives.specs.Numbered.{type_at, component_of, holds_references, HaveComponents, IsNumberOf}
 use Rattle.dj_model.specs.Arrays.{Found, Null, IsArray, array_at, array_in}
 use Rattle.dj_model.specs.Linking.{is_subtype}
@@ -22,8 +23,8 @@ use Rattle.dj_effects.specs.DoesOnHeap.{IsTakenSo}
 use Rattle.dj_effects.proofs.TopFacts.{last_frame}
 use Rattle.dj_types.specs.Typed.{types_of}
 use Rattle.dj_image.specs.Imaged.{Imaged, program_of, typed_of}
-use Rattle.dj_acting.specs.Acting.{IsHeap, IsThere, IsTopThere}
-use Rattle.dj_acting.specs.Taking.{IsTakenBy}
+use Rattle.dj_acting.specs.Acting.{IsAbsent, IsHeap, IsThere, IsTopAbsent, IsTopThere}
+use Rattle.dj_acting.specs.Taking.{IsOf, IsTakenBy}
 
 -- ---- operands
 
@@ -51,14 +52,14 @@ operand_is frames f at below last less is =
 pub no_operand : (frames : List StackFrame) (below : ℕ) → length (top_operands frames) ≤ below → None ≡ slice_get (top_operands frames) below
 no_operand frames below le = sym (slice_get_past (top_operands frames) below le)
 
-pub top_there : (heap : Heap ℕ) (operands : List Value) (v : Value) → IsTopThere heap operands → slice_get operands 0 ≡ Some v → IsThere heap v
-top_there heap [] v is e = absurd (none-some v e)
-top_there heap (w ∷ operands) v is e = subst (IsThere heap) (same_Some w v e) is
-
 -- what stands on top is asked whether it is there
 pub value_there : (heap : Heap ℕ) (operands : List Value) (v : Value) → Some v ≡ slice_get operands 0 → IsThere heap v → IsTopThere heap operands
 value_there heap [] v e is = tt
 value_there heap (w ∷ operands) v e is = subst (IsThere heap) (same_Some v w e) is
+
+pub value_absent : (heap : Heap ℕ) (operands : List Value) (v : Value) → Some v ≡ slice_get operands 0 → IsAbsent heap v → IsTopAbsent heap operands
+value_absent heap [] v e is = absurd (none-some v (sym e))
+value_absent heap (w ∷ operands) v e is = subst (IsAbsent heap) (same_Some v w e) is
 
 pub none_there : (heap : Heap ℕ) (operands : List Value) → None ≡ slice_get operands 0 → IsTopThere heap operands
 none_there heap [] e = tt
@@ -92,7 +93,7 @@ null_array imaged heap r v b null class contents at =
     let none : object_at heap.heap.objects r ≡ None = ap (object_at heap.heap.objects) null in
     absurd (none-some _ (sym none ∙ array_is heap.heap r class contents at))
 
-none_past : (objects : List (Object ℕ)) (r : ℕ) → length objects < r → object_at objects r ≡ None
+pub none_past : (objects : List (Object ℕ)) (r : ℕ) → length objects < r → object_at objects r ≡ None
 none_past objects r past = by (nat_eq r 0) refl where
   by : (b : Bool) → nat_eq r 0 ≡ b → (if b then None else slice_get objects (r - 1)) ≡ None
   by true e = refl
@@ -109,7 +110,20 @@ class_told imaged heap v class told = ap class_in (object_at_mapped (type_at (ty
   by None e = absurd (none-some class e)
   by (Some object) e = class_of_mapped (type_at (types_of (typed_of imaged))) object ∙ ap (type_at (types_of (typed_of imaged))) (same_Some (class_of object) class e)
 
-module _ (imaged : Imaged) (frames : List StackFrame) (heap : LimitedHeap) (known : IsHeap imaged frames heap) (r v : ℕ) (array : ℕ) (at : option_map class_of (object_in heap r) ≡ Some array) where
+-- one of an object
+pub object_of_class : (imaged : Imaged) (heap : LimitedHeap) (v class own : ℕ) (is : Bool) → option_map class_of (object_in heap v) ≡ Some own
+    → is ≡ is_subtype (program_of imaged) imaged.prefix (type_at (types_of (typed_of imaged)) own) (type_at (types_of (typed_of imaged)) class) → IsOf imaged heap v class is
+object_of_class imaged heap v class own is told e =
+    ap (λ (ty : Ty). is_subtype (program_of imaged) imaged.prefix ty (type_at (types_of (typed_of imaged)) class)) (class_told imaged heap v own told) ∙ sym e
+
+-- and one of none
+pub absent_of_class : (imaged : Imaged) (heap : LimitedHeap) (v class : ℕ) (is : Bool) → length heap.heap.objects < v
+    → is ≡ is_subtype (program_of imaged) imaged.prefix (base_array bases.Boolean) (type_at (types_of (typed_of imaged)) class) → IsOf imaged heap v class is
+absent_of_class imaged heap v class is past e =
+    ap (λ (o : Option (Object Ty)). is_subtype (program_of imaged) imaged.prefix (class_in o) (type_at (types_of (typed_of imaged)) class)) (object_at_mapped (type_at (types_of (typed_of imaged))) heap.heap.objects v ∙ ap (option_map (object_map (type_at (types_of (typed_of imaged))))) (none_past heap.heap.objects v past))
+    ∙ sym e
+
+module _ (imaged : Imaged) (heap : LimitedHeap) (known : IsHeap imaged heap) (r v : ℕ) (array : ℕ) (at : option_map class_of (object_in heap r) ≡ Some array) where
   abbrev types : List Ty
   types = types_of (typed_of imaged)
 
@@ -129,16 +143,14 @@ module _ (imaged : Imaged) (frames : List StackFrame) (heap : LimitedHeap) (know
   component_none true ty e is = is
   component_none false ty e is = absurd cc
 
-  pub component_taken : (k class : ℕ) (taken : Bool) → (v ≡ 0 → ⊥) → IsNumberOf types (component_of (type_at types array)) (Some k) → option_map class_of (object_in heap v) ≡ Some class
-      → taken ≡ is_subtype (program_of imaged) imaged.prefix (type_at types class) (type_at types k) → IsTakenBy imaged heap r v taken
-  component_taken k class taken some component told is c contents array_there =
+  pub component_taken : (k : ℕ) (taken : Bool) → (v ≡ 0 → ⊥) → IsNumberOf types (component_of (type_at types array)) (Some k) → IsOf imaged heap v k taken → IsTakenBy imaged heap r v taken
+  component_taken k taken some component is c contents array_there =
       let there : slice_get types k ≡ Some (component_type (type_at types array)) =
       component_told (holds_references (type_at types array)) k (component_type (type_at types array)) (holds c contents array_there) component in
       let type : type_at types k ≡ component_type (type_at types array) = ap (λ (o : Option Ty). unwrap_or o (class_type [])) there in
       ap (λ (b : Bool). b || is_subtype (program_of imaged) imaged.prefix (class_in (object_at (heap_map (type_at types) heap.heap).objects v)) (component_type (class_in (object_at (heap_map (type_at types) heap.heap).objects r)))) (ne_eqb v 0 some)
-      ∙ (ap (λ (ty : Ty). is_subtype (program_of imaged) imaged.prefix ty (component_type (class_in (object_at (heap_map (type_at types) heap.heap).objects r)))) (class_told imaged heap v class told)
-      ∙ (ap (λ (ty : Ty). is_subtype (program_of imaged) imaged.prefix (type_at types class) (component_type ty)) (class_told imaged heap r array at)
-      ∙ (ap (is_subtype (program_of imaged) imaged.prefix (type_at types class)) (sym type) ∙ sym is)))
+      ∙ (ap (λ (ty : Ty). is_subtype (program_of imaged) imaged.prefix (class_in (object_at (heap_map (type_at types) heap.heap).objects v)) (component_type ty)) (class_told imaged heap r array at)
+      ∙ (ap (is_subtype (program_of imaged) imaged.prefix (class_in (object_at (heap_map (type_at types) heap.heap).objects v))) (sym type) ∙ is))
 
   -- what the elements are has a number
   pub component_there : (taken : Bool) → array < length types → HaveComponents types → IsNumberOf types (component_of (type_at types array)) None → IsTakenBy imaged heap r v taken

@@ -84,7 +84,7 @@ IsOnHeap imaged i m effect_of = (terms : Terms) (own : Name) (account : Account)
     ≡ option_map (λ (e : OnHeap ℕ). heap_effect (part_of imaged m account answers) (on_heap_map (types imaged) e)) (effect_of m.store.heap.heap (top_operands m.frames))
 
 -- the locals are as before
-with_locals : (imaged : Imaged) (old new : List StackFrame) (st : Store) (operands : List Value) (flow : model.Flow) (account : Account) (answers : List HostAnswer)
+pub with_locals : (imaged : Imaged) (old new : List StackFrame) (st : Store) (operands : List Value) (flow : model.Flow) (account : Account) (answers : List HostAnswer)
     → top_locals new ≡ top_locals old
     → ◌≡◌ {A = Option Effect} (Some (record { part = record (part_with imaged (machine new st) operands account answers) { locals = top_locals old }; flow = flow }))
     (Some (record { part = part_with imaged (machine new st) operands account answers; flow = flow }))

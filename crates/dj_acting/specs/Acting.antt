@@ -120,13 +120,22 @@ abbrev pub IsThere : Heap ℕ → Value → Type 0
 IsThere heap (values.Ref r) = r ≤ length heap.objects
 IsThere heap v = ⊤
 
--- the top operand is; of another one it isn't asked, as each instruction that goes to an object by it asks how many there are
+-- the top operand is
 abbrev pub IsTopThere : Heap ℕ → List Value → Type 0
 IsTopThere heap [] = ⊤
 IsTopThere heap (v ∷ operands) = IsThere heap v
 
--- a heap and frames over the image: its objects are known, so that their classes have numbers, and an instance's is no array; and the top operand is there
-pub record IsHeap (imaged : Imaged) (frames : List StackFrame) (heap : LimitedHeap) : Type 0 where
+-- the top operand is a reference past all objects
+abbrev pub IsAbsent : Heap ℕ → Value → Type 0
+IsAbsent heap (values.Ref r) = length heap.objects < r
+IsAbsent heap v = ⊥
+
+abbrev pub IsTopAbsent : Heap ℕ → List Value → Type 0
+IsTopAbsent heap [] = ⊥
+IsTopAbsent heap (v ∷ operands) = IsAbsent heap v
+
+-- a heap over the image: its objects are known, so that their classes have numbers, and an instance's is no array
+pub record IsHeap (imaged : Imaged) (heap : LimitedHeap) : Type 0 where
   pub known : AreKnown (types_of (typed_of imaged)) heap
   pub numbered : AreNumbered (length (types_of (typed_of imaged))) heap.heap
   pub instances : (r class : ℕ) (fields : List ℕ) → object_at heap.heap.objects r ≡ Some (Instance class fields)
@@ -134,7 +143,6 @@ pub record IsHeap (imaged : Imaged) (frames : List StackFrame) (heap : LimitedHe
   -- an array of references is of a class of such arrays
   pub arrays : (r class : ℕ) (contents : List ℤ) → object_at heap.heap.objects r ≡ Some (Array class elements.Ref contents)
       → holds_references (type_at (types_of (typed_of imaged)) class) ≡ true
-  pub top : IsTopThere heap.heap (top_operands frames)
 
 -- a machine over the image, and what is kept of the image beside it, can do the instruction of a number in a method of a number
 pub record IsReady (imaged : Imaged) (table : Places) (thrown method number : ℕ) (m : Machine) : Type 0 where

@@ -9,3 +9,7 @@ pub mod Used
 pub mod Numbers
 pub mod Growing
 pub mod Elements
+pub mod Unnamed
+pub mod Begun
+pub mod Frugal
+pub mod Absent

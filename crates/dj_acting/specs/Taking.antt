@@ -6,10 +6,16 @@ use Rattle.dj_names.specs.declared.run.Value.TheVariants as values
 use Rattle.dj_names.specs.Heaps.{heap_map}
 use Rattle.dj_natives.specs.Numbered.{type_at}
 use Rattle.dj_model.specs.Arrays.{IsArray, array_at}
-use Rattle.dj_model.specs.Performing.{takes}
+use Rattle.dj_model.specs.Linking.{is_subtype}
+use Rattle.dj_model.specs.Performing.{class_at_number, takes}
 use Rattle.dj_heap.specs.Heaps.{LimitedHeap}
 use Rattle.dj_types.specs.Typed.{types_of}
 use Rattle.dj_image.specs.Imaged.{Imaged, program_of, typed_of}
+
+-- the reference is of the class
+abbrev pub IsOf : Imaged → LimitedHeap → ℕ → ℕ → Bool → Type 0
+IsOf imaged heap r class is =
+    is_subtype (program_of imaged) imaged.prefix (class_at_number (heap_map (type_at (types_of (typed_of imaged))) heap.heap) r) (type_at (types_of (typed_of imaged)) class) ≡ is
 
 -- of what is no array of references it doesn't matter
 abbrev pub IsTakenBy : Imaged → LimitedHeap → ℕ → ℕ → Bool → Type 0

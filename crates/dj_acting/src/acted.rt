@@ -22,6 +22,7 @@ pub enum Acted {
 }
 
 /// What an instruction on values or static fields tells.
+#[inline(always)]
 pub(crate) fn way_acted(way: Option<Way>) -> Acted
     ensures { result ≡ way_acted way }
 {

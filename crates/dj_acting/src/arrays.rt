@@ -7,6 +7,7 @@ ghost use Rattle.dj_calls.specs.Known.{AreKnown};
 ghost use Rattle.dj_types.specs.Typed.{types_of};
 ghost use Rattle.dj_image.specs.Imaged.{typed_of};
 ghost use Rattle.dj_acting.specs.Acting.{ActsOnHeap, IsClassAt, IsHeap};
+ghost use Rattle.dj_acting.specs.Frugal.{FrugalOnHeap};
 
 use crate::acted::{Acted, flow_acted};
 use crate::asking::holds_elements;
@@ -32,9 +33,10 @@ pub fn act_store(
     heap: &mut Heap,
     access: Access,
 ) -> Result<Acted, NoMemory>
-    requires { IsHeap image.now frames.old heap.old }
+    requires { IsHeap image.now heap.old }
     ensures done { IfOk result (λ acted. ActsOnHeap image.now (StoreElement (access_view access)) frames.old frames.new heap.old heap.new acted) }
     ensures known { IfOk result (λ _. AreKnown (types_of (typed_of image.now)) heap.new) }
+    ensures frugal { FrugalOnHeap image.now (StoreElement (access_view access)) frames.old heap.old result }
 {
     let is_taken = takes_top(image, frames, heap);
     let Some(flow) = store_element(frames, heap, access, is_taken) else {

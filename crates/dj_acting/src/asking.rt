@@ -1,9 +1,9 @@
 // What of the values before a step is asked at run time. In a sound program it always holds.
-ghost use Rattle.std.specs.Prelude.{◌≡◌, ◌+◌, ◌≤◌, ◌<◌, true, length};
+ghost use Rattle.std.specs.Prelude.{◌≡◌, ◌+◌, ◌≤◌, ◌<◌, true, false, length};
 ghost use Rattle.dj_stack.specs.Frames.{top_operands, top_room};
 ghost use Rattle.dj_types.specs.Typed.{types_of};
 ghost use Rattle.dj_image.specs.Imaged.{typed_of};
-ghost use Rattle.dj_acting.specs.Acting.{IsThere, IsTopThere};
+ghost use Rattle.dj_acting.specs.Acting.{IsAbsent, IsThere, IsTopAbsent, IsTopThere};
 ghost use Rattle.dj_acting.specs.Elements.{HoldsElements};
 ghost use Rattle.dj_acting.specs.Growing.{growth, move_growth, slot_count};
 
@@ -16,9 +16,10 @@ use dj_natives::Classes;
 use dj_stack::Frames;
 
 /// Whether the top operand, where it is a reference, is null or that of an object.
-#[tactic(auto, using(crate::proofs::Takings::value_there, crate::proofs::Takings::none_there))]
+#[tactic(auto, using(crate::proofs::Takings::value_there, crate::proofs::Takings::none_there, crate::proofs::Takings::value_absent))]
 pub fn is_top_there(frames: &Frames, heap: &Heap) -> bool
-    ensures { result ≡ true → IsTopThere heap.now.heap (top_operands frames.now) }
+    ensures there { result ≡ true → IsTopThere heap.now.heap (top_operands frames.now) }
+    ensures absent { result ≡ false → IsTopAbsent heap.now.heap (top_operands frames.now) }
 {
     match peek(frames, 0) {
         Some(value) => is_there(heap, value),
@@ -27,7 +28,8 @@ pub fn is_top_there(frames: &Frames, heap: &Heap) -> bool
 }
 
 fn is_there(heap: &Heap, value: Value) -> bool
-    ensures { result ≡ true → IsThere heap.now.heap value }
+    ensures there { result ≡ true → IsThere heap.now.heap value }
+    ensures absent { result ≡ false → IsAbsent heap.now.heap value }
 {
     match value {
         Value::Ref(r) => r <= heap.count(),
@@ -36,9 +38,17 @@ fn is_there(heap: &Heap, value: Value) -> bool
     }
 }
 
+/// A law: the operands of the top frame have room.
+pub fn have_room(frames: &Frames)
+    ensures { length (top_operands frames.now) ≤ top_room frames.now }
+{
+    let _ = frames.spare();
+}
+
 /// Whether so many operands more have room in the top frame.
 pub fn has_room(frames: &Frames, more: u16) -> bool
-    ensures { result ≡ true → length (top_operands frames.now) + more ≤ top_room frames.now }
+    ensures room { result ≡ true → length (top_operands frames.now) + more ≤ top_room frames.now }
+    ensures none { result ≡ false → top_room frames.now < length (top_operands frames.now) + more }
 {
     more <= frames.spare()
 }

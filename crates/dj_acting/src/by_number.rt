@@ -1,4 +1,4 @@
-ghost use Rattle.std.specs.Prelude.{◌≡◌, ◌≤◌, ◌<◌, length, slice_get, IfOk};
+ghost use Rattle.std.specs.Prelude.{◌≡◌, ◌≤◌, ◌<◌, length, slice_get, Some, IfOk};
 ghost use Rattle.std.specs.Option.{option_map};
 ghost use Rattle.dj_model.specs.Instructions.{Instruction, Named};
 ghost use Rattle.dj_model.specs.Opcodes.{instruction_of};
@@ -9,13 +9,15 @@ ghost use Rattle.dj_types.specs.Typed.{types_of};
 ghost use Rattle.dj_types.specs.Members.{all_methods};
 ghost use Rattle.dj_image.specs.Imaged.{program_of, typed_of};
 ghost use Rattle.dj_image.specs.Numbering.{AreSettled};
+ghost use Rattle.dj_image.specs.declared.operand.Operand.TheVariants.{Unresolved};
 ghost use Rattle.dj_initialising.specs.Store.{IsStore, store};
-ghost use Rattle.dj_acting.specs.Acting.{HasInstruction, IsActed, IsDone, IsHeap, IsReady, IsTopThere, machine};
+ghost use Rattle.dj_acting.specs.Acting.{HasInstruction, IsActed, IsDone, IsHeap, IsReady, instruction_of_number, machine};
+ghost use Rattle.dj_acting.specs.Frugal.{IsFrugal, LoadsByKnown, NeverMemory};
 ghost use Rattle.dj_acting.specs.Operands.{IsInstrAt};
 ghost use Rattle.dj_acting.specs.Used.{IsBeside, IsOperandUsed};
 
 use crate::acted::Acted;
-use crate::asking::{has_room, is_top_there};
+use crate::asking::have_room;
 use crate::classes::{act_class, act_unnamed};
 use crate::literals::act_literal;
 use crate::members::act_field;
@@ -66,7 +68,7 @@ fn act_with(
     operand: Operand,
 ) -> Result<Acted, NoMemory>
     requires beside { IsBeside image.now places.now throwable }
-    requires known { IsHeap image.now frames.old heap.old }
+    requires known { IsHeap image.now heap.old }
     requires are { IsStore image.now (store heap.old statics.old literals.old) }
     requires used { (named : Named) × IsOperandUsed image.now instr.now operand named }
     requires room { length (top_operands frames.old) ≤ top_room frames.old }
@@ -74,6 +76,8 @@ fn act_with(
         → IfOk result (λ acted. IsActed image.now (instruction_of instr.now named)
         (machine frames.old (store heap.old statics.old literals.old)) (machine frames.new (store heap.new statics.new literals.new)) acted) }
     ensures known { IfOk result (λ _. AreKnown (types_of (typed_of image.now)) heap.new) }
+    ensures frugal { (named : Named) → IsOperandUsed image.now instr.now operand named → (operand ≡ Unresolved → ⊥)
+        → IsFrugal image.now (instruction_of instr.now named) (machine frames.old (store heap.old statics.old literals.old)) → NeverMemory result }
 {
     match operand {
         Operand::Nothing => act_unnamed(image, frames, heap, throwable, 0, instr),
@@ -102,13 +106,15 @@ fn act_settled(
 ) -> Result<Acted, NoMemory>
     requires settled { AreSettled (typed_of image.now) }
     requires ready { IsReady image.now places.now throwable method.number number (machine frames.old (store heap.old statics.old literals.old)) }
-    requires top { IsTopThere heap.old.heap (top_operands frames.old) }
     requires room { length (top_operands frames.old) ≤ top_room frames.old }
     ensures done { IfOk result (λ acted. IsDone image.now method.number number
         (machine frames.old (store heap.old statics.old literals.old)) (machine frames.new (store heap.new statics.new literals.new)) acted) }
     ensures known { IfOk result (λ _. AreKnown (types_of (typed_of image.now)) heap.new) }
+    ensures frugal { (i : Instruction) → instruction_of_number image.now method.number number ≡ Some i → LoadsByKnown image.now method.number number
+        → IsFrugal image.now i (machine frames.old (store heap.old statics.old literals.old)) → NeverMemory result }
 {
     image.are_plain();
+    image.is_numbered();
     let instr = instr_of(image, method, number);
     let operand = image.operand(method, number);
     act_with(
@@ -118,7 +124,8 @@ fn act_settled(
 
 /// The instruction of a number in a method of an image is done, but for a call; the class that it uses has been initialised. The places of static
 /// fields are told, and the number of the class Throwable. What a sound program's frames have, but isn't asked before, is asked of the values: where
-/// the operands or the frame's room lack it, which is never so in a sound program, it is told as a want of memory.
+/// the operands or the frame's room lack it, it is told as a want of memory; an instruction that needs no new memory, and does something in the
+/// model that has room, is never told so.
 pub fn act(
     image: &Image,
     places: &StaticPlaces,
@@ -134,15 +141,10 @@ pub fn act(
     ensures done { IfOk result (λ acted. IsDone image.now method.number number
         (machine frames.old (store heap.old statics.old literals.old)) (machine frames.new (store heap.new statics.new literals.new)) acted) }
     ensures known { IfOk result (λ _. AreKnown (types_of (typed_of image.now)) heap.new) }
+    ensures frugal { (i : Instruction) → instruction_of_number image.now method.number number ≡ Some i → LoadsByKnown image.now method.number number
+        → IsFrugal image.now i (machine frames.old (store heap.old statics.old literals.old)) → NeverMemory result }
 {
-    if !is_top_there(frames, heap) {
-        // Never in a sound program.
-        return Err(NoMemory::Memory);
-    }
-    if !has_room(frames, 0) {
-        // Never in a sound program.
-        return Err(NoMemory::Memory);
-    }
+    have_room(frames);
     image.are_settled();
     act_settled(
         image, places, throwable, frames, heap, statics, literals, method, number,

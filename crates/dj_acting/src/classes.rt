@@ -9,6 +9,7 @@ ghost use Rattle.dj_model.specs.Opcodes.{instruction_of};
 ghost use Rattle.dj_types.specs.Typed.{types_of};
 ghost use Rattle.dj_image.specs.Imaged.{typed_of};
 ghost use Rattle.dj_acting.specs.Acting.{ActsOnHeap, IsClassAt, IsHeap};
+ghost use Rattle.dj_acting.specs.Frugal.{FrugalOnHeap};
 ghost use Rattle.dj_acting.specs.Used.{IsClassUsed, IsMade};
 
 use crate::acted::Acted;
@@ -32,11 +33,12 @@ pub fn act_unnamed(
     class: u32,
     instr: &Instr,
 ) -> Result<Acted, NoMemory>
-    requires known { IsHeap image.now frames.old heap.old }
+    requires known { IsHeap image.now heap.old }
     requires throwable { IsClassAt image.now (class_type (throwable_name image.now.prefix)) throwable }
     requires made { IsMade image.now (instruction_of instr.now Nothing) class }
     ensures done { IfOk result (λ acted. ActsOnHeap image.now (instruction_of instr.now Nothing) frames.old frames.new heap.old heap.new acted) }
     ensures known { IfOk result (λ _. AreKnown (types_of (typed_of image.now)) heap.new) }
+    ensures frugal { FrugalOnHeap image.now (instruction_of instr.now Nothing) frames.old heap.old result }
 {
     match plain_action(instr) {
         Some(action) => act_plain(image, frames, heap, throwable, class, action),
@@ -53,7 +55,7 @@ pub fn act_class(
     class: u32,
     instr: &Instr,
 ) -> Result<Acted, NoMemory>
-    requires known { IsHeap image.now frames.old heap.old }
+    requires known { IsHeap image.now heap.old }
     requires throwable { IsClassAt image.now (class_type (throwable_name image.now.prefix)) throwable }
     requires plain { ArePlain (types_of (typed_of image.now)) }
     requires used { (named : Named) × IsClassUsed image.now instr.now class named }
@@ -61,6 +63,7 @@ pub fn act_class(
     ensures done { (named : Named) → IsClassUsed image.now instr.now class named
         → IfOk result (λ acted. ActsOnHeap image.now (instruction_of instr.now named) frames.old frames.new heap.old heap.new acted) }
     ensures known { IfOk result (λ _. AreKnown (types_of (typed_of image.now)) heap.new) }
+    ensures frugal { (named : Named) → IsClassUsed image.now instr.now class named → FrugalOnHeap image.now (instruction_of instr.now named) frames.old heap.old result }
 {
     match class_use(instr) {
         ClassUse::New => act_new(image, frames, heap, class),

@@ -10,6 +10,7 @@ ghost use Rattle.dj_image.specs.Imaged.{program_of, typed_of};
 ghost use Rattle.dj_image.specs.Numbering.{AreSettled};
 ghost use Rattle.dj_acting.specs.Accesses.{IsAccess};
 ghost use Rattle.dj_acting.specs.Acting.{ActsOnHeap, IsHeap, IsMember};
+ghost use Rattle.dj_acting.specs.Frugal.{FrugalOnHeap};
 
 use crate::acted::{Acted, flow_acted};
 use crate::kinds::kind_of;
@@ -18,11 +19,12 @@ use dj_image::{FieldId, Image};
 use dj_members::{FieldAccess, get_field, put_field};
 use dj_names::NoMemory;
 use dj_stack::Frames;
+use dj_standing::Superclasses;
 
 /// getfield of the field of a number.
 pub fn act_get_field(image: &Image, frames: &mut Frames, heap: &Heap, field: FieldId) -> Acted
     requires settled { AreSettled (typed_of image.now) }
-    requires known { IsHeap image.now frames.old heap.now }
+    requires known { IsHeap image.now heap.now }
     requires there { field.number < length (all_fields (program_of image.now)) }
     requires room { length (top_operands frames.old) ≤ top_room frames.old }
     ensures { (member : Member) (found : FoundField) → IsMember image.now member found field.number
@@ -31,7 +33,7 @@ pub fn act_get_field(image: &Image, frames: &mut Frames, heap: &Heap, field: Fie
     let Some(access) = access_to(image, field) else {
         return Acted::Stuck;
     };
-    flow_acted(get_field(image, frames, heap, access))
+    flow_acted(get_field(&Superclasses { image }, frames, heap, access))
 }
 
 /// putfield of the field of a number.
@@ -42,16 +44,17 @@ pub fn act_put_field(
     field: FieldId,
 ) -> Result<Acted, NoMemory>
     requires settled { AreSettled (typed_of image.now) }
-    requires known { IsHeap image.now frames.old heap.old }
+    requires known { IsHeap image.now heap.old }
     requires there { field.number < length (all_fields (program_of image.now)) }
     ensures done { (member : Member) (found : FoundField) → IsMember image.now member found field.number
         → IfOk result (λ acted. ActsOnHeap image.now (PutField member) frames.old frames.new heap.old heap.new acted) }
     ensures known { IfOk result (λ _. AreKnown (types_of (typed_of image.now)) heap.new) }
+    ensures frugal { (member : Member) (found : FoundField) → IsMember image.now member found field.number → FrugalOnHeap image.now (PutField member) frames.old heap.old result }
 {
     let Some(access) = access_to(image, field) else {
         return Ok(Acted::Stuck);
     };
-    let Some(flow) = put_field(image, frames, heap, access) else {
+    let Some(flow) = put_field(&Superclasses { image }, frames, heap, access) else {
         // Never in a sound program.
         return Err(NoMemory::Memory);
     };

@@ -4,6 +4,7 @@
 mod acted;
 mod arrays;
 mod asking;
+mod begun;
 mod by_number;
 mod classes;
 mod fields;
@@ -15,9 +16,12 @@ mod plain;
 mod statics;
 mod taking;
 mod texts;
+mod unnamed;
 mod uses;
 mod values;
 
 pub use acted::Acted;
+pub use begun::Begun;
 pub use by_number::act;
+pub use unnamed::{begin, unnamed_action};
 pub use uses::{ClassUse, FieldUse, class_use, field_use};

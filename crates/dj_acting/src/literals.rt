@@ -4,6 +4,7 @@ ghost use Rattle.dj_model.specs.Instructions.{Push};
 ghost use Rattle.dj_heap.specs.Heaps.{LimitedHeap};
 ghost use Rattle.dj_image.specs.Imaged.{Imaged};
 ghost use Rattle.dj_acting.specs.Acting.{ActsOnHeap};
+ghost use Rattle.dj_acting.specs.Frugal.{FrugalOnHeap};
 ghost use Rattle.dj_effects.specs.Does.{Does, Fits};
 ghost use Rattle.dj_acting.specs.Numbers.{literal_push, literal_value};
 
@@ -17,8 +18,9 @@ use dj_stack::Frames;
 /// ldc of a number.
 #[tactic(auto, using(crate::proofs::LiteralPushes::literal_room))]
 pub fn act_literal(frames: &mut Frames, operand: Operand) -> Result<Acted, NoMemory>
-    ensures { (imaged : Imaged) (heap : LimitedHeap) (v : Value) → literal_value operand ≡ Some v
+    ensures done { (imaged : Imaged) (heap : LimitedHeap) (v : Value) → literal_value operand ≡ Some v
         → IfOk result (λ acted. ActsOnHeap imaged (Push v) frames.old frames.new heap heap acted) }
+    ensures frugal { (imaged : Imaged) (heap : LimitedHeap) (v : Value) → FrugalOnHeap imaged (Push v) frames.old heap result }
 {
     if !has_room(frames, 1) {
         // Never in a sound program.

@@ -10,6 +10,7 @@ ghost use Rattle.dj_image.specs.Imaged.{program_of, typed_of};
 ghost use Rattle.dj_image.specs.Numbering.{AreSettled};
 ghost use Rattle.dj_initialising.specs.Places.{ArePlaces};
 ghost use Rattle.dj_acting.specs.Acting.{IsHeap};
+ghost use Rattle.dj_acting.specs.Frugal.{FrugalOnFields};
 ghost use Rattle.dj_acting.specs.Used.{ActsOnFields, IsFieldUsed};
 
 use crate::acted::Acted;
@@ -36,7 +37,7 @@ pub fn act_field(
 ) -> Result<Acted, NoMemory>
     requires settled { AreSettled (typed_of image.now) }
     requires places { ArePlaces (program_of image.now) places.now }
-    requires known { IsHeap image.now frames.old heap.old }
+    requires known { IsHeap image.now heap.old }
     requires counted { length statics.old ≡ static_count (program_of image.now) }
     requires there { field.number < length (all_fields (program_of image.now)) }
     requires used { (named : Named) × IsFieldUsed image.now instr.now field.number named }
@@ -44,6 +45,8 @@ pub fn act_field(
     ensures done { (named : Named) → IsFieldUsed image.now instr.now field.number named
         → IfOk result (λ acted. ActsOnFields image.now (instruction_of instr.now named) frames.old frames.new heap.old heap.new statics.old statics.new acted) }
     ensures known { IfOk result (λ _. AreKnown (types_of (typed_of image.now)) heap.new) }
+    ensures frugal { (named : Named) → IsFieldUsed image.now instr.now field.number named
+        → FrugalOnFields image.now (instruction_of instr.now named) frames.old heap.old statics.old result }
 {
     match field_use(instr) {
         FieldUse::GetStatic => act_get_static(image, places, frames, statics, field),

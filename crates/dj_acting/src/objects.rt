@@ -4,18 +4,23 @@ ghost use Rattle.dj_names.specs.declared.descriptor.Ty.{Ty};
 ghost use Rattle.dj_names.specs.Types.{Name, class_type};
 ghost use Rattle.dj_model.specs.Types.{throwable_name};
 ghost use Rattle.dj_model.specs.Instructions.{CheckCast, InstanceOf, New, Throw};
-ghost use Rattle.dj_stack.specs.Frames.{top_operands, top_room};
+ghost use Rattle.dj_model.specs.Members.{instance_number};
+ghost use Rattle.dj_names.specs.declared.run.Value.TheVariants as values;
+ghost use Rattle.dj_stack.specs.Frames.{SameButOperands, top_operands, top_room};
 ghost use Rattle.dj_classes.specs.Tables.{name_at};
 ghost use Rattle.dj_types.specs.Typed.{types_of};
 ghost use Rattle.dj_image.specs.Imaged.{program_of, typed_of};
+ghost use Rattle.dj_acting.specs.Absent.{ReplacesTop, cast_acted, is_absent_of};
 ghost use Rattle.dj_acting.specs.Acting.{ActsOnHeap, IsClassAt, IsHeap};
 
 use crate::acted::{Acted, flow_acted, thrown_acted};
-use crate::asking::has_room;
+use crate::asking::{has_room, is_top_there};
+use dj_calls::takes_absent;
+use dj_effects::Way;
 use dj_heap::Heap;
 use dj_image::Image;
 use dj_members::{check_cast, instance_of, new_object, throw_top};
-use dj_names::NoMemory;
+use dj_names::{NoMemory, Raised, Value};
 use dj_stack::Frames;
 
 /// An instance of the class of a number is made, with as many fields as it has.
@@ -41,29 +46,78 @@ pub fn act_new(
 
 /// checkcast of the class of a number.
 pub fn act_cast(image: &Image, frames: &mut Frames, heap: &Heap, class: u32) -> Acted
-    requires known { IsHeap image.now frames.old heap.now }
+    requires known { IsHeap image.now heap.now }
     requires class { class < length (types_of (typed_of image.now)) }
     requires room { length (top_operands frames.old) ≤ top_room frames.old }
     ensures { (ty : Ty) → IsClassAt image.now ty class → ActsOnHeap image.now (CheckCast ty) frames.old frames.new heap.now heap.now result }
 {
-    flow_acted(check_cast(image, frames, heap, class))
+    if is_top_there(frames, heap) {
+        flow_acted(check_cast(image, frames, heap, class))
+    } else {
+        cast_absent(image, class)
+    }
+}
+
+// What it tells of a reference that is of no object.
+fn cast_absent(image: &Image, class: u32) -> Acted
+    requires { class < length (types_of (typed_of image.now)) }
+    ensures { result ≡ cast_acted (is_absent_of image.now class) }
+{
+    if takes_absent(image, class) {
+        Acted::Goes(Way::Next)
+    } else {
+        Acted::Goes(Way::Raise(Raised::ClassCast))
+    }
 }
 
 /// instanceof of the class of a number.
 pub fn act_instance(image: &Image, frames: &mut Frames, heap: &Heap, class: u32) -> Acted
-    requires known { IsHeap image.now frames.old heap.now }
+    requires known { IsHeap image.now heap.now }
     requires class { class < length (types_of (typed_of image.now)) }
     requires room { length (top_operands frames.old) ≤ top_room frames.old }
     ensures { (ty : Ty) → IsClassAt image.now ty class → ActsOnHeap image.now (InstanceOf ty) frames.old frames.new heap.now heap.now result }
 {
-    flow_acted(instance_of(image, frames, heap, class))
+    if is_top_there(frames, heap) {
+        flow_acted(instance_of(image, frames, heap, class))
+    } else {
+        instance_absent(image, frames, class);
+        Acted::Goes(Way::Next)
+    }
 }
 
-/// athrow, where the class Throwable is told.
+// The reference on top is taken, and what it tells is pushed where it is of no object.
+fn instance_absent(image: &Image, frames: &mut Frames, class: u32)
+    requires class { class < length (types_of (typed_of image.now)) }
+    requires some { 0 < length (top_operands frames.old) }
+    requires room { length (top_operands frames.old) ≤ top_room frames.old }
+    ensures operands { ReplacesTop frames.old frames.new (values.Int (instance_number (is_absent_of image.now class))) }
+    ensures rest { SameButOperands frames.old frames.new }
+{
+    frames.pop_value();
+    frames.push_value(absent_value(image, class));
+}
+
+// 1 where a reference that is of no object is of the class, else 0.
+fn absent_value(image: &Image, class: u32) -> Value
+    requires { class < length (types_of (typed_of image.now)) }
+    ensures { result ≡ values.Int (instance_number (is_absent_of image.now class)) }
+{
+    if takes_absent(image, class) {
+        Value::Int(1)
+    } else {
+        Value::Int(0)
+    }
+}
+
+/// athrow, where the class Throwable is told. No reference that is of no object is of it.
 pub fn act_throw(image: &Image, frames: &mut Frames, heap: &Heap, throwable: u32) -> Acted
-    requires known { IsHeap image.now frames.old heap.now }
+    requires known { IsHeap image.now heap.now }
     requires throwable { IsClassAt image.now (class_type (throwable_name image.now.prefix)) throwable }
     ensures { ActsOnHeap image.now Throw frames.old frames.new heap.now heap.now result }
 {
-    thrown_acted(throw_top(image, frames, heap, throwable))
+    if is_top_there(frames, heap) {
+        thrown_acted(throw_top(image, frames, heap, throwable))
+    } else {
+        Acted::Link
+    }
 }

@@ -6,10 +6,11 @@ ghost use Rattle.dj_image.specs.Imaged.{typed_of};
 ghost use Rattle.dj_model.specs.Types.{throwable_name};
 ghost use Rattle.dj_effects.specs.Actions.{action_view};
 ghost use Rattle.dj_acting.specs.Acting.{ActsOnHeap, HasRoom, IsClassAt, IsHeap, IsMadeBy};
+ghost use Rattle.dj_acting.specs.Frugal.{FrugalOnHeap};
 
 use crate::acted::{Acted, way_acted};
 use crate::arrays::{act_length, act_load, act_new_array, act_store};
-use crate::asking::{growth, has_room};
+use crate::asking::{growth, has_room, have_room};
 use crate::objects::act_throw;
 use crate::values::act_on_values;
 use dj_effects::PlainAction;
@@ -28,12 +29,14 @@ pub fn act_plain(
     class: u32,
     action: PlainAction<'_>,
 ) -> Result<Acted, NoMemory>
-    requires known { IsHeap image.now frames.old heap.old }
+    requires known { IsHeap image.now heap.old }
     requires throwable { IsClassAt image.now (class_type (throwable_name image.now.prefix)) throwable }
     requires made { IsMadeBy image.now action class }
     ensures done { IfOk result (λ acted. ActsOnHeap image.now (action_view action.entry) frames.old frames.new heap.old heap.new acted) }
     ensures known { IfOk result (λ _. AreKnown (types_of (typed_of image.now)) heap.new) }
+    ensures frugal { FrugalOnHeap image.now (action_view action.entry) frames.old heap.old result }
 {
+    have_room(frames);
     if !has_room(frames, growth(action)) {
         // Never in a sound program.
         return Err(NoMemory::Memory);
@@ -51,12 +54,13 @@ fn act_in_room(
     class: u32,
     action: PlainAction<'_>,
 ) -> Result<Acted, NoMemory>
-    requires known { IsHeap image.now frames.old heap.old }
+    requires known { IsHeap image.now heap.old }
     requires throwable { IsClassAt image.now (class_type (throwable_name image.now.prefix)) throwable }
     requires made { IsMadeBy image.now action class }
     requires room { HasRoom (action_view action) frames.old }
     ensures done { IfOk result (λ acted. ActsOnHeap image.now (action_view action.entry) frames.old frames.new heap.old heap.new acted) }
     ensures known { IfOk result (λ _. AreKnown (types_of (typed_of image.now)) heap.new) }
+    ensures frugal { FrugalOnHeap image.now (action_view action.entry) frames.old heap.old result }
 {
     match action {
         PlainAction::LoadElement(access) => Ok(act_load(image, frames, heap, access)),

@@ -7,6 +7,7 @@ ghost use Rattle.dj_image.specs.Imaged.{program_of};
 ghost use Rattle.dj_initialising.specs.Places.{ArePlaces};
 ghost use Rattle.dj_acting.specs.Accesses.{IsStaticAt};
 ghost use Rattle.dj_acting.specs.Acting.{ActsOnStatics, IsMember};
+ghost use Rattle.dj_acting.specs.Frugal.{FrugalOnStatics};
 
 use crate::acted::{Acted, way_acted};
 use crate::asking::has_room;
@@ -29,8 +30,9 @@ pub fn act_get_static(
     requires counted { length statics.now ≡ static_count (program_of image.now) }
     requires there { field.number < length (all_fields (program_of image.now)) }
     requires found { IsStaticAt image.now field.number }
-    ensures { (member : Member) (found : FoundField) → IsMember image.now member found field.number
+    ensures done { (member : Member) (found : FoundField) → IsMember image.now member found field.number
         → IfOk result (λ acted. ActsOnStatics image.now (GetStatic member) frames.old frames.new statics.now statics.now acted) }
+    ensures frugal { (member : Member) → FrugalOnStatics image.now (GetStatic member) frames.old statics.now result }
 {
     let Some(kind) = kind_of(image.field(field).desc) else {
         return Ok(Acted::Stuck);

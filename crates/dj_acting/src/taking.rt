@@ -1,8 +1,11 @@
-ghost use Rattle.std.specs.Prelude.{◌≡◌, ◌≤◌, ◌<◌, length, slice_get};
+ghost use Rattle.std.specs.Prelude.{◌≡◌, ◌<◌, length, slice_get};
 ghost use Rattle.dj_stack.specs.Frames.{top_operands};
 ghost use Rattle.dj_acting.specs.Acting.{IsHeap};
-ghost use Rattle.dj_acting.specs.Taking.{IsTaken, IsTakenBy};
+ghost use Rattle.dj_types.specs.Typed.{types_of};
+ghost use Rattle.dj_image.specs.Imaged.{typed_of};
+ghost use Rattle.dj_acting.specs.Taking.{IsOf, IsTaken, IsTakenBy};
 
+use dj_calls::takes_absent;
 use dj_heap::Heap;
 use dj_image::Image;
 use dj_names::Value;
@@ -11,7 +14,7 @@ use dj_stack::Frames;
 
 /// Whether the array of references that stands under a reference and an index takes the reference.
 pub fn takes_top(image: &Image, frames: &Frames, heap: &Heap) -> bool
-    requires { IsHeap image.now frames.now heap.now }
+    requires { IsHeap image.now heap.now }
     ensures { IsTaken image.now heap.now result (top_operands frames.now) }
 {
     let Some(Value::Ref(value)) = peek(frames, 0) else {
@@ -20,7 +23,7 @@ pub fn takes_top(image: &Image, frames: &Frames, heap: &Heap) -> bool
     let Some(Value::Ref(array)) = peek(frames, 2) else {
         return true;
     };
-    array_takes(image, frames, heap, array, value)
+    array_takes(image, heap, array, value)
 }
 
 /// The operand under so many others of the top frame.
@@ -39,9 +42,8 @@ pub fn peek(frames: &Frames, below: u16) -> Option<Value>
 }
 
 // Whether an array of references takes a reference.
-fn array_takes(image: &Image, frames: &Frames, heap: &Heap, array: u32, value: u32) -> bool
-    requires known { IsHeap image.now frames.now heap.now }
-    requires there { value ≤ length heap.now.heap.objects }
+fn array_takes(image: &Image, heap: &Heap, array: u32, value: u32) -> bool
+    requires { IsHeap image.now heap.now }
     ensures { IsTakenBy image.now heap.now array value result }
 {
     if value == 0 || array == 0 || heap.count() < array {
@@ -49,7 +51,20 @@ fn array_takes(image: &Image, frames: &Frames, heap: &Heap, array: u32, value: u
     }
     image.have_components();
     match Classes::component(image, heap.class_of(array)) {
-        Some(component) => Image::sub_type(image, heap.class_of(value), component),
+        Some(component) => is_of(image, heap, value, component),
         None => true,
     }
+}
+
+// Whether a reference that isn't null is of a class; one of no object counts as an array of booleans.
+fn is_of(image: &Image, heap: &Heap, value: u32, class: u32) -> bool
+    requires known { IsHeap image.now heap.now }
+    requires class { class < length (types_of (typed_of image.now)) }
+    requires some { value ≡ 0 → ⊥ }
+    ensures { IsOf image.now heap.now value class result }
+{
+    if heap.count() < value {
+        return takes_absent(image, class);
+    }
+    Image::sub_type(image, heap.class_of(value), class)
 }

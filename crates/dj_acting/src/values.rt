@@ -9,6 +9,7 @@ use dj_stack::Frames;
 
 /// An action on local variables and operands alone is done; nothing, where it is another one.
 #[tactic(auto, using(crate::proofs::Rooms::none_done))]
+#[inline(always)]
 pub fn act_on_values(frames: &mut Frames, action: PlainAction<'_>) -> Option<Way>
     requires { Fits (action_view action) frames.old }
     ensures { Does (action_view action.entry) frames.old frames.new result }

@@ -1,12 +1,12 @@
 -- What native methods take, by rows, and heaps whose objects are known.
 use Rattle.std.specs.Borrow.{Bor}
-use Rattle.std.specs.Prelude.{◌≡◌, ◌<◌, ◌≤◌, ℕ, ℤ, Bool, false, List, Option, Some, None, unsigned_abs, length}
+use Rattle.std.specs.Prelude.{◌≡◌, ◌<◌, ℕ, Bool, false, List, Option, Some, None, length}
 use Rattle.dj_names.specs.declared.descriptor.Kind.{Kind}
 use Rattle.dj_names.specs.declared.descriptor.Ty.{Ty}
 use Rattle.dj_names.specs.declared.native.NativeId.{NativeId}
 use Rattle.dj_names.specs.declared.run.Value.{Value}
 use Rattle.dj_names.specs.Heaps.{Object}
-use Rattle.dj_heap.specs.Heaps.{LimitedHeap, object_in, element_in}
+use Rattle.dj_heap.specs.Heaps.{LimitedHeap, object_in}
 use Rattle.dj_model.specs.Natives.{asks, reference}
 use Rattle.dj_model.specs.NativeKinds.{native_signature}
 use Rattle.dj_stack.specs.Frames.{StackFrame, top_operands, top_room}
@@ -18,15 +18,8 @@ pub record IsTaken (row : NativeId × Bor (List Kind) × Bool) : Type 0 where
   pub asks : (args : List Value) → asks row.0 args ≡ None
   pub fits : (h : LimitedHeap) (args : List Value) → (row.2 ≡ false → IsOfChars (object_in h (reference 0 args))) → IsFitting row.0 h args
 
--- the first so many elements are numbers of objects, or null
-abbrev pub AreThereTo : LimitedHeap → ℕ → ℕ → Type 0
-AreThereTo h r n = (at : ℕ) (z : ℤ) → at < n → element_in h r at ≡ Some z → unsigned_abs z ≤ length h.heap.objects
-
-abbrev pub AreThere : LimitedHeap → ℕ → Type 0
-AreThere h r = (at : ℕ) (z : ℤ) → element_in h r at ≡ Some z → unsigned_abs z ≤ length h.heap.objects
-
 abbrev pub IsKnownAt : List Ty → LimitedHeap → ℕ → Type 0
-IsKnownAt types h r = (object : Object ℕ) → object_in h r ≡ Some object → IsKnown types (length h.heap.objects) object
+IsKnownAt types h r = (object : Object ℕ) → object_in h r ≡ Some object → IsKnown types object
 
 -- ---- frames
 

@@ -1,6 +1,6 @@
 -- Two small programs: a few classes of the library, and classes and arrays beside them; the other one is under a prefix, and has the object that stops a run.
 use Rattle.std.specs.Borrow.{Bor}
-use Rattle.std.specs.Prelude.{◌≡◌, ℕ, zero, suc, ⊤, Bool, true, false, List, [], ◌∷◌, ◌++◌, map, Option, Some, None, codes}
+use Rattle.std.specs.Prelude.{◌≡◌, ℕ, zero, suc, ⊤, ◌&&◌, Bool, true, false, List, [], ◌∷◌, ◌++◌, map, length, Option, Some, None, codes, nat_lt}
 use Rattle.dj_names.specs.declared.descriptor.Base.TheVariants as bases
 use Rattle.dj_names.specs.declared.descriptor.Ty.{Ty}
 use Rattle.dj_names.specs.Library.{stop_class}
@@ -83,6 +83,12 @@ few_names boxed = map class_name (few_types boxed)
 -- of each whether it is a subtype of each
 abbrev pub few_below : Bool → List (List Bool)
 few_below boxed = map (λ (a : Ty). map (is_subtype (few_program boxed) (few_prefix boxed) a) (few_types boxed)) (few_types boxed)
+
+-- of a declaring class and of another one, whether that has its fields; no class here has interfaces, so those below it have them
+abbrev pub few_has : Bool → ℕ → ℕ → Bool
+few_has boxed declaring class =
+    nat_lt declaring (length (few_types boxed))
+    && is_subtype (few_program boxed) (few_prefix boxed) (type_at (few_types boxed) class) (type_at (few_types boxed) declaring)
 
 -- what lent lists are
 abbrev pub lent_lists : {A : Type 0} → List (Bor (List A)) → List (List A)

@@ -1,6 +1,7 @@
 ghost use Rattle.std.specs.Prelude.{◌≡◌, ◌<◌, length, IfSome};
 ghost use Rattle.dj_call_tests.specs.Few.{few_types, few_program, few_names, few_below, lent_lists, AllAt, IsSuper, IsComponent};
 
+use dj_members::Holders;
 use dj_natives::Classes;
 
 /// A small program: that under the prefix, or the plain one.
@@ -277,4 +278,20 @@ impl Classes for Few {
     fn are_plain(&self) {}
 
     fn have_components(&self) {}
+}
+
+impl Holders for Few {
+    ghost use Rattle.std.specs.Prelude.{length};
+    ghost use Rattle.dj_call_tests.specs.Few.{few_types, few_has};
+
+    ghost count = { λ few. length (few_types few.boxed) };
+
+    ghost has = { λ few declaring class. few_has few.boxed declaring class };
+
+    fn has_fields(&self, class: u32, declaring: u32) -> bool {
+        if self.count() <= declaring {
+            return false;
+        }
+        self.sub_type(class, declaring)
+    }
 }

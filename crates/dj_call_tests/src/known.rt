@@ -1,37 +1,20 @@
-ghost use Rattle.std.specs.Prelude.{◌≡◌, ◌<◌, ◌≤◌, ℕ, ℤ, IsTrue, IsSome, length, unsigned_abs, Some, slice_get};
+ghost use Rattle.std.specs.Prelude.{◌≡◌, ◌<◌, IsTrue, IsSome, length, Some};
 ghost use Rattle.std.specs.Option.{option_map};
 ghost use Rattle.dj_names.specs.Heaps.{class_of};
 ghost use Rattle.dj_names.specs.declared.run.Element.TheVariants as elements;
 ghost use Rattle.dj_heap.specs.Calls.{made_as};
-ghost use Rattle.dj_heap.specs.Heaps.{object_in, element_in};
+ghost use Rattle.dj_heap.specs.Heaps.{object_in};
 ghost use Rattle.dj_heap.specs.declared.object.Made.TheVariants as made;
 ghost use Rattle.dj_calls.specs.Known.{AreKnown, IsKnown};
 ghost use Rattle.dj_call_tests.specs.Few.{few_types};
-ghost use Rattle.dj_call_tests.specs.Arguments.{IsKnownAt, AreThere};
+ghost use Rattle.dj_call_tests.specs.Arguments.{IsKnownAt};
 
 use crate::few::Few;
-use crate::heaps::has_element;
 use dj_heap::{Heap, Made};
 use dj_names::Element;
 use dj_natives::Classes;
 
-// Whether each element of the array is the number of an object, or 0.
-fn are_there(heap: &Heap, r: u32) -> bool
-    requires { IsSome (object_in heap.now r) }
-    ensures { IsTrue result → AreThere heap.now r }
-{
-    for at in 0..heap.length(r) {
-        if !has_element(heap, r, at) {
-            return false;
-        }
-        if u64::from(heap.count()) < heap.element(r, at).unsigned_abs() {
-            return false;
-        }
-    }
-    true
-}
-
-// Whether an array of references is of a class of such arrays, and what they are is there.
+// Whether an array of references is of a class of such arrays.
 fn is_known_array(few: &Few, heap: &Heap, r: u32, class: u32) -> bool
     requires there { IsSome (object_in heap.now r) }
     requires own { option_map class_of (object_in heap.now r) ≡ Some class }
@@ -40,7 +23,7 @@ fn is_known_array(few: &Few, heap: &Heap, r: u32, class: u32) -> bool
     ensures { IsTrue result → IsKnownAt (few_types few.now.boxed) heap.now r }
 {
     match few.component(class) {
-        Some(_) => are_there(heap, r),
+        Some(_) => true,
         None => false,
     }
 }

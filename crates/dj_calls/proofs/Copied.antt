@@ -1,11 +1,9 @@
 -- What came of elements that were moved is what came of the model's answer.
 use Rattle.std.proofs.Common.{◌≡◌, ℕ, ◌+◌, ◌-◌, ◌≤◌, ◌<◌, true, false, ℤ, List, ◌++◌, length, take, drop, Option, Some, None, nat_eq, if◌then◌else◌, refl, ap, sym, subst, ◌∙◌, arith}
-use Rattle.std.specs.Prelude.{IsTrue, slice_range, unsigned_abs}
+use Rattle.std.specs.Prelude.{slice_range}
 use Rattle.std.specs.Option.{option_map}
-use Rattle.std.specs.List.{All}
 use Rattle.std.proofs.lemmas.Bool.{ne_eqb, eq-eqb}
 use Rattle.std.proofs.lemmas.List.{length-append, length-take-le, length-drop}
-use Rattle.std.proofs.lemmas.List.Elements.{All-append, All-take, All-drop}
 use Rattle.dj_names.specs.declared.descriptor.Ty.{Ty}
 use Rattle.dj_names.specs.declared.run.Element.{Element}
 use Rattle.dj_names.specs.declared.run.Element.TheVariants as elements
@@ -16,7 +14,7 @@ use Rattle.dj_heap.specs.Heaps.{LimitedHeap, object_in}
 use Rattle.dj_model.specs.Types.{Prefix}
 use Rattle.dj_model.specs.Program.{Program}
 use Rattle.dj_model.specs.State.{Part}
-use Rattle.dj_model.specs.Natives.{Answer, SetsElements, copied, is_reference}
+use Rattle.dj_model.specs.Natives.{Answer, SetsElements, copied}
 use Rattle.dj_model.specs.Performing.{set_elements, set_object, with_elements_in, raises_after, perform}
 use Rattle.dj_model.proofs.MappedHeaps.{object_at_mapped, object_set}
 use Rattle.dj_natives.specs.Numbered.{type_at}
@@ -24,7 +22,7 @@ use Rattle.dj_calls.specs.declared.answer.NativeAnswer.TheVariants as told
 use Rattle.dj_calls.specs.declared.arrays.Copy.{Copy}
 use Rattle.dj_calls.specs.Calls.{Done, part_with, terms_of}
 use Rattle.dj_calls.specs.Copies.{IsCopy, CopiesSo, Moves, MovesSo, Takes, moved_of, takes_at}
-use Rattle.dj_calls.specs.Known.{AreKnown, IsKnown}
+use Rattle.dj_calls.specs.Known.{AreKnown}
 use Rattle.dj_calls.proofs.Performed.{known_at, known_set}
 use Rattle.dj_calls.proofs.Takings.{range_whole}
 
@@ -57,13 +55,6 @@ elements_typed types h target class element olds patched p is long =
     ap (λ o. set_object (part_with types h None p) target (with_elements_in o patched)) (object_at_mapped f h.heap.objects target ∙ ap (option_map (object_map f)) is)
     ∙ ap (λ b. set_object (part_with types h None p) target (if b then Some (Array (f class) element patched) else None)) (eq-eqb (length patched) (length olds) long)
     ∙ ap (λ heap. record p { heap = heap }) (object_set f h.heap target (Array class element patched))
-
-all_patched : (P : ℤ → Type 0) (contents olds : List ℤ) (from to n : ℕ) → All P contents → All P olds
-    → All P (take to olds ++ take n (drop from contents) ++ drop (to + n) olds)
-all_patched P contents olds from to n first second =
-    All-append P (take to olds ++ take n (drop from contents)) (drop (to + n) olds)
-    (All-append P (take to olds) (take n (drop from contents)) (All-take P to olds second) (All-take P n (drop from contents) (All-drop P from contents first)))
-    (All-drop P (to + n) olds second)
 
 module _ (program : Program) (prefix : Prefix) (types : List Ty) (h new : LimitedHeap) (element : Element) (copy : Copy) (n : ℕ) (answer : Answer)
     (known : AreKnown types h) (is : IsCopy h element copy) (few : n ≤ copy.count) (moved : MovesSo program prefix types h element copy n) (moves : Moves h new copy n)
@@ -105,14 +96,9 @@ module _ (program : Program) (prefix : Prefix) (types : List Ty) (h new : Limite
 
   patched_known : AreKnown types after
   patched_known =
-      let first = known_at types h copy.source (Array is.source.class element is.source.contents) is.source.is known in
       let second = known_at types h copy.target (Array is.target.class element is.target.contents) is.target.is known in
       known_set types h copy.target (Array is.target.class element patched) known
-      (record {
-        class = second.class;
-        holds = second.holds;
-        there = λ ref. all_patched (λ z. unsigned_abs z ≤ length h.heap.objects) is.source.contents is.target.contents copy.from copy.to n (first.there ref) (second.there ref);
-      })
+      (record { class = second.class; holds = second.holds })
 
   performed : (p : Part) (raised : Option Raised) → raised_by n ≡ raised → perform prefix (terms_of h None) (part_with types h None p) answer ≡ raises_after (part_with types after None p) raised
   unfolding perform

@@ -25,20 +25,20 @@ not_base_array is = let dims : 1 ≡ 0 = ap (λ (ty : Ty). ty.dims) is.1 in omeg
 
 -- ---- objects
 
-instance_known : IsKnown listed 1 (Instance 0 (7 ∷ []))
-instance_known = record { class = omega arith; holds = class_is; there = tt }
+instance_known : IsKnown listed (Instance 0 (7 ∷ []))
+instance_known = record { class = omega arith; holds = class_is }
 
 -- an instance of an array's class isn't
-not_instance_of_array : IsKnown listed 1 (Instance 1 []) → ⊥
+not_instance_of_array : IsKnown listed (Instance 1 []) → ⊥
 not_instance_of_array known = not_array known.holds
 
-ints_known : IsKnown listed 1 (Array 2 elements.Int (pos 9 ∷ []))
-ints_known = record { class = omega arith; holds = λ e. absurd cc; there = λ e. absurd cc }
+ints_known : IsKnown listed (Array 2 elements.Int (pos 9 ∷ []))
+ints_known = record { class = omega arith; holds = λ e. absurd cc }
 
 -- nor is an array of references of a class that is none of such arrays
 not_references_of_class : HoldsKnown listed (Array 0 elements.Ref []) → ⊥
 not_references_of_class holds = let class = holds refl in absurd cc
 
 -- nor what is of no number
-not_numbered : IsKnown listed 1 (Text 3 []) → ⊥
+not_numbered : IsKnown listed (Text 3 []) → ⊥
 not_numbered known = let few = known.class in omega (arith, few)

@@ -16,6 +16,7 @@ pub mod NameUnits
 pub mod NameFacts
 pub mod CountingFacts
 pub mod Catching
+pub mod BooleanArrays
 pub mod CopyAnswers
 mod NumberedFacts
 mod KnownFacts

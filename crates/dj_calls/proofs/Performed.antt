@@ -1,11 +1,11 @@
 -- What is done of an answer, where what it owes is charged.
-use Rattle.std.proofs.Common.{◌≡◌, ℕ, ◌+◌, ◌*◌, ◌^◌, ◌-◌, ◌≤◌, ◌<◌, true, false, List, [], ◌∷◌, ◌++◌, ℤ, pos, length, map, replicate, set, Option, Some, None, refl, ap, sym, subst, ◌∙◌, arith, get_or, Fits, w16}
-use Rattle.std.specs.Prelude.{slice_get, unwrap_or, IsTrue, unsigned_abs}
+use Rattle.std.proofs.Common.{◌≡◌, ℕ, ◌+◌, ◌*◌, ◌^◌, ◌-◌, ◌<◌, true, false, List, [], ◌∷◌, ◌++◌, ℤ, pos, length, map, replicate, set, Option, Some, None, refl, ap, sym, subst, ◌∙◌, arith, get_or, Fits, w16}
+use Rattle.std.specs.Prelude.{slice_get, unwrap_or, IsTrue}
 use Rattle.std.specs.Option.{option_map}
 use Rattle.std.specs.List.{All}
 use Rattle.std.specs.Int.{int_rem_euclid}
-use Rattle.std.proofs.lemmas.List.{length-append, length-map, length-set, length-replicate}
-use Rattle.std.proofs.lemmas.List.Elements.{All-push, All-same, All-weaker, All-set, All-get_or, All-from_get_or}
+use Rattle.std.proofs.lemmas.List.{length-map, length-replicate}
+use Rattle.std.proofs.lemmas.List.Elements.{All-push, All-same, All-set, All-get_or, All-from_get_or}
 use Rattle.std.proofs.lemmas.Bool.{le-ltb, lt-ltb}
 use Rattle.std.proofs.lemmas.Option.{slice_get_within}
 use Rattle.dj_names.specs.declared.descriptor.Base.TheVariants as bases
@@ -32,7 +32,7 @@ use Rattle.dj_natives.specs.Numbered.{type_at}
 use Rattle.dj_calls.specs.declared.answer.NativeAnswer.{NativeAnswer}
 use Rattle.dj_calls.specs.declared.answer.NativeAnswer.TheVariants as told
 use Rattle.dj_calls.specs.Calls.{typed_heap, part_with, terms_of, Done, Performs, SetsField, set_in, with_reference, with_values, returned, refused_as, Fills, effect_with}
-use Rattle.dj_calls.specs.Known.{AreKnown, IsKnown, HoldsThere}
+use Rattle.dj_calls.specs.Known.{AreKnown, IsKnown}
 use Rattle.dj_calls.proofs.HeapLaws.{set_twice, there_within, there_is, there_set, remade, made_there}
 
 -- ---- objects are made
@@ -72,43 +72,26 @@ module _ (types : List Ty) where
 
 -- ---- what is known of the heap
 
-more_there : (n m : ℕ) (o : Object ℕ) → n ≤ m → HoldsThere n o → HoldsThere m o
-more_there n m (Instance class fields) le there = tt
-more_there n m (Array class element contents) le there =
-    λ ref. All-weaker (λ z. unsigned_abs z ≤ n) (λ z. unsigned_abs z ≤ m) (λ z few. omega (arith, few, le)) contents (there ref)
-more_there n m (Text class units) le there = tt
-
-pub more_known : (types : List Ty) (n m : ℕ) (o : Object ℕ) → n ≤ m → IsKnown types n o → IsKnown types m o
-more_known types n m o le known = record { class = known.class; holds = known.holds; there = more_there n m o le known.there }
-
-pub known_made : (types : List Ty) (old new : LimitedHeap) (o : Object ℕ) (r : ℕ) → heaps.Makes old new o r → AreKnown types old
-    → IsKnown types (length new.heap.objects) o → AreKnown types new
+pub known_made : (types : List Ty) (old new : LimitedHeap) (o : Object ℕ) (r : ℕ) → heaps.Makes old new o r → AreKnown types old → IsKnown types o → AreKnown types new
 known_made types old new o r makes known is =
-    let n = length new.heap.objects in
     let listed : new.heap.objects ≡ old.heap.objects ++ o ∷ [] = ap (λ (h : LimitedHeap). h.heap.objects) makes.heap in
-    let long : n ≡ length old.heap.objects + 1 = ap length listed ∙ length-append old.heap.objects (o ∷ []) in
-    All-same (IsKnown types n) new.heap.objects (old.heap.objects ++ o ∷ []) listed
-    (All-push (IsKnown types n) old.heap.objects o
-    (All-weaker (IsKnown types (length old.heap.objects)) (IsKnown types n) (λ x k. more_known types (length old.heap.objects) n x (omega (arith, long)) k) old.heap.objects known)
-    is)
+    All-same (IsKnown types) new.heap.objects (old.heap.objects ++ o ∷ []) listed (All-push (IsKnown types) old.heap.objects o known is)
 
-known_text : (types : List Ty) (n class : ℕ) (units : List ℕ) (ty : Ty) → slice_get types class ≡ Some ty → IsKnown types n (Text class units)
-known_text types n class units ty e = record { class = slice_get_within types class ty e; holds = tt; there = tt }
+known_text : (types : List Ty) (class : ℕ) (units : List ℕ) (ty : Ty) → slice_get types class ≡ Some ty → IsKnown types (Text class units)
+known_text types class units ty e = record { class = slice_get_within types class ty e; holds = tt }
 
-known_instance : (types : List Ty) (n class : ℕ) (fields others : List ℕ) → IsKnown types n (Instance class fields) → IsKnown types n (Instance class others)
-known_instance types n class fields others known = record { class = known.class; holds = known.holds; there = tt }
+known_instance : (types : List Ty) (class : ℕ) (fields others : List ℕ) → IsKnown types (Instance class fields) → IsKnown types (Instance class others)
+known_instance types class fields others known = record { class = known.class; holds = known.holds }
 
-pub known_at : (types : List Ty) (h : LimitedHeap) (r : ℕ) (o : Object ℕ) → object_in h r ≡ Some o → AreKnown types h → IsKnown types (length h.heap.objects) o
+pub known_at : (types : List Ty) (h : LimitedHeap) (r : ℕ) (o : Object ℕ) → object_in h r ≡ Some o → AreKnown types h → IsKnown types o
 known_at types h r o e known =
     let within = there_within h.heap.objects r o e in
-    subst (IsKnown types (length h.heap.objects)) (there_is h.heap.objects r o e) (All-get_or (IsKnown types (length h.heap.objects)) h.heap.objects (r - 1) o within known)
+    subst (IsKnown types) (there_is h.heap.objects r o e) (All-get_or (IsKnown types) h.heap.objects (r - 1) o within known)
 
 -- one object is another that is known
-pub known_set : (types : List Ty) (h : LimitedHeap) (r : ℕ) (changed : Object ℕ) → AreKnown types h → IsKnown types (length h.heap.objects) changed
+pub known_set : (types : List Ty) (h : LimitedHeap) (r : ℕ) (changed : Object ℕ) → AreKnown types h → IsKnown types changed
     → AreKnown types (record h { heap = with_object h.heap r changed })
-known_set types h r changed known is =
-    subst (λ (n : ℕ). All (IsKnown types n) (set h.heap.objects (r - 1) changed)) (sym (length-set h.heap.objects (r - 1) changed))
-    (All-set (IsKnown types (length h.heap.objects)) h.heap.objects (r - 1) changed is known)
+known_set types h r changed known is = All-set (IsKnown types) h.heap.objects (r - 1) changed is known
 
 -- ---- fields are set
 
@@ -163,7 +146,7 @@ known_found types h object vs (Some (Array class element contents)) e known = kn
 known_found types h object vs (Some (Text class units)) e known = known
 known_found types h object vs (Some (Instance class fields)) e known =
     known_set types h object (Instance class (with_fields fields vs)) known
-    (known_instance types (length h.heap.objects) class fields (with_fields fields vs) (known_at types h object (Instance class fields) e known))
+    (known_instance types class fields (with_fields fields vs) (known_at types h object (Instance class fields) e known))
 
 pub known_values : (types : List Ty) (h : LimitedHeap) (object : ℕ) (vs : List Value) → AreKnown types h
     → AreKnown types (set_in h object (with_values (object_in h object) vs))
@@ -219,7 +202,7 @@ module _ (prefix : Prefix) (types : List Ty) where
     text_made old new r makes known = record {
       does = λ p. ap returns_made (text_is (Some old.limit) (part_with types old None p) ∙ made types old new (Text class units) r makes p);
       heap = ap (λ (h : LimitedHeap). h.limit) makes.heap;
-      known = known_made types old new (Text class units) r makes known (known_text types (length new.heap.objects) class units (class_type (string_name prefix)) is);
+      known = known_made types old new (Text class units) r makes known (known_text types class units (class_type (string_name prefix)) is);
     }
 
     pub text_full : (old : LimitedHeap) (used size : ℕ) → Refuses old (object_size (Text class units)) (errors.Full used size) → AreKnown types old
@@ -235,7 +218,7 @@ module _ (prefix : Prefix) (types : List Ty) where
         → Done prefix types old new (KeepsText object units) (told.Gives (values.Ref object))
     unfolding perform
     kept_made old mid new object r makes sets known =
-        let middle = known_made types old mid (Text class units) r makes known (known_text types (length mid.heap.objects) class units (class_type (string_name prefix)) is) in
+        let middle = known_made types old mid (Text class units) r makes known (known_text types class units (class_type (string_name prefix)) is) in
         let now : new ≡ set_in mid object (with_values (object_in mid object) (values.Ref r ∷ [])) = sets ∙ ap (set_in mid object) (one_value (object_in mid object) r) in
         subst (λ (h : LimitedHeap). Done prefix types old h (KeepsText object units) (told.Gives (values.Ref object))) (sym now)
         (record {
@@ -281,12 +264,8 @@ module _ (prefix : Prefix) (types : List Ty) where
     chars_is : (limit : Option ℕ) (p : Part) → making limit p (chars_object units) ≡ making limit p (object_map (type_at types) chars)
     chars_is limit p = ap (λ ty. making limit p (Array ty elements.Char (map pos units))) (sym (type_is types class (base_array bases.Char) is))
 
-    known_chars : (n : ℕ) → IsKnown types n chars
-    known_chars n = record {
-      class = slice_get_within types class (base_array bases.Char) is;
-      holds = λ ref. absurd cc;
-      there = λ ref. absurd cc;
-    }
+    known_chars : IsKnown types chars
+    known_chars = record { class = slice_get_within types class (base_array bases.Char) is; holds = λ ref. absurd cc }
 
     pub chars_made : (old new : LimitedHeap) (r : ℕ) → heaps.Makes old new chars r → AreKnown types old
         → Done prefix types old new (MakesChars units) (told.Gives (values.Ref r))
@@ -294,7 +273,7 @@ module _ (prefix : Prefix) (types : List Ty) where
     chars_made old new r makes known = record {
       does = λ p. ap returns_made (chars_is (Some old.limit) (part_with types old None p) ∙ made types old new chars r makes p);
       heap = ap (λ (h : LimitedHeap). h.limit) makes.heap;
-      known = known_made types old new chars r makes known (known_chars (length new.heap.objects));
+      known = known_made types old new chars r makes known known_chars;
     }
 
     pub chars_full : (old : LimitedHeap) (used size : ℕ) → Refuses old (object_size chars) (errors.Full used size) → AreKnown types old

@@ -1,5 +1,5 @@
 -- Heaps whose classes have numbers, and arguments of native methods.
-use Rattle.std.specs.Prelude.{◌≡◌, ℕ, ◌<◌, ◌≤◌, ⊤, true, List, map, unsigned_abs, Option, Some, None, length, IsTrue}
+use Rattle.std.specs.Prelude.{◌≡◌, ℕ, ◌<◌, ⊤, true, List, map, Option, Some, None, length, IsTrue}
 use Rattle.std.specs.List.{All}
 use Rattle.dj_names.specs.declared.descriptor.Ty.{Ty}
 use Rattle.dj_names.specs.declared.run.Element.TheVariants as elements
@@ -24,19 +24,12 @@ HoldsKnown types (Instance class fields) = IsClassType (type_at types class)
 HoldsKnown types (Array class element contents) = IsTrue (is_reference element) → holds_references (type_at types class) ≡ true
 HoldsKnown types (Text class units) = ⊤
 
--- each reference in an array is one of so many objects, or null
-abbrev pub HoldsThere : ℕ → Object ℕ → Type 0
-HoldsThere count (Instance class fields) = ⊤
-HoldsThere count (Array class element contents) = IsTrue (is_reference element) → All (λ z. unsigned_abs z ≤ count) contents
-HoldsThere count (Text class units) = ⊤
-
-pub record IsKnown (types : List Ty) (count : ℕ) (object : Object ℕ) : Type 0 where
+pub record IsKnown (types : List Ty) (object : Object ℕ) : Type 0 where
   pub class : class_of object < length types
   pub holds : HoldsKnown types object
-  pub there : HoldsThere count object
 
 abbrev pub AreKnown : List Ty → LimitedHeap → Type 0
-AreKnown types h = All (IsKnown types (length h.heap.objects)) h.heap.objects
+AreKnown types h = All (IsKnown types) h.heap.objects
 
 -- ---- arguments
 

@@ -11,6 +11,7 @@ ghost use Rattle.dj_calls.specs.Copies.{as_place, contents_at, fits_at, IsCopy, 
 ghost use Rattle.dj_calls.specs.Known.{AreKnown};
 ghost use Rattle.dj_calls.specs.Seen.{elements_at, element_of};
 
+use crate::absent::takes_absent;
 use crate::answer::NativeAnswer;
 use crate::arguments::{int, reference};
 use crate::seen::{array_number, object_number};
@@ -247,7 +248,6 @@ fn taken_before<C: Classes>(classes: &C, heap: &Heap, copy: Copy) -> u32
 fn takes<C: Classes>(classes: &C, heap: &Heap, array: u32, r: i64) -> bool
     requires known { AreKnown (C.types classes.now) heap.now }
     requires array { element_of (elements_at heap.now array) ≡ Some elements.Ref }
-    requires there { unsigned_abs r ≤ length heap.now.heap.objects }
     ensures { result ≡ takes_at (C.program classes.now) (C.prefix classes.now) (C.types classes.now) heap.now array (unsigned_abs r) }
 {
     classes.have_components();
@@ -256,7 +256,7 @@ fn takes<C: Classes>(classes: &C, heap: &Heap, array: u32, r: i64) -> bool
     };
     match object_number(heap, r.unsigned_abs()) {
         Some(n) => classes.sub_type(heap.class_of(n), component),
-        None => true,
+        None => r == 0 || takes_absent(classes, component),
     }
 }
 

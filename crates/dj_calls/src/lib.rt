@@ -1,6 +1,7 @@
 //! What native methods do to the heap, and the accounter, which sums what a run is charged.
 #![tactic(auto)]
 
+mod absent;
 mod accounter;
 mod amount;
 mod amounts;
@@ -19,6 +20,7 @@ mod sums;
 mod texts;
 mod throwables;
 
+pub use absent::takes_absent;
 pub use accounter::{Accounter, Charged};
 pub use answer::NativeAnswer;
 pub use arguments::reference;

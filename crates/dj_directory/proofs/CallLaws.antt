@@ -19,7 +19,11 @@ use Rattle.dj_declared.proofs.DescTests.{desc_in_is, is_descriptor}
 use Rattle.dj_classes.specs.Tables.{methods_at}
 use Rattle.dj_directory.specs.declared.rows.MemberRow.{MemberRow}
 use Rattle.dj_directory.specs.Rows.{Named, method_named, methods_named, Texts, number_in, key_of, Fits, AreInOrder, IsSuch, IsLeast, IsTold, IsRow, IsDirectory, AreRowsWith}
-use Rattle.dj_directory.specs.Calls.{takes, tests, passes, IsWhether, IsFirstOf, DeclareFirst, DeclareLike, DeclaresLike, AreMethods, IsTakable, AreTakable, IsRowAt, IsCallTable}
+use Rattle.dj_directory.specs.Calls.{takes, tests, passes, IsWhether, IsFirstOf, DeclareFirst, DeclareLike, DeclaresLike, AreMethods, IsTakable, AreTakable, AreMarked, IsNearestFirst, IsNearestLike, IsRowAt, IsCallTable}
+use Rattle.dj_directory.specs.declared.calls.Marked.{Marked}
+use Rattle.dj_directory.specs.Spans.{AreMarks, AreNear, AreNearest, AreSpans, IsNearestIn, IsWithin, StartsFrom, class_in, end_in, mark_of, start_in}
+use Rattle.dj_directory.specs.declared.spans.Spans.{Spans}
+use Rattle.dj_directory.specs.declared.marks.Marks.{Marks}
 use Rattle.dj_directory.specs.declared.calls.CallTable.{CallTable}
 use Rattle.dj_directory.proofs.NumberLaws.{number_is}
 use Rattle.dj_directory.proofs.RowLaws.{fit_all}
@@ -151,6 +155,15 @@ module _ (program : Program) (test : Method → Bool) (rows : List MemberRow) wh
         };
       }
 
+-- ---- the nearest class
+
+starts_from : (start : ℕ → ℕ) (near : Option ℕ) (step : ℕ) → ((StartsFrom start near step → ⊥) → ⊥) → StartsFrom start near step
+starts_from start None step sure = sure (λ told. told)
+starts_from start (Some class) step sure = elim (cases_lt (start class) step) [
+  | inl less ↦ absurd (sure (λ le. omega (arith, le, less)))
+  | inr le ↦ le
+]
+
 -- ---- the methods of rows
 
 module _ (program : Program) (rows : List MemberRow) (methods : AreMethods program rows) where
@@ -158,7 +171,7 @@ module _ (program : Program) (rows : List MemberRow) (methods : AreMethods progr
   own_row row there = row_in methods.texts (methods_named program) (length program) rows methods.are.methods_are row there
 
   pub in_class : (row : MemberRow) → Contains rows row → row.class < length program
-  in_class row there = method_there program methods.texts rows methods.fields methods.are row.name row.desc row there
+  in_class row there = method_there program methods.texts rows methods.fields methods.first_methods methods.first_fields methods.are row.name row.desc row there
 
   pub in_methods : (row : MemberRow) → Contains rows row → row.place < length (methods_at program row.class)
   in_methods row there =
@@ -177,7 +190,7 @@ module _ (program : Program) (rows : List MemberRow) (methods : AreMethods progr
     first_told : (class : ℕ) (result : Option ℕ) → class < length program → IsTold rows row.name row.desc class result → result ≡ method_place (methods_at program class) m.name m.desc
     first_told class result lt told =
         let is = own_row row there in
-        first_method program methods.texts rows methods.fields methods.are class row.name row.desc result lt told is.name is.text (number_is methods.texts is.name ∙ is.name_is) (number_is methods.texts is.text ∙ is.desc_is)
+        first_method program methods.texts rows methods.fields methods.first_methods methods.first_fields methods.are class row.name row.desc result lt told is.name is.text (number_is methods.texts is.name ∙ is.name_is) (number_is methods.texts is.text ∙ is.desc_is)
         (is_descriptor is.text is.desc is.spelled)
         ∙ ap (λ (n : Name). method_place (methods_at program class) n (desc_in is.text)) (sym (ap (λ (x : Named). x.0) named_so))
         ∙ ap (method_place (methods_at program class) m.name) (desc_in_is is.text is.desc is.spelled ∙ sym (ap (λ (x : Named). x.1) named_so))
@@ -188,8 +201,8 @@ module _ (program : Program) (rows : List MemberRow) (methods : AreMethods progr
       passed = takable.passed;
     }
 
-    module _ (test : Method → Bool) (taken found : List MemberRow) (takable : AreTakable program test rows taken) (few : length program < 2 ^ 31) (with_them : AreRowsWith taken row.name row.desc found)
-        (class place : ℕ) (lt : class < length program) (is : IsFirstOf program test m.name m.desc class place) (none : (r : MemberRow) → Contains found r → r.class ≡ class → ⊥) where
+    module _ (test : Method → Bool) (taken : List MemberRow) (takable : AreTakable program test rows taken) (class place : ℕ) (lt : class < length program) (is : IsFirstOf program test m.name m.desc class place)
+        (none : (r : MemberRow) → Contains taken r → IsSuch row.name row.desc class r → ⊥) where
       no_such : (n : ℕ) (r : MemberRow) → r.place < n → Contains rows r → IsSuch row.name row.desc class r → ⊥
       no_such zero r less within such = absurd (omega (arith, less))
       no_such (suc n) r less within such =
@@ -208,8 +221,7 @@ module _ (program : Program) (rows : List MemberRow) (methods : AreMethods progr
             first = least_as rows row.name r.name row.desc r.desc class r.class r.place (sym such.name_is) (sym such.desc_is) (sym such.class_is) least;
             passed = ap (λ (k : ℕ). passes test (slice_get (methods_at program k) r.place)) such.class_is ∙ ap (λ (k : ℕ). passes test (slice_get (methods_at program class) k)) (sym own) ∙ is.passed;
           } in
-          let same = such.class_is in
-          none r (with_them.all r (takable.all r within it) such.name_is such.desc_is (omega (arith, same, lt, few))) same
+          none r (takable.all r within it) such
 
       not_left_out : ⊥
       not_left_out = none-some place (first_told class None lt (λ r within such. no_such (suc r.place) r (omega arith) within such) ∙ is.first)
@@ -218,7 +230,25 @@ module _ (program : Program) (rows : List MemberRow) (methods : AreMethods progr
     declare_first test taken found takable few with_them = record {
       there = λ r within. in_class r (takable.each r (with_them.each r within).0).0;
       each = λ r within. (let own = with_them.each r within in let it = takable.each r own.0 in first_of test r it.0 own.1.0 own.1.1 it.1);
-      all = λ class place lt is none. not_left_out test taken found takable few with_them class place lt is none;
+      all = λ class place lt is none. not_left_out test taken takable class place lt is (λ r within such.
+          let same = such.class_is in
+          none r (with_them.all r within such.name_is such.desc_is (omega (arith, same, lt, few))) same);
+    }
+
+    nearest_first : (test : Method → Bool) (taken marks : List MemberRow) (spans : Spans) (below : ℕ) (near : Option ℕ) → AreTakable program test rows taken → AreSpans program spans → AreMarks spans taken marks
+        → IsNearestIn spans marks row.name row.desc (start_in spans below + 1) near → IsNearestFirst program test m.name m.desc below near
+    nearest_first test taken marks spans below near takable nested marks_are told = record {
+      start = start_in spans;
+      stop = end_in spans;
+      some = λ k lt. (nested k lt).some;
+      nested = λ k above lt is. subst (IsWithin spans k) is (nested k lt).within;
+      covered = λ k place lt is after before. starts_from (start_in spans) near (start_in spans k) (λ wrong. not_left_out test taken takable k place lt is (λ r within such. wrong
+          (let same = such.class_is in
+          let start = ap (start_in spans) same in
+          let stop = ap (end_in spans) same in
+          subst (λ (j : ℕ). StartsFrom (start_in spans) near (start_in spans j)) same
+          (told (mark_of r (start_in spans r.class)) (marks_are.starts r within) (record { at = refl; own = subst (λ (j : ℕ). class_in spans (start_in spans j) ≡ j) (sym same) (nested k lt).own }) such.name_is such.desc_is
+          (omega (arith, start, after)) (omega (arith, stop, before))))));
     }
 
     declares_first : (test : Method → Bool) (taken : List MemberRow) (other place : ℕ) → AreTakable program test rows taken → IsLeast taken row.name row.desc other place → IsFirstOf program test m.name m.desc other place
@@ -233,6 +263,10 @@ module _ (program : Program) (rows : List MemberRow) (methods : AreMethods progr
 
     pub declare_like : (test : Method → Bool) (taken found : List MemberRow) → AreTakable program test rows taken → length program < 2 ^ 31 → AreRowsWith taken row.name row.desc found → DeclareLike program test class member found
     declare_like test taken found takable few with_them = λ m at. declare_first row is.within m (at_row m at) test taken found takable few with_them
+
+    pub nearest_like : (test : Method → Bool) (taken marks : List MemberRow) (spans : Spans) (below : ℕ) (near : Option ℕ) → AreTakable program test rows taken → AreSpans program spans → AreMarks spans taken marks
+        → IsNearestIn spans marks row.name row.desc (start_in spans below + 1) near → IsNearestLike program test class member below near
+    nearest_like test taken marks spans below near takable nested marks_are told = λ m at. nearest_first row is.within m (at_row m at) test taken marks spans below near takable nested marks_are told
 
     pub declares_like : (test : Method → Bool) (taken : List MemberRow) (other place : ℕ) → AreTakable program test rows taken → IsLeast taken row.name row.desc other place → DeclaresLike program test class member other place
     declares_like test taken other place takable least = λ m at. declares_first row is.within m (at_row m at) test taken other place takable least
@@ -259,3 +293,35 @@ taken_told program calls is private_too class member row taken other None at tak
 taken_told program calls is private_too class member row taken other (Some place) at taken_is told =
     declares_like program is.rows is.methods row class member (record { within = is.places row at.within; class_is = at.class_is; place_is = at.place_is }) (tests private_too) taken other place
     (subst (AreTakable program (tests private_too) is.rows) (sym taken_is) (takable_rows program calls is private_too)) told
+
+pub nearest_told : (program : Program) (calls : CallTable) → IsCallTable program calls → (private_too : Bool) (class member below start : ℕ) (row : MemberRow) (spans : Spans) (marks : Marks) (result : Option (Option ℕ)) → IsRowAt calls.places.items class member row
+    → AreSpans program spans → AreNear spans (taken_rows calls private_too) marks → start ≡ start_in spans below → IfSome result (IsNearestIn spans marks.rows.items row.name row.desc (start + 1))
+    → IfSome result (IsNearestLike program (tests private_too) class member below)
+nearest_told program calls is private_too class member below start row spans marks None at nested are start_is told = tt
+nearest_told program calls is private_too class member below start row spans marks (Some near) at nested are start_is told =
+    nearest_like program is.rows is.methods row class member (record { within = is.places row at.within; class_is = at.class_is; place_is = at.place_is }) (tests private_too) (taken_rows calls private_too) marks.rows.items spans below near
+    (takable_rows program calls is private_too) nested are.marks_are (subst (λ (n : ℕ). IsNearestIn spans marks.rows.items row.name row.desc (n + 1) near) start_is told)
+
+pub marked_is : (program : Program) (calls : CallTable) → IsCallTable program calls → (marked : Marked) → calls.marked ≡ Some marked → AreMarked program calls.plain.items calls.instance.items marked
+marked_is program calls is marked some = subst (λ (o : Option Marked). IfSome o (AreMarked program calls.plain.items calls.instance.items)) some is.marked
+
+pub nearest_instance : (program : Program) (calls : CallTable) (is : IsCallTable program calls) (class member below start : ℕ) (row : MemberRow) (marked : Marked) (result : Option (Option ℕ)) (private_too : Bool) → private_too ≡ true → IsRowAt calls.places.items class member row
+    → AreMarked program calls.plain.items calls.instance.items marked → start ≡ start_in marked.spans below
+    → ((spans : Spans) → AreNearest spans marked.instance.rows.items marked.instance.nearest.items → IfSome result (IsNearestIn spans marked.instance.rows.items row.name row.desc (start + 1)))
+    → IfSome result (IsNearestLike program (tests private_too) class member below)
+nearest_instance program calls is class member below start row marked result private_too e at are start_is told =
+    subst (λ (b : Bool). IfSome result (IsNearestLike program (tests b) class member below)) (sym e)
+    (nearest_told program calls is true class member below start row marked.spans marked.instance result at are.spans_are are.instance_are start_is (told marked.spans are.instance_are.nearest_are))
+
+pub nearest_plain : (program : Program) (calls : CallTable) (is : IsCallTable program calls) (class member below start : ℕ) (row : MemberRow) (marked : Marked) (result : Option (Option ℕ)) (private_too : Bool) → private_too ≡ false → IsRowAt calls.places.items class member row
+    → AreMarked program calls.plain.items calls.instance.items marked → start ≡ start_in marked.spans below
+    → ((spans : Spans) → AreNearest spans marked.plain.rows.items marked.plain.nearest.items → IfSome result (IsNearestIn spans marked.plain.rows.items row.name row.desc (start + 1)))
+    → IfSome result (IsNearestLike program (tests private_too) class member below)
+nearest_plain program calls is class member below start row marked result private_too e at are start_is told =
+    subst (λ (b : Bool). IfSome result (IsNearestLike program (tests b) class member below)) (sym e)
+    (nearest_told program calls is false class member below start row marked.spans marked.plain result at are.spans_are are.plain_are start_is (told marked.spans are.plain_are.nearest_are))
+
+pub marked_items : (program : Program) (plain instance plain_items instance_items : List MemberRow) (marked : Option Marked) → plain ≡ plain_items → instance ≡ instance_items → IfSome marked (AreMarked program plain instance)
+    → IfSome marked (AreMarked program plain_items instance_items)
+marked_items program plain instance plain_items instance_items marked first second are =
+    subst (λ (rows : List MemberRow). IfSome marked (AreMarked program plain_items rows)) second (subst (λ (rows : List MemberRow). IfSome marked (AreMarked program rows instance)) first are)

@@ -1,5 +1,5 @@
 -- Numbers of texts, and the places that rows tell, by plain values, each with something that it is not.
-use Rattle.std.proofs.Common.{◌≡◌, ℕ, ltb, true, false, List, [], ◌∷◌, map, length, Some, None, Bor, codes, refl, sym, ap, ◌∙◌, arith}
+use Rattle.std.proofs.Common.{◌≡◌, ℕ, ltb, true, false, List, [], ◌∷◌, map, length, get_or, Some, None, Bor, codes, refl, sym, ap, ◌∙◌, arith}
 use Rattle.std.specs.Cmp.Lexicographic.{bytes_decides}
 use Rattle.std.proofs.lemmas.Bool.{false≢true}
 use Rattle.dj_names.specs.Types.{Name, same_name}
@@ -10,7 +10,7 @@ use Rattle.dj_model.specs.Linking.{is_plain}
 use Rattle.dj_directory.specs.declared.rows.MemberRow.{MemberRow}
 use Rattle.dj_directory.specs.Numberings.{Numbering, number_among, number_of, DeclareFields}
 use Rattle.dj_directory.specs.Calls.{DeclareFirst}
-use Rattle.dj_directory.specs.Rows.{Named, place_of, Texts, number_in, AreDifferent, key_of, IsTold}
+use Rattle.dj_directory.specs.Rows.{Named, place_of, Texts, number_in, AreDifferent, AreFirst, key_of, IsTold}
 use Rattle.dj_directory.proofs.NumberLaws.{bor, number_is}
 
 -- ---- numbers
@@ -96,6 +96,21 @@ the_second_is_not told = let le = told.least (row 1 2 0 0) (0, omega arith, refl
 
 something_is_told : IsTold rows 1 2 1 None → ⊥
 something_is_told told = told (row 1 2 1 1) (2, omega arith, refl) (record { name_is = refl; desc_is = refl; class_is = refl })
+
+-- a row that repeats another isn't a first one
+repeat_is_refused : AreFirst rows rows → ⊥
+repeat_is_refused are = are.once 0 1 (row 1 2 0 0) (omega arith) (omega arith) (record { name_is = refl; desc_is = refl; class_is = refl })
+
+-- nor may one be left out that repeats none
+lost_is_refused : AreFirst rows (row 1 2 0 0 ∷ []) → ⊥
+lost_is_refused are =
+    let has = are.each (row 1 2 1 1) (2, omega arith, refl) in
+    let at = has.within.0 in
+    let lt = has.within.1 in
+    let first : at ≡ 0 = omega (arith, lt) in
+    let is : row 1 2 0 0 ≡ has.first = ap (λ (k : ℕ). get_or (row 1 2 0 0 ∷ []) k has.first) (sym first) ∙ has.within.2 in
+    let class = ap (λ (r : MemberRow). r.class) is ∙ has.alike.class_is in
+    absurd (omega (arith, class))
 
 -- ---- rows of classes
 

@@ -1,5 +1,7 @@
 pub mod NumberLaws
 pub mod RowLaws
+pub mod SpanLaws
+pub mod FirstLaws
 pub mod GatherLaws
 pub mod PlaceLaws
 pub mod CallLaws

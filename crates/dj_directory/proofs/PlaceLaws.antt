@@ -18,6 +18,7 @@ use Rattle.dj_directory.specs.Numberings.{DeclareFields, DeclareMethods, Numberi
 use Rattle.dj_directory.specs.declared.rows.MemberRow.{MemberRow}
 use Rattle.dj_directory.specs.Rows.{Named, method_named, field_named, methods_named, fields_named, Members, place_of, Texts, texts_of, number_in, AreDifferent, IsSuch, IsTold, IsRow, AreRows, AreRowsWith, IsDirectory}
 use Rattle.dj_directory.proofs.NumberLaws.{number_is}
+use Rattle.dj_directory.proofs.FirstLaws.{told_by_first, least_first, such_first}
 
 abbrev later : ℕ → ℕ
 later place = place + 1
@@ -219,7 +220,7 @@ no_methods program class past = ap methods_of (slice_get_past program class past
 no_fields : (program : Program) (class : ℕ) → length program ≤ class → fields_at program class ≡ []
 no_fields program class past = ap fields_of (slice_get_past program class past)
 
-module _ (program : Program) (texts : Texts) (methods fields : List MemberRow) (is : IsDirectory program texts methods fields) where
+module _ (program : Program) (texts : Texts) (methods fields first_methods first_fields : List MemberRow) (is : IsDirectory program texts methods fields first_methods first_fields) where
   known : (text : List ℕ) (k : ℕ) → number_among (texts_of texts) text ≡ Some k → number_in texts text ≡ Some k
   known text k e = sym (number_is texts text) ∙ e
 
@@ -270,27 +271,32 @@ module _ (program : Program) (texts : Texts) (methods fields : List MemberRow) (
         absurd (omega (arith, lt, none)))
   ]
 
-  pub methods_declared : (name desc : ℕ) (found : List MemberRow) → length program < 2 ^ 31 → AreRowsWith methods name desc found
+  pub methods_declared : (name desc : ℕ) (found : List MemberRow) → length program < 2 ^ 31 → AreRowsWith first_methods name desc found
       → (n d : List ℕ) → number_among (texts_of texts) n ≡ Some name → number_among (texts_of texts) d ≡ Some desc → IsDescriptor d → DeclareMethods program n (desc_in d) found
   methods_declared name desc found few with_them n d n_is d_is valid = record {
     each = λ row there none.
         (let own = with_them.each row there in
         let such : IsSuch name desc row.class row = record { name_is = own.1.0; desc_is = own.1.1; class_is = refl } in
-        let less = method_there name desc row own.0 in
-        let m = named_by texts (methods_named program) (length program) methods is.methods_are n d valid is.different name desc row.class less (known n name n_is) (known d desc d_is) row own.0 such in
+        let in_rows = is.first_methods_are.within row own.0 in
+        let less = method_there name desc row in_rows in
+        let m = named_by texts (methods_named program) (length program) methods is.methods_are n d valid is.different name desc row.class less (known n name n_is) (known d desc d_is) row in_rows such in
         named_there n (desc_in d) (methods_named program row.class) row.place m.0 m.1.0 m.1.1 (method_place_is (methods_at program row.class) n (desc_in d) ∙ none));
     all = λ class less none.
-        sym (first_method class name desc None less (λ row there such.
-        none row (with_them.all row there such.name_is such.desc_is (let same = such.class_is in omega (arith, same, less, few))) such.class_is) n d n_is d_is valid);
+        sym (first_method class name desc None less (told_by_first methods first_methods is.first_methods_are name desc class None (λ row there such.
+        none row (with_them.all row there such.name_is such.desc_is (let same = such.class_is in omega (arith, same, less, few))) such.class_is)) n d n_is d_is valid);
     first = λ class place less told.
         (let at = first_there n (desc_in d) (methods_named program class) place (method_place_is (methods_at program class) n (desc_in d) ∙ told) in
         let own = row_of texts (methods_named program) (length program) methods is.methods_are n d valid class place at.0 less at.1 at.2 in
         let such = such_row texts (methods_named program) (length program) methods is.methods_are n d valid is.different name desc class less (known n name n_is) (known d desc d_is) place own in
+        let has = is.first_methods_are.each own.row own.within in
+        let so = such_first name desc class own.row has.first such has.alike in
+        let least = least_first methods first_methods is.first_methods_are name desc class has.first has.within so in
+        let tells = first_method class name desc (Some has.first.place) less (told_by_first methods first_methods is.first_methods_are name desc class (Some has.first.place) least) n d n_is d_is valid in
         record {
-          row = own.row;
-          within = with_them.all own.row own.within such.name_is such.desc_is (let same = own.class_is in omega (arith, same, less, few));
-          class_is = own.class_is;
-          place_is = own.place_is;
+          row = has.first;
+          within = with_them.all has.first has.within so.name_is so.desc_is (let same = so.class_is in omega (arith, same, less, few));
+          class_is = so.class_is;
+          place_is = one has.first.place place (tells ∙ told);
         });
   }
 
@@ -313,16 +319,17 @@ module _ (program : Program) (texts : Texts) (methods fields : List MemberRow) (
         absurd (omega (arith, lt, none)))
   ]
 
-  pub fields_declared : (name desc : ℕ) (found : List MemberRow) → length program < 2 ^ 31 → AreRowsWith fields name desc found
+  pub fields_declared : (name desc : ℕ) (found : List MemberRow) → length program < 2 ^ 31 → AreRowsWith first_fields name desc found
       → (n d : List ℕ) → number_among (texts_of texts) n ≡ Some name → number_among (texts_of texts) d ≡ Some desc → IsDescriptor d → DeclareFields program n (desc_in d) found
   fields_declared name desc found few with_them n d n_is d_is valid = record {
     each = λ row there none.
         (let own = with_them.each row there in
         let such : IsSuch name desc row.class row = record { name_is = own.1.0; desc_is = own.1.1; class_is = refl } in
-        let less = field_there name desc row own.0 in
-        let f = named_by texts (fields_named program) (length program) fields is.fields_are n d valid is.different name desc row.class less (known n name n_is) (known d desc d_is) row own.0 such in
+        let in_rows = is.first_fields_are.within row own.0 in
+        let less = field_there name desc row in_rows in
+        let f = named_by texts (fields_named program) (length program) fields is.fields_are n d valid is.different name desc row.class less (known n name n_is) (known d desc d_is) row in_rows such in
         named_there n (desc_in d) (fields_named program row.class) row.place f.0 f.1.0 f.1.1 (field_place_is (fields_at program row.class) n (desc_in d) ∙ none));
     all = λ class less none.
-        sym (first_field class name desc None less (λ row there such.
-        none row (with_them.all row there such.name_is such.desc_is (let same = such.class_is in omega (arith, same, less, few))) such.class_is) n d n_is d_is valid);
+        sym (first_field class name desc None less (told_by_first fields first_fields is.first_fields_are name desc class None (λ row there such.
+        none row (with_them.all row there such.name_is such.desc_is (let same = such.class_is in omega (arith, same, less, few))) such.class_is)) n d n_is d_is valid);
   }

@@ -17,16 +17,16 @@ target name desc class = pair_of name desc * 18446744073709551616 + pair_of clas
 -- ---- keys
 
 -- of two numbers as one, each is told by it
-firsts : (a b x y : ℕ) → b < 4294967296 → y < 4294967296 → pair_of a b ≡ pair_of x y → a ≡ x
+pub firsts : (a b x y : ℕ) → b < 4294967296 → y < 4294967296 → pair_of a b ≡ pair_of x y → a ≡ x
 firsts a b x y lt less e = omega (arith, lt, less, e)
 
-seconds : (a b x y : ℕ) → b < 4294967296 → y < 4294967296 → pair_of a b ≡ pair_of x y → b ≡ y
+pub seconds : (a b x y : ℕ) → b < 4294967296 → y < 4294967296 → pair_of a b ≡ pair_of x y → b ≡ y
 seconds a b x y lt less e = omega (arith, lt, less, e)
 
-small : (a b : ℕ) → a < 4294967296 → b < 4294967296 → pair_of a b < 18446744073709551616
+pub small : (a b : ℕ) → a < 4294967296 → b < 4294967296 → pair_of a b < 18446744073709551616
 small a b lt less = omega (arith, lt, less)
 
-wides : (a b x y : ℕ) → b < 18446744073709551616 → y < 18446744073709551616 → x * 18446744073709551616 ≤ a * 18446744073709551616 + b → a * 18446744073709551616 ≤ x * 18446744073709551616 + y → a ≡ x
+pub wides : (a b x y : ℕ) → b < 18446744073709551616 → y < 18446744073709551616 → x * 18446744073709551616 ≤ a * 18446744073709551616 + b → a * 18446744073709551616 ≤ x * 18446744073709551616 + y → a ≡ x
 wides a b x y lt less le ge = omega (arith, lt, less, le, ge)
 
 between : (c p k q : ℕ) → p < 4294967296 → q < 4294967296 → pair_of c 0 ≤ pair_of k p → pair_of k p ≤ pair_of c q → k ≡ c
@@ -58,7 +58,7 @@ module _ (name desc class place : ℕ) (row : MemberRow) (fits : Fits row) (desc
 
 -- ---- a look-up
 
-such_key : (name desc class : ℕ) (row : MemberRow) → IsSuch name desc class row → key_of row ≡ target name desc class + row.place
+pub such_key : (name desc class : ℕ) (row : MemberRow) → IsSuch name desc class row → key_of row ≡ target name desc class + row.place
 such_key name desc class row such =
     ap (λ (n : ℕ). pair_of n row.desc * 18446744073709551616 + pair_of row.class row.place) such.name_is
     ∙ ap (λ (d : ℕ). pair_of name d * 18446744073709551616 + pair_of row.class row.place) such.desc_is

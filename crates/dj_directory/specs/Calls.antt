@@ -1,14 +1,16 @@
 -- What calls look in: of each class the first method of a name and a descriptor, where a call may take it.
-use Rattle.std.specs.Prelude.{◌≡◌, ℕ, ◌<◌, ◌&&◌, Bool, true, false, not, List, Contains, Option, Some, None, length, slice_get}
+use Rattle.std.specs.Prelude.{◌≡◌, ℕ, ◌<◌, ◌≤◌, ◌&&◌, Bool, true, false, not, List, Contains, Option, Some, None, IfSome, length, slice_get}
 use Rattle.dj_names.specs.Types.{Name}
 use Rattle.dj_names.specs.declared.descriptor.Desc.{Desc}
 use Rattle.dj_model.specs.Program.{Program, Method, is_private, is_static}
 use Rattle.dj_model.specs.Linking.{is_plain, is_not_static}
 use Rattle.dj_declared.specs.Members.{method_place}
-use Rattle.dj_classes.specs.Tables.{methods_at}
+use Rattle.dj_classes.specs.Tables.{methods_at, super_number}
 use Rattle.dj_directory.specs.declared.rows.MemberRow.{MemberRow}
 use Rattle.dj_directory.specs.declared.calls.CallTable.{CallTable}
+use Rattle.dj_directory.specs.declared.calls.Marked.{Marked}
 use Rattle.dj_directory.specs.Rows.{pair_of, Texts, AreInOrder, IsDirectory, IsLeast}
+use Rattle.dj_directory.specs.Spans.{AreNear, AreSpans, StartsFrom}
 
 -- ---- which methods a call may take
 
@@ -51,6 +53,18 @@ DeclareLike program test class member rows = (m : Method) → slice_get (methods
 abbrev pub DeclaresLike : Program → (Method → Bool) → ℕ → ℕ → ℕ → ℕ → Type 0
 DeclaresLike program test class member other place = (m : Method) → slice_get (methods_at program class) member ≡ Some m → IsFirstOf program test m.name m.desc other place
 
+-- in a walk through the tree of superclasses, none of the classes in which the class is, and whose first method with this name and this descriptor passes the test, starts after the near one
+pub record IsNearestFirst (program : Program) (test : Method → Bool) (name : Name) (desc : Desc) (class : ℕ) (near : Option ℕ) : Type 0 where
+  pub start : ℕ → ℕ
+  pub stop : ℕ → ℕ
+  pub some : (k : ℕ) → k < length program → start k < stop k
+  pub nested : (k above : ℕ) → k < length program → super_number program k ≡ Some above → (start above < start k) × (stop k ≤ stop above)
+  pub covered : (k place : ℕ) → k < length program → IsFirstOf program test name desc k place → start k ≤ start class → start class < stop k → StartsFrom start near (start k)
+
+-- the same of the name and the descriptor of the method at a place
+abbrev pub IsNearestLike : Program → (Method → Bool) → ℕ → ℕ → ℕ → Option ℕ → Type 0
+IsNearestLike program test class member below near = (m : Method) → slice_get (methods_at program class) member ≡ Some m → IsNearestFirst program test m.name m.desc below near
+
 -- ---- rows
 
 abbrev pub place_key : MemberRow → ℕ
@@ -60,7 +74,9 @@ place_key row = pair_of row.class row.place
 pub record AreMethods (program : Program) (rows : List MemberRow) : Type 0 where
   pub texts : Texts
   pub fields : List MemberRow
-  pub are : IsDirectory program texts rows fields
+  pub first_methods : List MemberRow
+  pub first_fields : List MemberRow
+  pub are : IsDirectory program texts rows fields first_methods first_fields
 
 -- of its class no row of these numbers stands before it, and its method passes the test
 pub record IsTakable (program : Program) (test : Method → Bool) (rows : List MemberRow) (row : MemberRow) : Type 0 where
@@ -79,9 +95,16 @@ pub record IsRowAt (rows : List MemberRow) (class place : ℕ) (row : MemberRow)
   pub class_is : row.class ≡ class
   pub place_is : row.place ≡ place
 
+-- the marks are those of the rows
+pub record AreMarked (program : Program) (plain instance : List MemberRow) (marked : Marked) : Type 0 where
+  pub spans_are : AreSpans program marked.spans
+  pub plain_are : AreNear marked.spans plain marked.plain
+  pub instance_are : AreNear marked.spans instance marked.instance
+
 pub record IsCallTable (program : Program) (calls : CallTable) : Type 0 where
   pub rows : List MemberRow
   pub methods : AreMethods program rows
   pub places : (row : MemberRow) → Contains calls.places.items row → Contains rows row
   pub plain : AreTakable program is_plain rows calls.plain.items
   pub instance : AreTakable program is_not_static rows calls.instance.items
+  pub marked : IfSome calls.marked (AreMarked program calls.plain.items calls.instance.items)

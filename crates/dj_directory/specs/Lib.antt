@@ -1,3 +1,4 @@
 pub mod Numberings
 pub mod Rows
 pub mod Calls
+pub mod Spans

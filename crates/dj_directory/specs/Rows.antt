@@ -1,10 +1,11 @@
 -- The code's own: members by the numbers of their texts.
-use Rattle.std.specs.Prelude.{◌≡◌, ℕ, ◌+◌, ◌*◌, ◌<◌, ◌≤◌, ◌⊎◌, List, [], ◌∷◌, All, Contains, map, Option, Some, None, length, get_or, slice_get, if◌then◌else◌}
+use Rattle.std.specs.Prelude.{◌≡◌, ℕ, ◌+◌, ◌-◌, ◌*◌, ◌<◌, ◌≤◌, ◌⊎◌, List, [], ◌∷◌, All, Contains, map, Option, Some, None, length, get_or, slice_get, if◌then◌else◌}
 use Rattle.std.specs.Option.{option_map}
 use Rattle.std.specs.Borrow.{Bor}
 use Rattle.std.specs.Ordering.{nat_cmp}
 use Rattle.std.specs.Cmp.Lexicographic.{slice_cmp}
 use Rattle.std.specs.BTreeMap.{BTreeMap, get_by, btree_map_len}
+use Rattle.std.specs.List.{AllPairs}
 use Rattle.std.specs.List.Sorted.{IsNonDecreasingBy}
 use Rattle.dj_names.specs.Types.{Name}
 use Rattle.dj_names.specs.declared.descriptor.Desc.{Desc}
@@ -173,11 +174,41 @@ pub record AreRows (number : Numbers) (members : Members) (classes : ℕ) (rows 
   pub whole : (k p : ℕ) → k < classes → p < length (members k) → IsThere rows k p
   pub order : AreInOrder rows
 
+-- ---- the first rows
+
+abbrev pub row_at : List MemberRow → ℕ → MemberRow
+row_at rows at = get_or rows at (record { name = 0; desc = 0; class = 0; place = 0 })
+
+-- the rows are of the same name, descriptor and class
+abbrev pub AreAlike : MemberRow → MemberRow → Type 0
+AreAlike one other = IsSuch one.name one.desc one.class other
+
+-- the row before the one at this place is like it
+pub record IsRepeat (rows : List MemberRow) (at : ℕ) : Type 0 where
+  pub some : 0 < at
+  pub alike : AreAlike (row_at rows at) (row_at rows (at - 1))
+
+-- a row like this one stands among the first ones, and its place is not higher
+pub record HasFirst (firsts : List MemberRow) (row : MemberRow) : Type 0 where
+  pub first : MemberRow
+  pub within : Contains firsts first
+  pub alike : AreAlike row first
+  pub before : first.place ≤ row.place
+
+-- of each name, descriptor and class the first row alone, in order
+pub record AreFirst (rows firsts : List MemberRow) : Type 0 where
+  pub order : AreInOrder firsts
+  pub within : (row : MemberRow) → Contains firsts row → Contains rows row
+  pub each : (row : MemberRow) → Contains rows row → HasFirst firsts row
+  pub once : AllPairs (λ one other. AreAlike one other → ⊥) firsts
+
 -- the texts differ in their numbers, and the rows are those of the members
-pub record IsDirectory (program : Program) (texts : Texts) (methods fields : List MemberRow) : Type 0 where
+pub record IsDirectory (program : Program) (texts : Texts) (methods fields first_methods first_fields : List MemberRow) : Type 0 where
   pub different : AreDifferent texts
   pub methods_are : AreRows (number_in texts) (methods_named program) (length program) methods
   pub fields_are : AreRows (number_in texts) (fields_named program) (length program) fields
+  pub first_methods_are : AreFirst methods first_methods
+  pub first_fields_are : AreFirst fields first_fields
 
 -- ---- all rows of two numbers
 

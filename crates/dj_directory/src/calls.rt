@@ -2,11 +2,13 @@
 ghost use Rattle.std.specs.Prelude.{◌≡◌, ◌<◌, Contains, length, IfOk, IfSome, if◌then◌else◌};
 ghost use Rattle.std.specs.List.Sorted.{IsPermutation};
 ghost use Rattle.dj_classes.specs.Tables.{methods_at};
-ghost use Rattle.dj_directory.specs.Calls.{AreMethods, AreTakable, DeclareLike, DeclaresLike, IsCallTable, IsRowAt, IsTakable, IsWhether, place_key, takes, tests};
+ghost use Rattle.dj_directory.specs.Calls.{AreMarked, AreMethods, AreTakable, DeclareLike, DeclaresLike, IsCallTable, IsNearestLike, IsRowAt, IsTakable, IsWhether, place_key, takes, tests};
 ghost use Rattle.dj_directory.specs.Rows.{AreInOrder, IsLeast};
 
 use crate::directory::Directory;
+use crate::marks::Marks;
 use crate::rows::{MemberRow, pair_of, place_in, put_in_order, rows_with};
+use crate::spans::Spans;
 use dj_classes::ClassTable;
 use dj_names::NoMemory;
 use std::alloc::Global;
@@ -17,6 +19,17 @@ const PRIVATE: u16 = 0x0002;
 // JVMS table 4.6-A.
 const STATIC: u16 = 0x0008;
 
+/// What tells at once the nearest class that declares a method.
+#[derive(Drop)]
+pub struct Marked {
+    /// Where the classes stand in the tree of superclasses.
+    pub spans: Spans,
+    /// The marks of methods that are neither private nor static.
+    pub plain: Marks,
+    /// The marks of methods that aren't static.
+    pub instance: Marks,
+}
+
 /// The methods of the classes of a table, for calls.
 #[derive(Drop)]
 pub struct CallTable {
@@ -26,6 +39,8 @@ pub struct CallTable {
     pub plain: Vec<MemberRow>,
     /// The same, where it isn't static.
     pub instance: Vec<MemberRow>,
+    /// Where the classes of both are marked. None where superclasses go round.
+    pub marked: Option<Marked>,
 }
 
 // Whether a call may take a method with these access flags, which isn't static, and is private at most where that is allowed.
@@ -83,6 +98,31 @@ fn takable(
     Ok(taken)
 }
 
+// Where the classes of rows are marked.
+fn mark_classes(
+    alloc: Global,
+    table: &ClassTable,
+    plain: &[MemberRow],
+    instance: &[MemberRow],
+) -> Result<Option<Marked>, NoMemory>
+    ensures { IfOk result (λ found. IfSome found (AreMarked table.now plain.now instance.now)) }
+{
+    let Some(spans) = Spans::of(alloc, table)? else {
+        return Ok(None);
+    };
+    let Some(plain) = Marks::of(alloc, &spans, plain)? else {
+        return Ok(None);
+    };
+    let Some(instance) = Marks::of(alloc, &spans, instance)? else {
+        return Ok(None);
+    };
+    Ok(Some(Marked {
+        spans,
+        plain,
+        instance,
+    }))
+}
+
 // What rows are ordered by: the class and the place.
 fn place_key(row: MemberRow) -> u64
     ensures { result ≡ place_key row }
@@ -119,11 +159,13 @@ impl CallTable {
         let mut rows = Directory::of(alloc, table)?.into_methods();
         let plain = takable(alloc, table, &rows, false)?;
         let instance = takable(alloc, table, &rows, true)?;
+        let marked = mark_classes(alloc, table, &plain, &instance)?;
         put_in_places(&mut rows);
         Ok(CallTable {
             places: rows,
             plain,
             instance,
+            marked,
         })
     }
 
@@ -170,5 +212,31 @@ impl CallTable {
         let _ = table;
         let row = row_at(&self.places, class, member)?;
         place_in(self.taken(private_too), row.name, row.desc, other)
+    }
+
+    /// The nearest class, upward from one, that declares a method that a call may take and that has the name and the descriptor of the method at a place, where it is known.
+    /// It may be another where none is nearer.
+    pub fn nearest_like(
+        &self,
+        table: &ClassTable,
+        class: u32,
+        member: u32,
+        private_too: bool,
+        below: u32,
+    ) -> Option<Option<u32>>
+        requires { IsCallTable table.now self.now }
+        ensures { IfSome result (IsNearestLike table.now (tests private_too) class member below) }
+    {
+        let _ = table;
+        let row = row_at(&self.places, class, member)?;
+        let Some(marked) = &self.marked else {
+            return None;
+        };
+        let start = marked.spans.start(below);
+        if private_too {
+            marked.instance.nearest(row.name, row.desc, start)
+        } else {
+            marked.plain.nearest(row.name, row.desc, start)
+        }
     }
 }

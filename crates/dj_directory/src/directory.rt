@@ -8,7 +8,7 @@ ghost use Rattle.dj_directory.specs.declared.rows.MemberRow.{MemberRow};
 
 use crate::gather::add_class;
 use crate::numbers::number_in;
-use crate::rows::{MemberRow, place_in, put_in_order, rows_with};
+use crate::rows::{MemberRow, first_rows, place_in, put_in_order, rows_with};
 use dj_classes::ClassTable;
 use dj_names::NoMemory;
 use std::alloc::Global;
@@ -22,6 +22,8 @@ pub struct Directory<'a> {
     numbers: BTreeMap<&'a [u8], u32>,
     methods: Vec<MemberRow>,
     fields: Vec<MemberRow>,
+    first_methods: Vec<MemberRow>,
+    first_fields: Vec<MemberRow>,
 }
 
 impl<'a> Model for Directory<'a> {
@@ -32,7 +34,7 @@ impl<'a> Model for Directory<'a> {
 
     ghost view = { λ directory. record { program = directory.table.now; texts = texts_of directory.numbers } };
 
-    ghost invariant = { λ directory. IsDirectory directory.table.now directory.numbers directory.methods.items directory.fields.items };
+    ghost invariant = { λ directory. IsDirectory directory.table.now directory.numbers directory.methods.items directory.fields.items directory.first_methods.items directory.first_fields.items };
 }
 
 impl<'a> Directory<'a> {
@@ -48,11 +50,15 @@ impl<'a> Directory<'a> {
         }
         put_in_order(&mut methods);
         put_in_order(&mut fields);
+        let first_methods = first_rows(alloc, &methods)?;
+        let first_fields = first_rows(alloc, &fields)?;
         Ok(Directory {
             table,
             numbers,
             methods,
             fields,
+            first_methods,
+            first_fields,
         })
     }
 
@@ -95,23 +101,23 @@ impl<'a> Directory<'a> {
         place_in(&self.fields, name, desc, class)
     }
 
-    /// The rows of the methods whose name and descriptor have these numbers.
+    /// The rows of the methods whose name and descriptor have these numbers, of each class the first one alone.
     pub fn methods_of(&self, name: u32, desc: u32) -> &[MemberRow]
         ensures there { (row : MemberRow) → Contains result.now row → row.class < length self.now.program }
         ensures within { (row : MemberRow) → Contains result.now row → row.place < length (methods_at self.now.program row.class) }
         ensures declare { (n d : List ℕ) → number_of self.now n ≡ Some name → number_of self.now d ≡ Some desc → IsDescriptor d → DeclareMethods self.now.program n (desc_in d) result.now }
     {
         let _ = self.table.class_count();
-        rows_with(&self.methods, name, desc)
+        rows_with(&self.first_methods, name, desc)
     }
 
-    /// The rows of the fields whose name and descriptor have these numbers.
+    /// The rows of the fields whose name and descriptor have these numbers, of each class the first one alone.
     pub fn fields_of(&self, name: u32, desc: u32) -> &[MemberRow]
         ensures there { (row : MemberRow) → Contains result.now row → row.class < length self.now.program }
         ensures declare { (n d : List ℕ) → number_of self.now n ≡ Some name → number_of self.now d ≡ Some desc → IsDescriptor d → DeclareFields self.now.program n (desc_in d) result.now }
     {
         let _ = self.table.class_count();
-        rows_with(&self.fields, name, desc)
+        rows_with(&self.first_fields, name, desc)
     }
 
     /// A law: a member is named by texts that have numbers.

@@ -4,8 +4,10 @@
 mod calls;
 mod directory;
 mod gather;
+mod marks;
 mod numbers;
 mod rows;
+mod spans;
 
 pub use calls::CallTable;
 pub use directory::Directory;

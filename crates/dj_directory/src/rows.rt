@@ -1,7 +1,10 @@
 //! Members by the numbers of their texts, in the order of these.
-ghost use Rattle.std.specs.Prelude.{◌≡◌, ◌≤◌, ltb, true, false, length};
+ghost use Rattle.std.specs.Prelude.{◌≡◌, ◌<◌, ◌≤◌, ltb, true, false, length, IfOk};
 ghost use Rattle.std.specs.List.Sorted.{IsNonDecreasingBy, IsPartitionPoint, IsPermutation};
-ghost use Rattle.dj_directory.specs.Rows.{pair_of, key_of, AreInOrder, AreRowsWith, IsTold, IsAnswer};
+ghost use Rattle.dj_directory.specs.Rows.{pair_of, key_of, AreAlike, AreFirst, AreInOrder, AreRowsWith, IsTold, IsAnswer, IsRepeat};
+
+use dj_names::NoMemory;
+use std::alloc::Global;
 
 /// A member by the numbers of its texts, and where it is declared.
 #[derive(Clone, Copy)]
@@ -23,8 +26,8 @@ pub fn pair_of(first: u32, second: u32) -> u64
     first as u64 * 0x1_0000_0000 + second as u64
 }
 
-// What rows are ordered by: the numbers of the texts, the class, and the place.
-fn key_of(row: MemberRow) -> u128
+/// What rows are ordered by: the numbers of the texts, the class, and the place.
+pub fn key_of(row: MemberRow) -> u128
     ensures { result ≡ key_of row }
 {
     pair_of(row.name, row.desc) as u128 * 0x1_0000_0000_0000_0000
@@ -39,8 +42,42 @@ pub fn put_in_order(rows: &mut Vec<MemberRow>)
     rows.sort_unstable_by_key(|row| key_of(*row));
 }
 
-// How many of the rows come before the first one with this key, or a higher one.
-fn first_not_below(rows: &[MemberRow], key: u128) -> usize
+// Whether two rows are of the same name, descriptor and class.
+fn are_alike(one: MemberRow, other: MemberRow) -> bool
+    ensures alike { result ≡ true → AreAlike one other }
+    ensures differ { result ≡ false → AreAlike one other → ⊥ }
+{
+    one.name == other.name && one.desc == other.desc && one.class == other.class
+}
+
+// Whether the row before the one at this place is like it.
+fn is_repeat(rows: &[MemberRow], at: usize) -> bool
+    requires { at < length rows.now }
+    ensures repeat { result ≡ true → IsRepeat rows.now at }
+    ensures first { result ≡ false → IsRepeat rows.now at → ⊥ }
+{
+    if at == 0 {
+        return false;
+    }
+    are_alike(rows[at], rows[at - 1])
+}
+
+/// Of each name, descriptor and class the first row alone.
+pub fn first_rows(alloc: Global, rows: &[MemberRow]) -> Result<Vec<MemberRow>, NoMemory>
+    requires { AreInOrder rows.now }
+    ensures { IfOk result (λ firsts. AreFirst rows.now firsts.items) }
+{
+    let mut firsts = Vec::new(alloc);
+    for at in 0..rows.len() {
+        if !is_repeat(rows, at) {
+            firsts.push(rows[at])?;
+        }
+    }
+    Ok(firsts)
+}
+
+/// How many of the rows come before the first one with this key, or a higher one.
+pub fn first_not_below(rows: &[MemberRow], key: u128) -> usize
     requires { AreInOrder rows.now }
     ensures bound { result ≤ length rows.now }
     ensures point { IsPartitionPoint (λ row. ltb (key_of row) key ≡ true) (λ row. ltb (key_of row) key ≡ false) rows.now result }

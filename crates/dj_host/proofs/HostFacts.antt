@@ -105,7 +105,7 @@ not_both takes = let rest : host.Word (pos 6) ∷ [] ≡ [] = ap left_of (takes 
 -- ---- a whole call
 
 known : AreKnown types heap
-known = All-push (IsKnown types 1) [] (Instance 0 []) (All-nil (IsKnown types 1)) (record { class = omega arith; holds = (codes "p/q/R", refl); there = tt })
+known = All-push (IsKnown types) [] (Instance 0 []) (All-nil (IsKnown types)) (record { class = omega arith; holds = (codes "p/q/R", refl) })
 
 null_called : CallsHost [] [] types heap heap before before natives.HostIdentityHashCode (values.Ref 0 ∷ []) (told.Gives (values.Int (pos 0)))
 unfolding native answer perform

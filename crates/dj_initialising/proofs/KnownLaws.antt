@@ -1,26 +1,19 @@
 -- A text object that is made for a literal is known.
-use Rattle.std.proofs.Common.{◌≡◌, ℕ, ◌+◌, ◌<◌, Bool, true, false, List, [], ◌∷◌, ◌++◌, length, All, Option, Some, None, refl, ap, subst, arith, if◌then◌else◌}
-use Rattle.std.proofs.lemmas.List.{length-append}
-use Rattle.std.proofs.lemmas.List.Elements.{All-push, All-weaker}
+use Rattle.std.proofs.Common.{◌≡◌, ℕ, ◌+◌, ◌<◌, Bool, true, false, List, [], ◌∷◌, ◌++◌, length, All, Option, Some, None, refl, subst, if◌then◌else◌}
+use Rattle.std.proofs.lemmas.List.Elements.{All-push}
 use Rattle.std.proofs.lemmas.Option.{none-some, same_Some}
 use Rattle.dj_names.specs.declared.descriptor.Ty.{Ty}
 use Rattle.dj_names.specs.Heaps.{Heap, Text, next_number, text_size, with_new}
 use Rattle.dj_model.specs.Arrays.{passes_limit}
 use Rattle.dj_calls.specs.Known.{IsKnown}
-use Rattle.dj_calls.proofs.Performed.{more_known}
 use Rattle.dj_members.specs.Literals.{KeptBy, kept_by, kept_or_made_by, object_of}
 
 -- the objects of a heap without its limit
 abbrev pub AreKnownIn : List Ty → Heap ℕ → Type 0
-AreKnownIn types heap = All (IsKnown types (length heap.objects)) heap.objects
+AreKnownIn types heap = All (IsKnown types) heap.objects
 
 text_known : (types : List Ty) (heap : Heap ℕ) (class : ℕ) (units : List ℕ) → class < length types → AreKnownIn types heap → AreKnownIn types (with_new heap (Text class units))
-text_known types heap class units within known =
-    let n = length (heap.objects ++ Text class units ∷ []) in
-    let long = length-append heap.objects (Text class units ∷ []) in
-    All-push (IsKnown types n) heap.objects (Text class units)
-    (All-weaker (IsKnown types (length heap.objects)) (IsKnown types n) (λ o k. more_known types (length heap.objects) n o (omega (arith, long)) k) heap.objects known)
-    (record { class = within; holds = tt; there = tt })
+text_known types heap class units within known = All-push (IsKnown types) heap.objects (Text class units) known (record { class = within; holds = tt })
 
 pub kept_known : (types : List Ty) (limit : Option ℕ) (class text : ℕ) (units : List ℕ) (heap : Heap ℕ) (literals : List (ℕ × ℕ)) (kept : KeptBy) → class < length types
     → kept_by limit class text units heap literals ≡ Some kept → AreKnownIn types heap → AreKnownIn types kept.heap

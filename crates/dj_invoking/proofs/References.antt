@@ -19,7 +19,7 @@ use Rattle.dj_invoking.proofs.OperandFacts.{within_take}
 
 pub known_numbered : (imaged : Imaged) (h : LimitedHeap) → AreKnown (types_of (typed_of imaged)) h → AreNumbered imaged h.heap
 known_numbered imaged h known =
-    All-weaker (IsKnown (types_of (typed_of imaged)) (length h.heap.objects)) (λ (object : Object ℕ). class_of object < length (types_of (typed_of imaged))) (λ object is. is.class)
+    All-weaker (IsKnown (types_of (typed_of imaged))) (λ (object : Object ℕ). class_of object < length (types_of (typed_of imaged))) (λ object is. is.class)
     h.heap.objects known
 
 object_is : (objects : List (Object ℕ)) (i : ℕ) → i < length objects → slice_get objects i ≡ None → ⊥

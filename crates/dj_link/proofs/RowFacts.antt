@@ -26,8 +26,9 @@ object_class = record (class_with (codes "java/lang/Object") [] (plain_construct
 math_class : programs.Class
 math_class = class_with (codes "java/lang/Math") [] (runs 9 (codes "abs") ∷ [])
 
+-- an interface, and one with a constructor, so it is its flags alone that let no object of it be made
 runnable_class : programs.Class
-runnable_class = record (class_with (codes "java/lang/Runnable") [] (method_with 1025 (codes "run") [] None Abstract ∷ [])) { flags = 1537 }
+runnable_class = record (class_with (codes "java/lang/Runnable") [] (plain_constructor ∷ method_with 1025 (codes "run") [] None Abstract ∷ [])) { flags = 1537 }
 
 -- f isn't static, and s is; so are m and t
 c_class : programs.Class

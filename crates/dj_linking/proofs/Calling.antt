@@ -1,5 +1,5 @@
 -- The method that a call takes is that of the nearest class that declares one like it.
-use Rattle.std.proofs.Common.{◌≡◌, ℕ, suc, ◌+◌, ◌-◌, ◌<◌, ◌≤◌, Bool, true, false, List, [], ◌∷◌, Contains, length, get_or, Option, Some, None, IfSome, slice_get, refl, sym, ◌∙◌, ap, subst, inl, inr, arith}
+use Rattle.std.proofs.Common.{◌≡◌, ℕ, zero, suc, ◌+◌, ◌-◌, ◌<◌, ◌≤◌, Bool, true, false, List, [], ◌∷◌, Contains, length, get_or, Option, Some, None, IfSome, slice_get, refl, sym, ◌∙◌, ap, subst, inl, inr, arith}
 use Rattle.std.specs.Prelude.{option_and_then}
 use Rattle.std.specs.Option.{option_map}
 use Rattle.std.proofs.lemmas.Bool.{cases_lt, false≢true}
@@ -16,16 +16,18 @@ use Rattle.dj_declared.proofs.DescTests.{desc_in_is}
 use Rattle.dj_classes.specs.Tables.{methods_of, methods_at, method_of_class, method_there, super_number}
 use Rattle.dj_classes.specs.declared.place.Place.{Place}
 use Rattle.dj_directory.specs.declared.rows.MemberRow.{MemberRow}
-use Rattle.dj_directory.specs.Calls.{passes, DeclareFirst, DeclareLike, DeclaresLike, IsFirstOf}
+use Rattle.dj_directory.specs.Calls.{passes, DeclareFirst, DeclareLike, DeclaresLike, IsFirstOf, IsNearestFirst, IsNearestLike}
+use Rattle.dj_directory.specs.Spans.{StartsFrom}
 use Rattle.dj_linking.specs.declared.nearest.Near.{Near}
 use Rattle.dj_linking.specs.Called.{TellsFirst, TellsOwn, TellsUp}
 use Rattle.dj_linking.specs.Nearest.{IsNearest}
 use Rattle.dj_linking.specs.Numbers.{first_some, has, method_found, method_in_class, most_above, numbers_up, TellsMethod}
 use Rattle.dj_linking.specs.Ranked.{AreRanks, HasRow, rank_in}
-use Rattle.dj_linking.proofs.Chained.{short_at, up_within}
+use Rattle.dj_linking.proofs.Chained.{next_within, short_at, up_within}
 use Rattle.dj_linking.proofs.Climbs.{most_above_is, one_more_level}
 use Rattle.dj_linking.proofs.Finding.{told_first, told_none}
-use Rattle.dj_linking.proofs.Nearing.{first_near, none_found}
+use Rattle.dj_linking.proofs.Nearing.{first_near, none_found, none_or}
+use Rattle.dj_linking.proofs.Lists.{has_cases}
 use Rattle.dj_linking.proofs.Numbered.{method_found_at, no_method, none_in_class}
 use Rattle.dj_linking.proofs.Selections.{described_there, found_there, own, Is}
 use Rattle.dj_linking.proofs.Walks.{no_numbers_up}
@@ -96,7 +98,7 @@ module _ (program : Program) (order ranks : List ℕ) (bits : List (List ℕ)) (
     nearest_first near is =
         let own = declare.each is.row (is.at, is.before, is.row_is) in
         let nearest : first_some (method_found program test name desc) (numbers_up most_classes program (Some class)) ≡ method_found program test name desc near.class =
-        first_near FoundMethod (method_found program test name desc) program order ranks bits are.levels are.ranked most_classes (Some class) near.class have is.among
+        first_near FoundMethod (method_found program test name desc) program (HasRow bits) (rank_in ranks) (λ k j known next. (are.ranked.each k known).next j next) most_classes (Some class) near.class have is.among
         (λ none. found_some program test name desc is.row.class is.row.place own (ap (method_found program test name desc) (sym is.class_is) ∙ none))
         (λ z there some. elim (cases_lt (rank_in ranks near.class) (rank_in ranks z)) [
           | inl more ↦ absurd (some (not_found program test name desc z (λ place first. declare.all z place (up_within most_classes program (Some class) lt z there) first (λ row contained same.
@@ -115,6 +117,39 @@ module _ (program : Program) (order ranks : List ℕ) (bits : List (List ℕ)) (
         (λ z there. not_found program test name desc z (λ place first. declare.all z place (up_within most_classes program (Some class) lt z there) first (λ row contained same.
         false≢true (sym (none contained.0 row contained.1 contained.2) ∙ ap (has (numbers_up most_classes program (Some class))) same ∙ there))))
 
+  -- the marks of methods tell the nearest class, which is the class or one above it
+  module _ (test : Method → Bool) (name : Name) (desc : Desc) (near : Option ℕ) (is : IsNearestFirst program test name desc class near) where
+    -- the class starts in the spans of those above it
+    in_spans : (n k z : ℕ) → k < length program → is.start k ≤ is.start class → is.start class < is.stop k → has (numbers_up n program (Some k)) z ≡ true → (is.start z ≤ is.start class) × (is.start class < is.stop z)
+    unfolding numbers_up
+    in_spans zero k z within after before there = absurd (false≢true there)
+    in_spans (suc n) k z within after before there = elim (has_cases (numbers_up n program (super_number program k)) k z there) [
+      | inl e ↦ subst (λ (j : ℕ). (is.start j ≤ is.start class) × (is.start class < is.stop j)) e (after, before)
+      | inr h ↦ next (super_number program k) refl h (λ j e higher. let outer = is.nested k j within e in let start = outer.0 in let stop = outer.1 in in_spans n j z (next_within program k j e) (omega (arith, start, after)) (omega (arith, stop, before)) higher)
+    ] where
+      next : (o : Option ℕ) → super_number program k ≡ o → has (numbers_up n program o) z ≡ true
+          → ((j : ℕ) → super_number program k ≡ Some j → has (numbers_up n program (Some j)) z ≡ true → (is.start z ≤ is.start class) × (is.start class < is.stop z)) → (is.start z ≤ is.start class) × (is.start class < is.stop z)
+      next None e h rest = absurd (false≢true (sym (ap (λ (ks : List ℕ). has ks z) (no_numbers_up n program)) ∙ h))
+      next (Some j) e h rest = rest j e h
+
+    starts_from : (z : ℕ) → has (numbers_up most_classes program (Some class)) z ≡ true → (method_found program test name desc z ≡ None → ⊥) → (StartsFrom is.start near (is.start z) → ⊥) → ⊥
+    starts_from z there some wrong = some (not_found program test name desc z (λ place first.
+        let own = is.some class lt in
+        let spans = in_spans most_classes class z lt (omega arith) own there in
+        wrong (is.covered z place (up_within most_classes program (Some class) lt z there) first spans.0 spans.1)))
+
+  none_marked : (test : Method → Bool) (name : Name) (desc : Desc) → IsNearestFirst program test name desc class None → first_some (method_found program test name desc) (numbers_up most_classes program (Some class)) ≡ None
+  none_marked test name desc is = none_found (method_found program test name desc) (numbers_up most_classes program (Some class)) (λ z there. none_or (method_found program test name desc z) (λ some. starts_from test name desc None is z there some (λ told. told)))
+
+  first_marked : (test : Method → Bool) (name : Name) (desc : Desc) (near : ℕ) → IsNearestFirst program test name desc class (Some near) → has (numbers_up most_classes program (Some class)) near ≡ true → (method_found program test name desc near ≡ None → ⊥)
+      → first_some (method_found program test name desc) (numbers_up most_classes program (Some class)) ≡ method_found program test name desc near
+  first_marked test name desc near is up some =
+      first_near FoundMethod (method_found program test name desc) program (λ k. k < length program) is.start (λ k j within next. (next_within program k j next, (is.nested k j within next).0)) most_classes (Some class) near lt up some
+      (λ z there own. elim (cases_lt (is.start near) (is.start z)) [
+        | inl more ↦ absurd (starts_from test name desc (Some near) is z there own (λ le. omega (arith, le, more)))
+        | inr le ↦ le
+      ])
+
   at_method : (resolved : Place) (found : FoundMethod) → method_there program resolved ≡ Some found → slice_get (methods_at program resolved.class) resolved.member ≡ Some found.method
   at_method resolved found there = elim (found_there program resolved found there) [ Is in_program within at ↦ at ]
 
@@ -129,6 +164,19 @@ module _ (program : Program) (order ranks : List ℕ) (bits : List (List ℕ)) (
   none_like rows test resolved declare is levels le found there =
       sym (ap (λ (ks : List ℕ). option_map Some (first_some (method_found program test found.method.name found.method.desc) ks)) (all_levels levels le)
       ∙ ap (option_map Some) (none_first rows test found.method.name found.method.desc (declare found.method (at_method resolved found there)) is))
+
+  pub none_marked_like : (test : Method → Bool) (resolved : Place) → IsNearestLike program test resolved.class resolved.member class None → TellsUp program test resolved class None
+  none_marked_like test resolved is levels le found there =
+      sym (ap (λ (ks : List ℕ). option_map Some (first_some (method_found program test found.method.name found.method.desc) ks)) (all_levels levels le)
+      ∙ ap (option_map Some) (none_marked test found.method.name found.method.desc (is found.method (at_method resolved found there))))
+
+  pub marked_like : (test : Method → Bool) (resolved place : Place) (near : ℕ) → IsNearestLike program test resolved.class resolved.member class (Some near) → has (numbers_up most_classes program (Some class)) near ≡ true
+      → TellsOwn program test resolved near (Some place) → TellsUp program test resolved class (Some place)
+  marked_like test resolved place near is up own levels le found there =
+      let at_near : TellsMethod program (Some place) (method_found program test found.method.name found.method.desc near) = own found there in
+      own found there
+      ∙ ap (option_map Some) (sym (ap (first_some (method_found program test found.method.name found.method.desc)) (all_levels levels le)
+      ∙ first_marked test found.method.name found.method.desc near (is found.method (at_method resolved found there)) up (λ none. none-some (method_there program place) (sym (at_near ∙ ap (option_map Some) none)))))
 
 -- ---- what is told of a class
 

@@ -16,7 +16,7 @@ use Rattle.dj_directory.specs.Numberings.{DeclareMethods}
 use Rattle.dj_linking.specs.declared.nearest.Near.{Near}
 use Rattle.dj_linking.specs.Nearest.{IsNear, IsNearest, nearer}
 use Rattle.dj_linking.specs.Numbers.{first_some, has, method_found, numbers_up}
-use Rattle.dj_linking.specs.Ranked.{AreRanked, AreRanks, HasRow, rank_in}
+use Rattle.dj_linking.specs.Ranked.{AreRanks, HasRow, rank_in}
 use Rattle.dj_linking.proofs.Chained.{up_within}
 use Rattle.dj_linking.proofs.Finding.{told_none}
 use Rattle.dj_linking.proofs.Lists.{has_cases, has_more, has_self}
@@ -36,38 +36,39 @@ pub none_found : {A : Type 0} (f : ℕ → Option A) (xs : List ℕ) → ((z : �
 none_found f [] none = refl
 none_found f (x ∷ xs) none = or_next (f x) (first_some f xs) (none x (has_self xs x)) ∙ none_found f xs (λ z there. none z (has_more xs x z there))
 
-none_or : {A : Type 0} (o : Option A) → ((o ≡ None → ⊥) → ⊥) → o ≡ None
+pub none_or : {A : Type 0} (o : Option A) → ((o ≡ None → ⊥) → ⊥) → o ≡ None
 none_or None wrong = refl
 none_or (Some x) wrong = absurd (wrong (λ e. none-some x (sym e)))
 
-module _ (A : Type 0) (f : ℕ → Option A) (program : Program) (order ranks : List ℕ) (rows : List (List ℕ)) (levels : ℕ) (ranked : AreRanked program order ranks rows levels) where
+-- numbers of classes, of those that have one, fall from a class to its superclass
+module _ (A : Type 0) (f : ℕ → Option A) (program : Program) (Has : ℕ → Type 0) (rank : ℕ → ℕ) (falls : (k j : ℕ) → Has k → super_number program k ≡ Some j → Has j × (rank j < rank k)) where
   abbrev IsLower : ℕ → ℕ → Type 0
-  IsLower bound k = HasRow rows k × (rank_in ranks k < bound)
+  IsLower bound k = Has k × (rank k < bound)
 
-  next_lower : (k : ℕ) → HasRow rows k → (o : Option ℕ) → super_number program k ≡ o → IfSome o (IsLower (rank_in ranks k))
+  next_lower : (k : ℕ) → Has k → (o : Option ℕ) → super_number program k ≡ o → IfSome o (IsLower (rank k))
   next_lower k have None is = tt
-  next_lower k have (Some j) is = (ranked.each k have).next j is
+  next_lower k have (Some j) is = falls k j have is
 
   weaker : (o : Option ℕ) (low high : ℕ) → low ≤ high → IfSome o (IsLower low) → IfSome o (IsLower high)
   weaker None low high le is = tt
   weaker (Some k) low high le is = (is.0, (let lt = is.1 in omega (arith, le, lt)))
 
-  -- the ranks of those above are below
-  lower : (n : ℕ) (o : Option ℕ) (bound z : ℕ) → IfSome o (IsLower bound) → has (numbers_up n program o) z ≡ true → rank_in ranks z < bound
+  -- the numbers of those above are below
+  lower : (n : ℕ) (o : Option ℕ) (bound z : ℕ) → IfSome o (IsLower bound) → has (numbers_up n program o) z ≡ true → rank z < bound
   unfolding numbers_up
   lower zero o bound z is there = absurd (false≢true there)
   lower (suc n) None bound z is there = absurd (false≢true there)
   lower (suc n) (Some k) bound z is there = elim (has_cases (numbers_up n program (super_number program k)) k z there) [
-    | inl e ↦ subst (λ (j : ℕ). rank_in ranks j < bound) e is.1
-    | inr h ↦ lower n (super_number program k) bound z (weaker (super_number program k) (rank_in ranks k) bound (let lt = is.1 in omega (arith, lt)) (next_lower k is.0 (super_number program k) refl)) h
+    | inl e ↦ subst (λ (j : ℕ). rank j < bound) e is.1
+    | inr h ↦ lower n (super_number program k) bound z (weaker (super_number program k) (rank k) bound (let lt = is.1 in omega (arith, lt)) (next_lower k is.0 (super_number program k) refl)) h
   ]
 
-  known : (o : Option ℕ) (bound : ℕ) → IfSome o (IsLower bound) → IfSome o (HasRow rows)
+  known : (o : Option ℕ) (bound : ℕ) → IfSome o (IsLower bound) → IfSome o Has
   known None bound is = tt
   known (Some k) bound is = is.0
 
-  pub first_near : (n : ℕ) (o : Option ℕ) (m : ℕ) → IfSome o (HasRow rows) → has (numbers_up n program o) m ≡ true → (f m ≡ None → ⊥)
-      → ((z : ℕ) → has (numbers_up n program o) z ≡ true → (f z ≡ None → ⊥) → rank_in ranks z ≤ rank_in ranks m) → first_some f (numbers_up n program o) ≡ f m
+  pub first_near : (n : ℕ) (o : Option ℕ) (m : ℕ) → IfSome o Has → has (numbers_up n program o) m ≡ true → (f m ≡ None → ⊥) → ((z : ℕ) → has (numbers_up n program o) z ≡ true → (f z ≡ None → ⊥) → rank z ≤ rank m)
+      → first_some f (numbers_up n program o) ≡ f m
   unfolding numbers_up
   first_near zero o m have there some greatest = absurd (false≢true there)
   first_near (suc n) None m have there some greatest = absurd (false≢true there)
@@ -76,10 +77,10 @@ module _ (A : Type 0) (f : ℕ → Option A) (program : Program) (order ranks : 
       elim (has_cases rest k m there) [
         | inl e ↦ ap (λ (j : ℕ). or_else (f j) (first_some f rest)) e ∙ or_first (f m) (first_some f rest) some
         | inr h ↦
-            (let below = lower n (super_number program k) (rank_in ranks k) m (next_lower k have (super_number program k) refl) h in
+            (let below = lower n (super_number program k) (rank k) m (next_lower k have (super_number program k) refl) h in
             let none : f k ≡ None = none_or (f k) (λ own. let le = greatest k (has_self rest k) own in absurd (omega (arith, le, below))) in
             or_next (f k) (first_some f rest) none
-            ∙ first_near n (super_number program k) m (known (super_number program k) (rank_in ranks k) (next_lower k have (super_number program k) refl)) h some (λ z in_rest own. greatest z (has_more rest k z in_rest) own))
+            ∙ first_near n (super_number program k) m (known (super_number program k) (rank k) (next_lower k have (super_number program k) refl)) h some (λ z in_rest own. greatest z (has_more rest k z in_rest) own))
       ]
 
 -- ---- the nearest so far
@@ -182,7 +183,7 @@ module _ (program : Program) (order ranks : List ℕ) (bits : List (List ℕ)) (
   pub nearest_told : (near : Near) → IsNearest (numbers_up most_classes program (Some class)) ranks rows (length rows) (Some near)
       → first_some (method_found program any_method name desc) (numbers_up most_classes program (Some class)) ≡ method_found program any_method name desc near.class
   nearest_told near is =
-      first_near FoundMethod (method_found program any_method name desc) program order ranks bits are.levels are.ranked most_classes (Some class) near.class have is.among
+      first_near FoundMethod (method_found program any_method name desc) program (HasRow bits) (rank_in ranks) (λ k j known next. (are.ranked.each k known).next j next) most_classes (Some class) near.class have is.among
       (method_some program name desc near.class (λ none. declare.each is.row (is.at, is.before, is.row_is) (ap (λ (k : ℕ). method_place (methods_at program k) name desc) (sym is.class_is) ∙ none)))
       (λ z there some. elim (cases_lt (rank_in ranks near.class) (rank_in ranks z)) [
         | inl more ↦ absurd (some (no_method program name desc z (declare.all z (up_within most_classes program (Some class) lt z there) (λ row contained same.

@@ -1,4 +1,4 @@
-//! Which method a call takes. The nearest class that declares a method like the one to which the operand resolves tells it, so no walk upward is needed.
+//! Which method a call takes. Marks tell the nearest class that declares a method like the one to which the operand resolves, so no walk upward is needed, and no look at each class that declares one.
 ghost use Rattle.std.specs.Prelude.{◌≡◌, ◌<◌, length, Some, IfSome, if◌then◌else◌};
 ghost use Rattle.dj_model.specs.Program.{is_private};
 ghost use Rattle.dj_model.specs.Linking.{FoundMethod, is_not_static, is_plain, most_classes, with_body};
@@ -57,6 +57,30 @@ fn nearest_method(
     }))
 }
 
+// The same, by the marks of methods, where these tell it: however many classes declare one.
+fn marked_method(
+    table: &ClassTable,
+    ranks: &Ranks,
+    calls: &CallTable,
+    resolved: Place,
+    class: u32,
+    private_too: bool,
+) -> Option<Option<Place>>
+    requires there { class < length table.now }
+    requires ranks { AreRanksOf table.now ranks.now }
+    requires calls { IsCallTable table.now calls.now }
+    requires known { HasRow (lists_of ranks.now.rows.items) class }
+    ensures { IfSome result (TellsUp table.now (tests private_too) resolved class) }
+{
+    let near = calls.nearest_like(table, resolved.class, resolved.member, private_too, class)?;
+    let Some(near) = near else {
+        return Some(None);
+    };
+    ranks.rank_up(table, class, near)?;
+    let place = own_method(table, calls, resolved, near, private_too)?;
+    Some(Some(place))
+}
+
 // The first such method of a class and its superclasses, where bits tell it.
 fn method_up(
     table: &ClassTable,
@@ -77,7 +101,10 @@ fn method_up(
     if !ranks.has_row(table, class) {
         return None;
     }
-    nearest_method(table, ranks, calls, resolved, class, private_too)
+    match marked_method(table, ranks, calls, resolved, class, private_too) {
+        Some(place) => Some(place),
+        None => nearest_method(table, ranks, calls, resolved, class, private_too),
+    }
 }
 
 // The first method of a class, where it is there, and its superclasses that is neither private nor static.

@@ -116,7 +116,7 @@ impl Linker {
     pub fn directory(&self, alloc: Global) -> Result<Option<Directory<'_>>, NoMemory>
         ensures { IfOk result (λ directory. IfSome directory (λ d. d.program ≡ self.now.program)) }
     {
-        if are_costly(&self.table, &self.above, &self.methods.lists) {
+        if are_costly(&self.table, &self.methods) {
             Ok(Some(Directory::of(alloc, &self.table)?))
         } else {
             Ok(None)
@@ -238,7 +238,7 @@ impl Linker {
         }
     }
 
-    /// The same, of the method's own name and descriptor, by a look at each class that declares such a method, however long the chain of superclasses is.
+    /// The same, of the method's own name and descriptor, by halving, however long the chain of superclasses is, and however many classes declare such a method.
     pub fn special_by(&self, calls: &CallTable, class: u32, resolved: Place) -> Option<Place>
         requires calls { IsCallTable self.now.program calls.now }
         requires there { class < length self.now.program }
@@ -276,7 +276,7 @@ impl Linker {
         selected_method(&self.table, resolved, class)
     }
 
-    /// The same, by a look at each class that declares such a method, however long the chain of superclasses is.
+    /// The same, by halving, however long the chain of superclasses is, and however many classes declare such a method.
     pub fn select_by(&self, calls: &CallTable, resolved: Place, class: Option<u32>) -> Option<Place>
         requires calls { IsCallTable self.now.program calls.now }
         requires there { resolved.class < length self.now.program }

@@ -13,6 +13,7 @@ use Rattle.dj_model.specs.Charging.{new_account}
 use Rattle.dj_model.specs.Runs.{Ran, Going, Finished, NoStep, Report, begin, from_start, plain_run, report_of, steps}
 use Rattle.dj_image.specs.Imaged.{Imaged, program_of}
 use Rattle.dj_settling.specs.Told as one
+use Rattle.dj_step.proofs.StepLaws as step_laws
 use Rattle.dj_step.specs.Machines.{Begins, EndsAtStart, Machined, counting_for, is_over, state_with, terms_of}
 use Rattle.dj_machine.specs.declared.answer.RunAnswer.{RunAnswer}
 use Rattle.dj_machine.specs.declared.answer.RunAnswer.TheVariants as runs
@@ -20,6 +21,11 @@ use Rattle.dj_machine.specs.declared.engine.Ending.{Ending}
 use Rattle.dj_machine.specs.declared.engine.EngineError.{EngineError}
 use Rattle.dj_machine.specs.Runs.{Nowhere, On, Over, Runs, goes_or_over, told_of}
 use Rattle.dj_machine.specs.Engines.{IsEndAtStart, IsEndingOf, IsSpentOf, RunsOn, RunsPlainly, report_for, terms_for}
+
+-- ---- what the host gave
+
+pub gave_nothing : (given : List HostAnswer) → given ≡ given ++ given_since given given
+gave_nothing given = step_laws.gave_nothing given
 
 -- ---- how many answers were taken
 
@@ -66,11 +72,6 @@ ended_on old new gave fuel made ending on is end = λ rest.
     ∙ ap (λ (n : ℕ). Some (report ending.outcome new.state.account.costs made n)) (taken_is gave rest)
     ∙ ap (λ (c : Costs). Some (report ending.outcome c made (length gave))) (sym end.costs)
     ∙ ap (λ (n : ℕ). Some (report ending.outcome ending.costs n (length gave))) (sym end.steps)
-
-pub ends_on : (old new : Machined) (gave : List HostAnswer) (fuel made : ℕ) (result : Result Ending EngineError) → is_over old ≡ false → Runs old new gave fuel (runs.Ended made)
-    → IfOk result (IsEndingOf new made) → IfOk result (RunsOn old fuel gave)
-ends_on old new gave fuel made (Ok ending) on is end = ended_on old new gave fuel made ending on is end
-ends_on old new gave fuel made (Err e) on is end = tt
 
 spent_told : (old new : Machined) (gave : List HostAnswer) (fuel : ℕ) → is_over old ≡ false → Runs old new gave fuel runs.Spent
     → RunsOn old fuel gave (record { outcome = outcomes.OutOfSteps fuel; costs = new.state.account.costs; steps = fuel })

@@ -1,10 +1,11 @@
 -- Steps of a machine, one after the other.
-use Rattle.std.proofs.Common.{◌≡◌, ◌<◌, ◌≤◌, ◌+◌, ◌-◌, ℕ, zero, suc, Bool, true, false, List, [], ◌∷◌, ◌++◌, drop, length, Option, Some, None, IsSome, refl, ap, ◌∙◌, sym, arith}
+use Rattle.std.proofs.Common.{◌≡◌, ◌<◌, ◌≤◌, ◌+◌, ◌-◌, ℕ, zero, suc, Bool, true, false, List, [], ◌∷◌, ◌++◌, drop, length, Option, Some, None, IsSome, refl, ap, ◌∙◌, sym, subst, arith}
 use Rattle.dj_names.specs.declared.run.Outcome.{Outcome}
 use Rattle.dj_edge.specs.declared.host.HostAnswer.{HostAnswer}
 use Rattle.dj_host.specs.Hosted.{given_since}
 use Rattle.dj_model.specs.Types.{Prefix}
 use Rattle.dj_model.specs.Program.{Program}
+use Rattle.dj_model.specs.Standing.{AsksNothing}
 use Rattle.dj_model.specs.State.{State, Terms, Account, Counting}
 use Rattle.dj_model.specs.Step.{Answer, Went, Ended, IllFormed, step}
 use Rattle.dj_model.specs.Runs.{Ran, Going, Finished, NoStep, one_more, steps, then_steps}
@@ -40,6 +41,7 @@ pub record IsSoFar (old now : Machined) (before after : List HostAnswer) (fuel m
   pub on : is_over now ≡ false
   pub run : IsSameRun old now
   pub gave : after ≡ before ++ given_since before after
+  pub quiet : AsksNothing (program_of old.image) → after ≡ before
   pub told : (rest : List HostAnswer) → told_of (steps (program_of old.image) old.image.prefix (terms_of old) fuel (state_with (given_since before after ++ rest) old))
       ≡ more made (told_of (steps (program_of old.image) old.image.prefix (terms_of old) (fuel - made) (state_with rest now)))
 
@@ -64,6 +66,7 @@ begins old before fuel on = record {
   on = on;
   run = record { image = refl; limit = refl; counting = refl };
   gave = sym (append_none before) ∙ ap (λ (g : List HostAnswer). before ++ g) (sym (given_none before));
+  quiet = λ _. refl;
   told = λ rest.
       ap (λ (g : List HostAnswer). told_of (steps (program_of old.image) old.image.prefix (terms_of old) fuel (state_with (g ++ rest) old))) (given_none before)
       ∙ sym (zero_more (told_of (steps (program_of old.image) old.image.prefix (terms_of old) fuel (state_with rest old))))
@@ -189,6 +192,11 @@ suc_is made = omega arith
 none_left : (fuel made : ℕ) → fuel ≤ made → fuel - made ≡ 0
 none_left fuel made past = omega (arith, past)
 
+-- a program that asks nothing has asked nothing so far
+pub quiet_since : {old now : Machined} {before after next : List HostAnswer} {fuel made : ℕ} → IsSoFar old now before after fuel made
+    → (AsksNothing (program_of now.image) → next ≡ after) → AsksNothing (program_of old.image) → next ≡ before
+quiet_since so quiet asks = quiet (subst (λ (image : Imaged). AsksNothing (program_of image)) (sym so.run.image) asks) ∙ so.quiet asks
+
 module _ (old now new : Machined) (before after next : List HostAnswer) (fuel made : ℕ) (so : IsSoFar old now before after fuel made)
     (gave : next ≡ after ++ given_since after next) where
   -- what is told of the whole is told of the rest from here
@@ -200,11 +208,12 @@ module _ (old now new : Machined) (before after next : List HostAnswer) (fuel ma
       ∙ so.told (given_since after next ++ rest)
       ∙ ap (λ (n : ℕ). more made (run_told old n (state_with (given_since after next ++ rest) now))) (more_left fuel made lt)
 
-  pub went : made < fuel → Steps now new (given_since after next) answers.Went → IsSoFar old new before next fuel (made + 1)
-  went lt is = record {
+  pub went : (AsksNothing (program_of now.image) → next ≡ after) → made < fuel → Steps now new (given_since after next) answers.Went → IsSoFar old new before next fuel (made + 1)
+  went quiet lt is = record {
     on = goes new is.answers;
     run = after_run old now new so.run is.run;
     gave = all_given before after next so.gave gave;
+    quiet = quiet_since so quiet;
     told = λ rest.
         let on = is_on new (goes new is.answers) in
         let e : one.told_of (step (program_of now.image) now.image.prefix (terms_of now) (state_with (given_since after next ++ rest) now)) ≡ one.On (state_with rest new) =

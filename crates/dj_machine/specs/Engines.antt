@@ -5,7 +5,7 @@ use Rattle.dj_names.specs.declared.run.Outcome.{Outcome}
 use Rattle.dj_names.specs.declared.run.Outcome.TheVariants as outcomes
 use Rattle.dj_names.specs.declared.run.Thresholds.{Thresholds}
 use Rattle.dj_edge.specs.declared.host.HostAnswer.{HostAnswer}
-use Rattle.dj_model.specs.Types.{Declared}
+use Rattle.dj_model.specs.Types.{Declared, Prefix}
 use Rattle.dj_model.specs.State.{Terms}
 use Rattle.dj_model.specs.Charging.{new_account}
 use Rattle.dj_model.specs.Runs.{Report, plain_run, report_of, steps}
@@ -14,8 +14,12 @@ use Rattle.dj_step.specs.Machines.{Machined, counting_for, is_over, state_with, 
 use Rattle.dj_machine.specs.declared.engine.Ending.{Ending}
 use Rattle.dj_machine.specs.declared.engine.EngineError.{EngineError}
 
+-- objects take so many bytes at most, and these thresholds hold where somebody counts
+abbrev pub terms_by : Prefix → Thresholds → ℕ → Terms
+terms_by prefix most limit = record { limit = Some limit; counting = counting_for prefix most }
+
 abbrev pub terms_for : Imaged → Thresholds → ℕ → Terms
-terms_for imaged most limit = record { limit = Some limit; counting = counting_for imaged.prefix most }
+terms_for imaged most limit = terms_by imaged.prefix most limit
 
 abbrev pub report_for : Ending → ℕ → Report
 report_for ending taken = record { outcome = ending.outcome; costs = ending.costs; steps = ending.steps; taken = taken }

@@ -1,7 +1,7 @@
 ghost use Rattle.std.specs.Prelude.{◌≡◌, ◌≤◌, ◌<◌, ◌++◌, ◌∷◌, ℕ, [], List, length, IfOk};
 ghost use Rattle.dj_names.specs.declared.run.Costs.{Costs};
 ghost use Rattle.dj_model.specs.Sound.{IsSound};
-ghost use Rattle.dj_model.specs.Standing.{IsEntry};
+ghost use Rattle.dj_model.specs.Standing.{AsksNothing, IsEntry};
 ghost use Rattle.dj_calls.specs.Counting.{AreLow};
 ghost use Rattle.dj_types.specs.Members.{all_methods};
 ghost use Rattle.dj_image.specs.Imaged.{program_of};
@@ -75,5 +75,6 @@ pub trait Engine {
         requires limit { heap_limit ≤ 2147483648 }
         ensures ran { IfOk result (RunsPlainly image.now (declared_at (program_of image.now) entry.number) input.now limits heap_limit steps (given_since (H.given host.old) (H.given host.new))) }
         ensures runs { AddsRun (runs self.old) (runs self.new) result }
-        ensures gave { H.given host.new ≡ H.given host.old ++ given_since (H.given host.old) (H.given host.new) };
+        ensures gave { H.given host.new ≡ H.given host.old ++ given_since (H.given host.old) (H.given host.new) }
+        ensures quiet { AsksNothing (program_of image.now) → H.given host.new ≡ H.given host.old };
 }

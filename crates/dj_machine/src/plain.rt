@@ -1,7 +1,7 @@
-ghost use Rattle.std.specs.Prelude.{◌≡◌, ◌≤◌, ◌<◌, ◌++◌, ◌∷◌, ℕ, [], List, length, IfOk};
+ghost use Rattle.std.specs.Prelude.{◌≡◌, ◌≤◌, ◌<◌, ◌++◌, ◌∷◌, ℕ, [], List, length, IfOk, IsSome};
 ghost use Rattle.dj_names.specs.declared.run.Costs.{Costs};
 ghost use Rattle.dj_model.specs.Sound.{IsSound};
-ghost use Rattle.dj_model.specs.Standing.{IsEntry};
+ghost use Rattle.dj_model.specs.Standing.{AsksNothing, IsEntry};
 ghost use Rattle.dj_calls.specs.Counting.{AreLow};
 ghost use Rattle.dj_types.specs.Members.{all_methods};
 ghost use Rattle.dj_image.specs.Imaged.{program_of};
@@ -66,18 +66,18 @@ fn ended_at_start(e: StartError) -> Result<Ending, EngineError>
 }
 
 // How the run of a machine has ended, which made so many steps.
-fn ending_of(machine: Machine<'_>, steps: u64) -> Result<Ending, EngineError>
-    ensures { IfOk result (IsEndingOf machine.entry steps) }
+fn ending_of(machine: Machine<'_>, steps: u64) -> Ending
+    requires { IsSome machine.outcome }
+    ensures { IsEndingOf machine.entry steps result }
 {
     let costs = machine.costs();
     match machine.into_outcome() {
-        Some(outcome) => Ok(Ending {
+        Some(outcome) => Ending {
             outcome,
             costs,
             steps,
-        }),
-        // The run goes on still.
-        None => Err(EngineError::Memory),
+        },
+        None => unreachable!(),
     }
 }
 
@@ -102,10 +102,11 @@ fn run_machine<H: Host>(
     requires { IsAtStart machine }
     ensures ran { IfOk result (RunsOn machine.entry steps (given_since (H.given host.old) (H.given host.new))) }
     ensures gave { H.given host.new ≡ H.given host.old ++ given_since (H.given host.old) (H.given host.new) }
+    ensures quiet { AsksNothing (program_of machine.entry.image) → H.given host.new ≡ H.given host.old }
 {
     let mut machine = machine;
     match run(alloc, &mut machine, host, steps) {
-        RunAnswer::Ended { steps: made } => ending_of(machine, made),
+        RunAnswer::Ended { steps: made } => Ok(ending_of(machine, made)),
         RunAnswer::Spent => Ok(spent_of(machine, steps)),
         RunAnswer::Memory => Err(EngineError::Memory),
     }
@@ -130,6 +131,7 @@ fn run_entry<H: Host>(
     requires limit { heap_limit ≤ 2147483648 }
     ensures ran { IfOk result (RunsPlainly image.now (declared_at (program_of image.now) entry.number) input.now limits heap_limit steps (given_since (H.given host.old) (H.given host.new))) }
     ensures gave { H.given host.new ≡ H.given host.old ++ given_since (H.given host.old) (H.given host.new) }
+    ensures quiet { AsksNothing (program_of image.now) → H.given host.new ≡ H.given host.old }
 {
     match Machine::new(alloc, image, entry, input, limits, heap_limit) {
         Ok(machine) => run_machine(alloc, machine, steps, host),

@@ -1,6 +1,4 @@
 pub mod LowHalves
-pub mod Walks
-pub mod Telling
 pub mod HolderFacts
 pub mod PutFacts
 pub mod FieldFacts

@@ -18,7 +18,7 @@ use Rattle.dj_effects.specs.declared.way.Way.TheVariants as ways
 use Rattle.dj_effects.specs.declared.way.Flow.TheVariants as goes
 use Rattle.dj_effects.specs.DoesOnHeap.{DoesOnHeap}
 use Rattle.dj_members.specs.declared.objects.Thrown.TheVariants as thrown
-use Rattle.dj_members.specs.Numbering.{AreNumbered, IsWhole, has_of, holds_above}
+use Rattle.dj_members.specs.Numbering.{AreNumbered, has_of}
 use Rattle.dj_model.specs.Linking.{chain_of}
 use Rattle.dj_names.specs.declared.descriptor.Base.TheVariants as bases
 use Rattle.dj_names.specs.declared.descriptor.Ty.{Ty}
@@ -49,9 +49,6 @@ frames operands = record { method = 3; number = 7; locals = []; operands = opera
 holders : map (λ r. holder_told (holder_by even (heap 5).heap r)) (0 ∷ 1 ∷ 2 ∷ 3 ∷ 4 ∷ [])
     ≡ Err (goes.Goes (ways.Raise raises.NullPointer)) ∷ Ok 2 ∷ Err goes.Link ∷ Err goes.Link ∷ Err goes.Link ∷ []
 holders = refl
-
-above : holds_above even None ∷ holds_above even (Some 2) ∷ holds_above even (Some 3) ∷ [] ≡ false ∷ true ∷ false ∷ []
-above = refl
 
 numbered : AreNumbered 5 (heap 5).heap
 numbered = All-from_recursion (λ (object : Object ℕ). class_of object < 5) (objects_with 5) (omega arith, (omega arith, (omega arith, tt)))
@@ -237,9 +234,6 @@ anew does = anew_apart does.effect
 
 abbrev types : List Ty
 types = class_type (65 ∷ []) ∷ class_type (66 ∷ []) ∷ base_array bases.Int ∷ []
-
-twice : IsWhole (class_type (65 ∷ []) ∷ class_type (65 ∷ []) ∷ []) [] → ⊥
-twice whole = let same : 0 ≡ 1 = whole.differ 0 1 (class_type (65 ∷ [])) refl refl in omega (arith, same)
 
 has_fields : map (has_of [] types (66 ∷ []) 4) (0 ∷ 1 ∷ 2 ∷ []) ≡ false ∷ true ∷ false ∷ []
 unfolding chain_of

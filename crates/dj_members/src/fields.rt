@@ -1,16 +1,14 @@
-ghost use Rattle.std.specs.Prelude.{◌≡◌, ◌≤◌, ℕ, Bool, length, slice_index};
-ghost use Rattle.dj_model.specs.Linking.{most_classes};
+ghost use Rattle.std.specs.Prelude.{◌≡◌, ◌≤◌, length, slice_index};
 ghost use Rattle.dj_stack.specs.Frames.{top_operands, top_room};
 ghost use Rattle.dj_effects.specs.DoesOnHeap.{DoesOnHeap};
-ghost use Rattle.dj_members.specs.Numbering.{AreNumbered, TellsHolders};
+ghost use Rattle.dj_members.specs.Numbering.{AreNumbered};
 ghost use Rattle.dj_members.specs.Fields.{HasFields, fields_at, get_field_by, put_field_by, PutsField};
 
-use crate::holders::holder;
+use crate::holders::{Holders, holder};
 use crate::values::{field_bits, field_value};
 use dj_effects::{Flow, Way, is_of_kind, pop};
 use dj_heap::Heap;
 use dj_names::{Kind, Value};
-use dj_natives::Classes;
 use dj_stack::Frames;
 
 /// A field of instances.
@@ -26,21 +24,20 @@ pub struct FieldAccess {
 
 /// An instance is taken, and the value of its field is pushed.
 #[tactic(auto, unfolding(crate::specs::Fields::get_field_by))]
-pub fn get_field<C: Classes>(
-    classes: &C,
+pub fn get_field<H: Holders>(
+    holders: &H,
     frames: &mut Frames,
     heap: &Heap,
     field: FieldAccess,
 ) -> Option<Flow>
-    requires numbered { AreNumbered (length (C.types classes.now)) heap.now.heap }
+    requires numbered { AreNumbered (H.count holders.now) heap.now.heap }
     requires room { length (top_operands frames.old) ≤ top_room frames.old }
-    ensures { (has : ℕ → ℕ → Bool) → TellsHolders (C.types classes.now) (C.program classes.now) field.declaring has
-        → DoesOnHeap (get_field_by (has most_classes) field.kind field.place) frames.old frames.new heap.now heap.now result }
+    ensures { DoesOnHeap (get_field_by (H.has holders.now field.declaring) field.kind field.place) frames.old frames.new heap.now heap.now result }
 {
     let Some(Value::Ref(r)) = pop(frames) else {
         return None;
     };
-    match holder(classes, heap, field.declaring, r) {
+    match holder(holders, heap, field.declaring, r) {
         Ok(count) => {
             let bits = bits_at(heap, r, field.place, count);
             frames.push_value(field_value(field.kind, bits));
@@ -52,15 +49,14 @@ pub fn get_field<C: Classes>(
 
 /// A value and an instance are taken, and the instance's field is given the value.
 #[tactic(auto, unfolding(crate::specs::Fields::put_field_by))]
-pub fn put_field<C: Classes>(
-    classes: &C,
+pub fn put_field<H: Holders>(
+    holders: &H,
     frames: &mut Frames,
     heap: &mut Heap,
     field: FieldAccess,
 ) -> Option<Flow>
-    requires { AreNumbered (length (C.types classes.now)) heap.old.heap }
-    ensures { (has : ℕ → ℕ → Bool) → TellsHolders (C.types classes.now) (C.program classes.now) field.declaring has
-        → DoesOnHeap (put_field_by (has most_classes) field.kind field.place) frames.old frames.new heap.old heap.new result }
+    requires { AreNumbered (H.count holders.now) heap.old.heap }
+    ensures { DoesOnHeap (put_field_by (H.has holders.now field.declaring) field.kind field.place) frames.old frames.new heap.old heap.new result }
 {
     let value = pop(frames)?;
     if !is_of_kind(field.kind, value) {
@@ -69,7 +65,7 @@ pub fn put_field<C: Classes>(
     let Some(Value::Ref(r)) = pop(frames) else {
         return None;
     };
-    match holder(classes, heap, field.declaring, r) {
+    match holder(holders, heap, field.declaring, r) {
         Ok(count) => {
             put_bits(heap, r, field.place, count, field_bits(value));
             Some(Flow::Goes(Way::Next))

@@ -9,6 +9,7 @@ mod statics;
 mod values;
 
 pub use fields::{FieldAccess, get_field, put_field};
+pub use holders::Holders;
 pub use literals::{Kept, Literals, keep_text, push_text};
 pub use objects::{Thrown, check_cast, instance_of, new_object, throw_top};
 pub use statics::{Statics, get_static, put_static};

@@ -1,12 +1,12 @@
 -- Runs of which a report tells and runs of which it doesn't, at plain values.
-use Rattle.std.proofs.Common.{◌≡◌, ℕ, true, false, List, [], ◌∷◌, map, refl}
+use Rattle.std.proofs.Common.{◌≡◌, ℕ, true, false, List, [], ◌∷◌, map, Err, refl}
 use Rattle.dj_edge.specs.Held.{File}
 use Rattle.dj_edge.specs.declared.host.HostAnswer.{HostAnswer}
 use Rattle.dj_names.specs.declared.run.Charge.TheVariants as charges
 use Rattle.dj_names.specs.declared.run.Costs.{Costs}
 use Rattle.dj_names.specs.declared.run.Outcome.TheVariants as outcomes
 use Rattle.dj_sandbox.specs.RawRules.{AreRawViolations}
-use Rattle.dj_running.specs.Runs.{AreRawRuns, is_stopped}
+use Rattle.dj_running.specs.Runs.{AreRawRuns, AddsRawRuns, is_stopped}
 
 -- no run where a rule is violated, and one where none is
 no_run : (files : List File) (class input : List ℕ) (steps : ℕ) (answers : List HostAnswer) → AreRawViolations files class [] → AreRawRuns files class input steps answers [] → ⊥
@@ -22,3 +22,8 @@ two_runs files class input steps answers a b told = told
 stopped : map is_stopped (outcomes.Stopped charges.Jump ∷ outcomes.OkNull ∷ outcomes.Link ∷ outcomes.TooDeep ∷ outcomes.OutOfSteps 5 ∷ outcomes.HeapFull 16 67108880 ∷ [])
     ≡ true ∷ false ∷ false ∷ false ∷ false ∷ false ∷ []
 stopped = refl
+
+-- where there was no memory none is added
+none_without_memory : (files : List File) (class input : List ℕ) (steps : ℕ) (answers : List HostAnswer) (run : Costs × ℕ) (e : ℕ)
+    → AddsRawRuns {E = ℕ} files class input steps answers [] (run ∷ []) (Err e) → ⊥
+none_without_memory files class input steps answers run e adds = absurd cc

@@ -1,6 +1,8 @@
 pub mod GivenEffects
 pub mod GivenSteps
 pub mod TakenAnswers
+pub mod UnstoppedEffects
+pub mod Unstopped
 pub mod SomePrograms
 pub mod RawRuns
 pub mod LoadingLaws

@@ -1,32 +1,36 @@
 -- Class files that were judged load with the library whose host answers.
-use Rattle.std.proofs.Common.{◌≡◌, ℕ, suc, ◌+◌, ◌&&◌, ◌*◌, ◌<◌, ◌≤◌, true, List, [], ◌∷◌, ◌++◌, map, take, length, get_or, nat_le, All, refl, sym, ap, ◌∙◌, subst, inl, inr, codes, arith}
+use Rattle.std.proofs.Common.{◌≡◌, ℕ, suc, ◌+◌, ◌&&◌, ◌*◌, ◌<◌, ◌≤◌, true, List, [], ◌∷◌, ◌++◌, map, take, length, get_or, nat_le, All, Contains, refl, sym, ap, ◌∙◌, subst, inl, inr, codes, arith}
 use Rattle.std.specs.List.{list_all, flat_map, AllByRecursion}
 use Rattle.std.proofs.lemmas.Bool.Decides.{nat_tests}
 use Rattle.std.proofs.lemmas.List.{length-append, length-map, take_more, take_all, map-append}
-use Rattle.std.proofs.lemmas.List.Elements.{All-head, All-tail, All-from_recursion}
+use Rattle.std.proofs.lemmas.List.Elements.{All-head, All-tail, All-from_recursion, All-contains_itself}
 use Rattle.dj_edge.specs.Held.{File}
 use Rattle.dj_edge.proofs.Lists.{All-unmap}
 use Rattle.dj_names.specs.Types.{Name}
 use Rattle.dj_names.specs.Library.{Library, raw_library, final_class, lang, string_methods}
 use Rattle.dj_natives.specs.declared.library.LibClass.{LibClass}
 use Rattle.dj_natives.specs.Views.{library_class_view, library_view}
-use Rattle.dj_class.specs.ClassFile.{ClassFile, IsClassFile, IsValid}
+use Rattle.dj_class.specs.ClassFile.{ClassFile, IsClassFile, IsMalformed, IsValid}
 use Rattle.dj_class.specs.declared.class.ClassView.{ClassView}
 use Rattle.dj_class.specs.Views.{class_of}
 use Rattle.dj_report.specs.declared.report.PathFile.{PathFile}
 use Rattle.dj_rules.specs.Views.{path_file_view}
+use Rattle.dj_report.specs.Lines.{file_line}
 use Rattle.dj_check.specs.Malformed.{HasFaultyMethod}
 use Rattle.dj_model.specs.Program.{Class}
 use Rattle.dj_model.specs.Libraries.{library_class}
 use Rattle.dj_declared.specs.Files.{declared_method, declared_field, declared_class}
 use Rattle.dj_linking.specs.declared.linker.BaseNames.TheVariants as bases
-use Rattle.dj_loader.specs.Loads.{all_classes, methods_of, fields_of, HasStringIn, AreFewMembers}
+use Rattle.dj_loader.specs.declared.error.LoadError.{LoadError}
+use Rattle.dj_loader.specs.declared.error.LoadError.TheVariants as errors
+use Rattle.dj_loader.specs.Loads.{all_classes, methods_of, fields_of, HasStringIn, AreFewMembers, IsLoadable, RefusesLoad}
 use Rattle.dj_loader.proofs.Lists.{member_none}
 use Rattle.dj_sandbox.specs.Checked.{AreGoodFiles, HoldsHierarchy}
 use Rattle.dj_sandbox.specs.RawRules.{AreRawViolations}
 use Rattle.dj_sandbox.specs.Late.{AreReadFiles}
 use Rattle.dj_sandbox.proofs.LateLaws.{read_more, good_files}
 use Rattle.dj_sandbox.proofs.LibraryDescriptors.{HasDescriptors, described, both}
+use Rattle.dj_sound.proofs.RawAccepted.{are_raw_accepted}
 
 -- ---- one more file is read
 
@@ -184,5 +188,32 @@ few_views files views few read =
 holds_of : (files : List File) (class : Name) → AreRawViolations files class [] → HoldsHierarchy files
 holds_of files class silent v line = absurd (member_none v ((silent.all v).1 (inl (inl line))))
 
+-- rule 1
+not_malformed : (files : List File) (class : Name) → AreRawViolations files class [] → (file : File) → Contains files file → IsMalformed file.1 → ⊥
+not_malformed files class silent file m malformed =
+    member_none (file_line file.0 1) ((silent.all (file_line file.0 1)).1 (inl (inl (inl (file, m, inl (inl malformed, refl))))))
+
+pub whole_files : (files : List PathFile) → (class : Name) × AreRawViolations (map path_file_view files) class [] → All (λ file. IsMalformed file.bytes.now → ⊥) files
+whole_files files (class, silent) =
+    let some : List File = map path_file_view files in
+    All-unmap path_file_view (λ (file : File). IsMalformed file.1 → ⊥) files
+    (λ k d within. not_malformed some class silent (get_or some k d) (All-contains_itself some k d within))
+
 pub good_of : (files : List File) (classes : List ClassFile) → (class : Name) × AreRawViolations files class [] → AreReadFiles files classes → AreGoodFiles files classes
 good_of files classes (class, silent) read = good_files files classes (holds_of files class silent) read
+
+-- ---- they load
+
+pub loadable_views : (files : List File) (views : List ClassView) → (class : Name) × AreRawViolations files class [] → AreGoodFiles files (map class_of views)
+    → IsLoadable (all_classes raw_library (map class_of views))
+loadable_views files views (class, silent) good = (are_raw_accepted files class (map class_of views) good silent).loadable
+
+-- classes that load are refused for want of memory alone
+pub refused_memory : (rows : List LibClass) (views : List ClassView) (e : LoadError) → library_view rows ≡ raw_library → IsLoadable (all_classes raw_library (map class_of views))
+    → RefusesLoad (all_classes (library_view rows) (map class_of views)) e → e ≡ errors.Memory
+refused_memory rows views e is loadable refused = by e (subst (λ (l : Library). RefusesLoad (all_classes l (map class_of views)) e) is refused) where
+  by : (e : LoadError) → RefusesLoad (all_classes raw_library (map class_of views)) e → e ≡ errors.Memory
+  by (errors.Duplicate name) told = absurd (loadable.differ name told.shared)
+  by (errors.NoSuper name) told = absurd (loadable.whole name told.1.such)
+  by (errors.Cycle name) told = absurd (loadable.acyclic name told.2.such)
+  by errors.Memory told = refl

@@ -1,5 +1,5 @@
 -- What is told of a run of files in which no rule is violated.
-use Rattle.std.proofs.Common.{◌≡◌, ◌≢◌, ◌==◌, ℕ, false, true≢false, List, [], ◌∷◌, ◌++◌, length, Some, map, Result, Ok, Err, IfOk, refl, sym, ap, ◌∙◌, subst, inl, inr}
+use Rattle.std.proofs.Common.{◌≡◌, ◌≢◌, ◌==◌, ℕ, false, true≢false, List, [], ◌∷◌, ◌++◌, length, Option, Some, IfSome, map, Result, Ok, Err, IfOk, refl, sym, ap, ◌∙◌, subst}
 use Rattle.dj_edge.specs.Held.{File}
 use Rattle.dj_edge.specs.declared.host.HostAnswer.{HostAnswer}
 use Rattle.dj_names.specs.declared.run.Costs.{Costs}
@@ -13,6 +13,7 @@ use Rattle.dj_model.specs.Types.{Prefix}
 use Rattle.dj_model.specs.Sound.{IsSound}
 use Rattle.dj_model.specs.Standing.{IsEntry}
 use Rattle.dj_model.specs.Runs.{plain_run}
+use Rattle.dj_model.specs.Runs as model_runs
 use Rattle.dj_names.specs.declared.run.Outcome.{Outcome}
 use Rattle.dj_names.specs.declared.run.Outcome.TheVariants as outcomes
 use Rattle.dj_report.specs.Outcomes.{outcome_status}
@@ -30,6 +31,7 @@ use Rattle.dj_sandbox.specs.Statuses.{IsAmong, raw_statuses}
 use Rattle.dj_sound.specs.Accepted.{IsRawAccepted}
 use Rattle.dj_sound.proofs.RawAccepted.{are_raw_accepted}
 use Rattle.dj_running.specs.Loading.{IsImageOf}
+use Rattle.dj_running.proofs.Unstopped.{never_stopped}
 use Rattle.dj_running.specs.Runs.{no_limits, run_of, is_stopped, TellsEnding, AreRawRuns, AddsRawRuns}
 
 -- ---- the image
@@ -63,6 +65,12 @@ module _ (files : List File) (class : Name) (imaged : Imaged) (is : IsImageOf fi
         (subst (λ (prefix : Prefix). plain_run (program_of imaged) prefix (terms_for (record imaged { prefix = prefix }) no_limits most_heap_bytes) (entry_of class) input (gave ++ []) steps ≡ Some (report_for ending (length gave))) is.3
         (runs []))
 
+    -- no charge stops it
+    pub runs_unstopped : (ending : Ending) → RunsPlainly imaged (entry_of class) input no_limits most_heap_bytes steps gave ending → is_stopped ending.outcome ≡ false
+    runs_unstopped ending runs =
+        subst (λ (told : Option model_runs.Report). IfSome told (λ run. is_stopped run.outcome ≡ false)) (plainly ending runs)
+        (never_stopped (program_of imaged) [] (Some most_heap_bytes) (entry_of class) input gave steps)
+
     pub runs_raw : (ending : Ending) (report : Report) → RunsPlainly imaged (entry_of class) input no_limits most_heap_bytes steps gave ending → TellsEnding ending report
         → RunsRaw files class input steps gave (Some report)
     runs_raw ending report runs told = (is.0, program_of imaged, report_for ending (length gave), is.1, is.2, plainly ending runs, refl, told)
@@ -70,11 +78,10 @@ module _ (files : List File) (class : Name) (imaged : Imaged) (is : IsImageOf fi
     raw_run : (ending : Ending) → RunsPlainly imaged (entry_of class) input no_limits most_heap_bytes steps gave ending → AreRawRuns files class input steps gave (run_of ending ∷ [])
     raw_run ending runs = (silent, (is.0, program_of imaged, report_for ending (length gave), is.1, is.2, plainly ending runs, refl, refl))
 
-    -- a report is made of an ending, or there is no memory for it
-    pub adds_told : {E : Type 0} (old new : List (Costs × ℕ)) (ending : Ending) (result : Result Report E) → RunsPlainly imaged (entry_of class) input no_limits most_heap_bytes steps gave ending
-        → new ≡ old ++ run_of ending ∷ [] → AddsRawRuns files class input steps gave old new result
-    adds_told old new ending (Ok report) runs adds = (run_of ending ∷ [], raw_run ending runs, adds)
-    adds_told old new ending (Err e) runs adds = inr (run_of ending, raw_run ending runs, adds)
+    -- it is told after those before
+    pub adds_told : (old new : List (Costs × ℕ)) (ending : Ending) → RunsPlainly imaged (entry_of class) input no_limits most_heap_bytes steps gave ending
+        → new ≡ old ++ run_of ending ∷ [] → (added : List (Costs × ℕ)) × AreRawRuns files class input steps gave added × (new ≡ old ++ added)
+    adds_told old new ending runs adds = (run_of ending ∷ [], raw_run ending runs, adds)
 
 -- ---- its status
 
@@ -102,7 +109,7 @@ not_silent files class (v ∷ violations) are some silent = member_none v ((sile
 -- nothing is added where there is no memory
 pub adds_nothing : {E : Type 0} (files : List File) (class : Name) (input : List ℕ) (steps : ℕ) (gave : List HostAnswer) (old : List (Costs × ℕ)) (result : Result Report E) (e : E)
     → result ≡ Err e → AddsRawRuns files class input steps gave old old result
-adds_nothing files class input steps gave old result e is = subst (AddsRawRuns files class input steps gave old old) (sym is) (inl refl)
+adds_nothing files class input steps gave old result e is = subst (AddsRawRuns files class input steps gave old old) (sym is) refl
 
 -- with another error, of files that are the same
 pub errs_alike : {E D : Type 0} (files set : List File) (class : Name) (input : List ℕ) (steps : ℕ) (gave : List HostAnswer) (old new : List (Costs × ℕ)) (one : E) (result : Result Report D) (e : D)

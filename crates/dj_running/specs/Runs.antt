@@ -1,5 +1,5 @@
 -- The runs of an engine that the report on a raw run tells of.
-use Rattle.std.specs.Prelude.{◌≡◌, ◌⊎◌, ℕ, Bool, true, false, List, [], ◌∷◌, ◌++◌, length, Some, Result, Ok, Err}
+use Rattle.std.specs.Prelude.{◌≡◌, ℕ, Bool, true, false, List, [], ◌∷◌, ◌++◌, length, Some, Result, Ok, Err}
 use Rattle.dj_edge.specs.Held.{File}
 use Rattle.dj_edge.specs.declared.host.HostAnswer.{HostAnswer}
 use Rattle.dj_names.specs.declared.run.Costs.{Costs}
@@ -34,11 +34,10 @@ AreRawRuns files class input steps answers [] = AreRawViolations files class [] 
 AreRawRuns files class input steps answers (run ∷ []) = AreRawViolations files class [] × IsRawRun files class input steps answers run
 AreRawRuns files class input steps answers (run ∷ other ∷ more) = ⊥
 
--- the runs of which the report tells are told after those before; where there was no memory, none is or that one
+-- the runs of which the report tells are told after those before; where there was no memory, none is
 abbrev pub AddsRawRuns : {E : Type 0} → List File → Name → List ℕ → ℕ → List HostAnswer → List (Costs × ℕ) → List (Costs × ℕ) → Result Report E → Type 0
 AddsRawRuns {E} files class input steps answers old new (Ok report) = (added : List (Costs × ℕ)) × AreRawRuns files class input steps answers added × (new ≡ old ++ added)
-AddsRawRuns {E} files class input steps answers old new (Err e) =
-    (new ≡ old) ⊎ ((run : Costs × ℕ) × AreRawRuns files class input steps answers (run ∷ []) × (new ≡ old ++ run ∷ []))
+AddsRawRuns {E} files class input steps answers old new (Err e) = new ≡ old
 
 -- ---- the code's own
 

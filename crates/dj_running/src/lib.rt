@@ -8,5 +8,5 @@ mod raw_run;
 mod running;
 
 pub use dj_machine::{Engine, PlainEngine};
-pub use laws::has_raw_run;
+pub use laws::{has_raw_run, never_stopped};
 pub use running::raw;

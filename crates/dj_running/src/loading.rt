@@ -1,10 +1,11 @@
 //! The image of class files that were judged.
 ghost use Rattle.std.specs.Prelude.{◌≡◌, ◌<◌, ◌≤◌, ◌^◌, [], length, map, All, IfOk};
 ghost use Rattle.dj_names.specs.Library.{raw_library};
-ghost use Rattle.dj_class.specs.ClassFile.{IsClassFile, IsValid};
+ghost use Rattle.dj_class.specs.ClassFile.{IsClassFile, IsMalformed, IsValid};
 ghost use Rattle.dj_class.specs.Views.{class_of};
 ghost use Rattle.dj_rules.specs.Views.{path_file_view};
 ghost use Rattle.dj_check.specs.Malformed.{HasFaultyMethod};
+ghost use Rattle.dj_loader.specs.Loads.{IsLoadable, all_classes};
 ghost use Rattle.dj_program.specs.Programs.{IsProgramIn};
 ghost use Rattle.dj_image.specs.Imaged.{program_of};
 ghost use Rattle.dj_sandbox.specs.Late.{AreReadFiles};
@@ -12,26 +13,27 @@ ghost use Rattle.dj_sandbox.specs.Limits.{most_files};
 
 use dj_class::ClassView;
 use dj_library::raw;
-use dj_loader::{BaseNames, Image, load};
+use dj_loader::{BaseNames, Image, LoadError, load};
 use dj_report::PathFile;
 use dj_rules::{FileView, RulesError, view_file};
 use std::alloc::Global;
 
 // Reads a class file.
 fn view_path_file<'a>(alloc: Global, file: &PathFile<'a>) -> Result<ClassView<'a>, RulesError>
-    requires { length file.now.bytes.now < 2 ^ 32 }
+    requires short { length file.now.bytes.now < 2 ^ 32 }
+    requires whole { IsMalformed file.now.bytes.now → ⊥ }
     ensures { IfOk result (λ view. IsClassFile file.now.bytes.now (class_of view)) }
 {
     match view_file(alloc, file.bytes)? {
         FileView::Class(view) => Ok(view),
-        // Files that violate rule 1 are not run.
-        FileView::Malformed => Err(RulesError::Memory),
+        FileView::Malformed => unreachable!(),
     }
 }
 
 /// Reads class files.
 pub fn views_of<'a>(alloc: Global, files: &[PathFile<'a>]) -> Result<Vec<ClassView<'a>>, RulesError>
-    requires { All (λ file. length file.bytes.now < 2 ^ 32) files.now }
+    requires short { All (λ file. length file.bytes.now < 2 ^ 32) files.now }
+    requires whole { All (λ file. IsMalformed file.bytes.now → ⊥) files.now }
     ensures { IfOk result (λ views. AreReadFiles (map path_file_view files.now) (map class_of views.items)) }
 {
     let mut views = Vec::new(alloc);
@@ -42,17 +44,21 @@ pub fn views_of<'a>(alloc: Global, files: &[PathFile<'a>]) -> Result<Vec<ClassVi
     Ok(views)
 }
 
-/// The image of the program of class files and the library whose host answers.
+/// The image of the program of class files and the library whose host answers, which load together.
 pub fn raw_image(alloc: Global, views: &[ClassView<'_>]) -> Result<Image, RulesError>
     requires valid { All (λ view. IsValid (class_of view)) views.now }
     requires coded { All (λ view. HasFaultyMethod (class_of view) → ⊥) views.now }
     requires few { length views.now ≤ most_files }
+    requires loadable { IsLoadable (all_classes raw_library (map class_of views.now)) }
     ensures program { IfOk result (λ image. IsProgramIn raw_library (map class_of views.now) (program_of image)) }
     ensures prefix { IfOk result (λ image. image.prefix ≡ []) }
 {
     let library = raw(alloc).map_err(|_| RulesError::Memory)?;
     match load(alloc, views, &library, BaseNames::Plain) {
         Ok(image) => Ok(image),
-        Err(_) => Err(RulesError::Memory),
+        Err(LoadError::Memory) => Err(RulesError::Memory),
+        Err(LoadError::Duplicate(_)) => unreachable!(),
+        Err(LoadError::NoSuper(_)) => unreachable!(),
+        Err(LoadError::Cycle(_)) => unreachable!(),
     }
 }

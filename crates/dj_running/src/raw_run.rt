@@ -1,5 +1,5 @@
 //! The run of an image, and what is told of it.
-ghost use Rattle.std.specs.Prelude.{◌≡◌, ◌++◌, IfOk};
+ghost use Rattle.std.specs.Prelude.{◌≡◌, ◌++◌, false, IfOk};
 ghost use Rattle.dj_model.specs.Sound.{IsSound};
 ghost use Rattle.dj_model.specs.Standing.{IsEntry};
 ghost use Rattle.dj_report.specs.Text.{report_status};
@@ -15,9 +15,8 @@ use crate::entry::entry_in;
 use dj_edge::Host;
 use dj_image::Image;
 use dj_machine::{Ending, Engine, EngineError};
-use dj_names::{Outcome, Thresholds};
+use dj_names::Thresholds;
 use dj_report::Report;
-use dj_rules::RulesError;
 use std::alloc::Global;
 
 // The most bytes that the objects of a run take.
@@ -47,14 +46,10 @@ pub fn run_image<H: Host, E: Engine>(
     ensures runs { AddsRun (E.runs engine.old) (E.runs engine.new) result }
     ensures gave { H.given host.new ≡ H.given host.old ++ given_since (H.given host.old) (H.given host.new) }
 {
-    let Some(method) = entry_in(image, entry) else {
-        // The entry is there, since the rule ENTRY isn't violated.
-        return Err(EngineError::Memory);
-    };
     engine.plain(
         alloc,
         image,
-        method,
+        entry_in(image, entry),
         input,
         NO_LIMITS,
         MOST_HEAP_BYTES,
@@ -63,21 +58,12 @@ pub fn run_image<H: Host, E: Engine>(
     )
 }
 
-// Whether a charge passed its threshold.
-fn is_stopped(outcome: &Outcome) -> bool
-    ensures { result ≡ is_stopped outcome.now }
+/// The report on a run that no charge stopped.
+pub fn report_of(ending: Ending) -> Report
+    requires { is_stopped ending.outcome ≡ false }
+    ensures told { TellsEnding ending result }
+    ensures status { IsAmong (report_status result) raw_statuses }
 {
-    matches!(outcome, Outcome::Stopped(_))
-}
-
-/// The report on a run of which nobody counts the charges: none of them passes its threshold.
-pub fn report_of(ending: Ending) -> Result<Report, RulesError>
-    ensures told { IfOk result (TellsEnding ending) }
-    ensures status { IfOk result (λ report. IsAmong (report_status report) raw_statuses) }
-{
-    if is_stopped(&ending.outcome) {
-        return Err(RulesError::Memory);
-    }
     let Ending { outcome, steps, .. } = ending;
-    Ok(Report::Raw { outcome, steps })
+    Report::Raw { outcome, steps }
 }

@@ -53,7 +53,7 @@ fn run_files<H: Host, E: Engine>(
 {
     let image = image_of_files(alloc, files)?;
     match run_image(alloc, &image, entry, input, steps, host, engine) {
-        Ok(ending) => report_of(ending),
+        Ok(ending) => Ok(report_of(ending)),
         Err(_) => Err(RulesError::Memory),
     }
 }

@@ -5,5 +5,6 @@ pub mod RaiseLaws
 pub mod OwnLaws
 pub mod StopLaws
 pub mod WayLaws
+pub mod FrugalLaws
 pub mod NativeLaws
 mod SettlingFacts

@@ -50,19 +50,19 @@ class_is imaged class e = (class_told imaged class e).number
 
 -- ---- the first one
 
-found_by : (types : List Ty) (prefix : Prefix) (class count : ℕ) → TellsStop types prefix (Some class) → (objects : List (Object ℕ)) (r : ℕ) → All (IsKnown types count) objects
+found_by : (types : List Ty) (prefix : Prefix) (class : ℕ) → TellsStop types prefix (Some class) → (objects : List (Object ℕ)) (r : ℕ) → All (IsKnown types) objects
     → stop_from prefix r (map (object_map (numbered.type_at types)) objects) ≡ stop_number_from class r objects
-found_by types prefix class count tells [] r known = refl
-found_by types prefix class count tells (object ∷ objects) r known =
+found_by types prefix class tells [] r known = refl
+found_by types prefix class tells (object ∷ objects) r known =
     let test : is_stop prefix (class_of (object_map (numbered.type_at types) object)) ≡ nat_eq class (class_of object) =
-    ap (is_stop prefix) (class_of_mapped (numbered.type_at types) object) ∙ tells (class_of object) (All-head (IsKnown types count) object objects known).class in
+    ap (is_stop prefix) (class_of_mapped (numbered.type_at types) object) ∙ tells (class_of object) (All-head (IsKnown types) object objects known).class in
     ap (λ (b : Bool). if b then Some r else stop_from prefix (r + 1) (map (object_map (numbered.type_at types)) objects)) test
-    ∙ ap (λ (o : Option ℕ). if nat_eq class (class_of object) then Some r else o) (found_by types prefix class count tells objects (r + 1) (All-tail (IsKnown types count) object objects known))
+    ∙ ap (λ (o : Option ℕ). if nat_eq class (class_of object) then Some r else o) (found_by types prefix class tells objects (r + 1) (All-tail (IsKnown types) object objects known))
 
 pub by_number : (imaged : Imaged) (h : LimitedHeap) (class : ℕ) → AreSettled (typed_of imaged) → Some class ≡ stop_at (typed_of imaged) → AreKnown (types_of (typed_of imaged)) h
     → stop_number_from class 1 h.heap.objects ≡ stop_found imaged h
 by_number imaged h class settled e known =
-    sym (found_by (types_of (typed_of imaged)) imaged.prefix class (length h.heap.objects) (stop_alone (typed_of imaged) settled (Some class) e) h.heap.objects 1 known)
+    sym (found_by (types_of (typed_of imaged)) imaged.prefix class (stop_alone (typed_of imaged) settled (Some class) e) h.heap.objects 1 known)
 
 pub told_is : (imaged : Imaged) (h : LimitedHeap) (stop : ℕ) → (stop ≡ 0 → ⊥) → IsStop imaged h stop → Some stop ≡ stop_found imaged h
 told_is imaged h stop some is = sym (is some)

@@ -44,7 +44,7 @@ use Rattle.dj_settling.proofs.EndLaws.{class_typed, class_within, named_by_type}
 
 -- ---- the class of an object
 
-class_there : (types : List Ty) (h : LimitedHeap) (r class : ℕ) → option_map class_of (object_in h r) ≡ Some class → class_at_number (typed_heap types h) r ≡ numbered.type_at types class
+pub class_there : (types : List Ty) (h : LimitedHeap) (r class : ℕ) → option_map class_of (object_in h r) ≡ Some class → class_at_number (typed_heap types h) r ≡ numbered.type_at types class
 class_there types h r class e = ap class_in (object_alike types h r) ∙ by (object_in h r) e where
   by : (o : Option (Object ℕ)) → option_map class_of o ≡ Some class → class_in (option_map (object_map (numbered.type_at types)) o) ≡ numbered.type_at types class
   by None e = absurd cc
@@ -131,7 +131,7 @@ made_thrown imaged before after class fields r makes plain = record { object = m
 pub made_known : (imaged : Imaged) (before after : LimitedHeap) (class fields r : ℕ) → AreSettled (typed_of imaged) → Makes before after (Instance class (replicate fields 0)) r
     → IsClassNumber (typed_of imaged) class → AreKnown (types_of (typed_of imaged)) before → AreKnown (types_of (typed_of imaged)) after
 made_known imaged before after class fields r settled makes plain known =
-    known_made (types_of (typed_of imaged)) before after (made class fields) r makes known (record { class = plain.within; holds = class_typed imaged class settled plain; there = tt })
+    known_made (types_of (typed_of imaged)) before after (made class fields) r makes known (record { class = plain.within; holds = class_typed imaged class settled plain })
 
 module _ (imaged : Imaged) (exceeded : Option Charge) (class fields : ℕ) (before : LimitedHeap) where
   abbrev type_of : ℕ → Ty

@@ -1,4 +1,4 @@
-ghost use Rattle.std.specs.Prelude.{◌≡◌, ◌<◌, ◌+◌, Option, length, IfOk, OnOk};
+ghost use Rattle.std.specs.Prelude.{◌≡◌, ◌<◌, ◌+◌, ◌^◌, Option, length, IfErr, IfOk, OnOk};
 ghost use Rattle.dj_names.specs.declared.run.Charge as charges;
 ghost use Rattle.dj_model.specs.State as states;
 ghost use Rattle.dj_model.specs.Sound.{IsSound};
@@ -8,6 +8,7 @@ ghost use Rattle.dj_calls.specs.Known.{AreKnown};
 ghost use Rattle.dj_types.specs.Typed.{types_of};
 ghost use Rattle.dj_image.specs.Imaged.{program_of, typed_of};
 ghost use Rattle.dj_activations.specs.Activations.{AreActivations};
+ghost use Rattle.dj_settling.specs.Frugal.{IsFrugal};
 ghost use Rattle.dj_settling.specs.Settling.{HasOwn, HasRoomFor, Settles, top_settled};
 
 use crate::raising::raise;
@@ -36,7 +37,8 @@ pub fn go(
     requires some { 0 < length frames.old }
     requires known { AreKnown (types_of (typed_of image.now)) heap.old }
     requires room { HasRoomFor (program_of image.now) frames.old way }
-    ensures { IfOk result (λ settled. Settles image.now exceeded (top_settled (program_of image.now) image.now.prefix (states.Goes (way_view way))) heap.old heap.new frames.old frames.new settled) }
+    ensures settles { IfOk result (λ settled. Settles image.now exceeded (top_settled (program_of image.now) image.now.prefix (states.Goes (way_view way))) heap.old heap.new frames.old frames.new settled) }
+    ensures frugal { IsFrugal frames.old way → IfErr result (λ _. ⊥) }
 {
     match way {
         Way::Next => go_next(image, frames, heap),
@@ -52,7 +54,8 @@ pub(crate) fn go_next(image: &Image, frames: &mut Frames, heap: &Heap) -> Result
     requires stand { AreActivations image.now frames.old }
     requires some { 0 < length frames.old }
     requires known { AreKnown (types_of (typed_of image.now)) heap.now }
-    ensures { (exceeded : Option charges.Charge) → IfOk result (λ settled. Settles image.now exceeded (top_settled (program_of image.now) image.now.prefix (states.Goes states.Next)) heap.now heap.now frames.old frames.new settled) }
+    ensures settles { (exceeded : Option charges.Charge) → IfOk result (λ settled. Settles image.now exceeded (top_settled (program_of image.now) image.now.prefix (states.Goes states.Next)) heap.now heap.now frames.old frames.new settled) }
+    ensures frugal { top_number frames.old + 1 < 2 ^ 32 → IfErr result (λ _. ⊥) }
 {
     advance(frames)?;
     Ok(Settled::Went)
@@ -64,7 +67,8 @@ fn go_to(image: &Image, frames: &mut Frames, heap: &Heap, number: u64) -> Result
     requires stand { AreActivations image.now frames.old }
     requires some { 0 < length frames.old }
     requires known { AreKnown (types_of (typed_of image.now)) heap.now }
-    ensures { (exceeded : Option charges.Charge) → IfOk result (λ settled. Settles image.now exceeded (top_settled (program_of image.now) image.now.prefix (states.Goes (states.To number))) heap.now heap.now frames.old frames.new settled) }
+    ensures settles { (exceeded : Option charges.Charge) → IfOk result (λ settled. Settles image.now exceeded (top_settled (program_of image.now) image.now.prefix (states.Goes (states.To number))) heap.now heap.now frames.old frames.new settled) }
+    ensures frugal { number < 2 ^ 32 → IfErr result (λ _. ⊥) }
 {
     let Ok(number) = u32::try_from(number) else {
         return Err(NoMemory::Memory);
@@ -79,6 +83,7 @@ pub(crate) fn advance(frames: &mut Frames) -> Result<(), NoMemory>
     requires { 0 < length frames.old }
     ensures number { OnOk result (top_number frames.new ≡ top_number frames.old + 1) }
     ensures rest { OnOk result (SameButNumber frames.old frames.new) }
+    ensures frugal { top_number frames.old + 1 < 2 ^ 32 → IfErr result (λ _. ⊥) }
 {
     let number = frames.number(frames.depth() - 1);
     let Some(next) = number.checked_add(1) else {

@@ -1,4 +1,4 @@
-ghost use Rattle.std.specs.Prelude.{◌<◌, length, Option, IfOk};
+ghost use Rattle.std.specs.Prelude.{◌<◌, length, Option, IfErr, IfOk};
 ghost use Rattle.dj_names.specs.declared.run.Charge.{Charge};
 ghost use Rattle.dj_model.specs.State.{Goes, Back};
 ghost use Rattle.dj_calls.specs.Known.{AreKnown};
@@ -6,6 +6,7 @@ ghost use Rattle.dj_types.specs.Typed.{types_of};
 ghost use Rattle.dj_image.specs.Imaged.{program_of, typed_of};
 ghost use Rattle.dj_activations.specs.Activations.{AreActivations};
 ghost use Rattle.dj_unwinding.specs.Returns.{HasRoomBelow};
+ghost use Rattle.dj_settling.specs.Frugal.{IsFrugalReturn};
 ghost use Rattle.dj_settling.specs.Settling.{Settles, top_settled};
 
 use crate::settled::Settled;
@@ -17,7 +18,7 @@ use dj_unwinding::{Returned, go_back, result_outcome};
 use std::alloc::Global;
 
 /// The method of the top frame returns, and the run goes on in the caller, or ends where it was the last one.
-#[tactic(auto, using(crate::proofs::WayLaws::went_back, crate::proofs::WayLaws::last_ended))]
+#[tactic(auto, using(crate::proofs::WayLaws::went_back, crate::proofs::WayLaws::last_ended, crate::proofs::FrugalLaws::has_number_below, crate::proofs::FrugalLaws::never_last))]
 pub fn give_back(
     alloc: Global,
     image: &Image,
@@ -29,7 +30,8 @@ pub fn give_back(
     requires some { 0 < length frames.old }
     requires room { HasRoomBelow (program_of image.now) frames.old value }
     requires known { AreKnown (types_of (typed_of image.now)) heap.now }
-    ensures { (exceeded : Option Charge) → IfOk result (λ settled. Settles image.now exceeded (top_settled (program_of image.now) image.now.prefix (Goes (Back value))) heap.now heap.now frames.old frames.new settled) }
+    ensures settles { (exceeded : Option Charge) → IfOk result (λ settled. Settles image.now exceeded (top_settled (program_of image.now) image.now.prefix (Goes (Back value))) heap.now heap.now frames.old frames.new settled) }
+    ensures frugal { IsFrugalReturn frames.old → IfErr result (λ _. ⊥) }
 {
     match go_back(image, frames, value)? {
         Returned::Back => Ok(Settled::Went),

@@ -1,4 +1,4 @@
-ghost use Rattle.std.specs.Prelude.{◌≡◌, ◌<◌, IfOk, IfSome, IsSome, length, replicate};
+ghost use Rattle.std.specs.Prelude.{◌≡◌, ◌<◌, IfErr, IfOk, IfSome, IsSome, length, replicate};
 ghost use Rattle.dj_names.specs.Heaps.{Instance};
 ghost use Rattle.dj_model.specs.Sound.{IsSound};
 ghost use Rattle.dj_calls.specs.Known.{AreKnown};
@@ -7,6 +7,7 @@ ghost use Rattle.dj_image.specs.Imaged.{program_of, typed_of};
 ghost use Rattle.dj_activations.specs.Activations.{AreActivations};
 ghost use Rattle.dj_unwinding.specs.Unwinding.{IsClassNumber};
 ghost use Rattle.dj_heap.specs.Heaps.{object_in};
+ghost use Rattle.dj_settling.specs.Frugal.{IsFrugalThrow};
 ghost use Rattle.dj_settling.specs.Settling.{IsMade, IsThrown, Settles, throwing, throwing_new, uncaught_outcome};
 ghost use Rattle.dj_settling.specs.declared.settled.Settled.TheVariants as settles;
 
@@ -34,7 +35,8 @@ pub fn throw(
     requires stand { AreActivations image.now frames.old }
     requires known { AreKnown (types_of (typed_of image.now)) heap.now }
     requires thrown { IsThrown image.now heap.now exception }
-    ensures { IfOk result (λ settled. Settles image.now exceeded (throwing image.now exception) heap.now heap.now frames.old frames.new settled) }
+    ensures settles { IfOk result (λ settled. Settles image.now exceeded (throwing image.now exception) heap.now heap.now frames.old frames.new settled) }
+    ensures frugal { IsFrugalThrow image.now heap.now frames.old exception → IfErr result (λ _. ⊥) }
 {
     image.are_settled();
     let class = heap.class_of(exception);

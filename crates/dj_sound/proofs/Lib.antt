@@ -17,6 +17,7 @@ pub mod Widened
 pub mod Raw
 pub mod Whole
 pub mod Loadable
+pub mod Asking
 pub mod Running
 pub mod ClassFiles
 pub mod RawAccepted

@@ -4,22 +4,23 @@ use Rattle.std.specs.List.{list_all, list_any}
 use Rattle.dj_edge.specs.Held.{File}
 use Rattle.dj_edge.specs.declared.host.HostAnswer.{HostAnswer}
 use Rattle.dj_names.specs.Types.{Name, class_type}
-use Rattle.dj_names.specs.Library.{deterministic_library, raw_library}
+use Rattle.dj_names.specs.Library.{Library, deterministic_library, raw_library, sandbox_library}
 use Rattle.dj_names.specs.declared.run.Thresholds.{Thresholds}
 use Rattle.dj_class.specs.ClassFile.{ClassFile}
 use Rattle.dj_class.specs.Laws.{AreBytes}
 use Rattle.dj_model.specs.Program.{Program, Class, Method, is_interface}
+use Rattle.dj_model.specs.Libraries.{library_program}
 use Rattle.dj_model.specs.Types.{Declared, string_name, is_stop}
 use Rattle.dj_model.specs.State.{Terms}
 use Rattle.dj_model.specs.Runs.{metered_run, plain_run}
-use Rattle.dj_model.specs.Standing.{RunStands, IsEntry, Starves}
+use Rattle.dj_model.specs.Standing.{AsksNothing, RunStands, IsEntry, Starves}
 use Rattle.dj_model.specs.Linking.{chain, superclasses, is_among}
 use Rattle.dj_model.specs.Sound.{names_rise, fields_differ, methods_differ, Ends, is_interface_name, is_object_or_none, IsBody, is_sound_field, IsSoundBody, IsSound}
 use Rattle.dj_loader.specs.Loads.{all_classes, IsLoadable}
 use Rattle.dj_program.specs.Programs.{IsProgramIn}
 use Rattle.dj_sandbox.specs.Checked.{AreGoodFiles, AreCheckViolations}
-use Rattle.dj_sandbox.specs.RawRules.{AreRawViolations}
-use Rattle.dj_sound.specs.Accepted.{IsAccepted, IsRawAccepted, OfEither}
+use Rattle.dj_sandbox.specs.RawRules.{entry_of, AreRawViolations}
+use Rattle.dj_sound.specs.Accepted.{IsAcceptedBy, IsAccepted, IsRawAccepted, OfEither}
 
 -- each byte of each file is one
 abbrev pub AreOfBytes : List File → Type 0
@@ -108,10 +109,30 @@ AreRawAccepted = (files : List File) (class : Name) (classes : List ClassFile) �
 abbrev pub HaveRawClassFiles : Type 0
 HaveRawClassFiles = (files : List File) (class : Name) → AreOfBytes files → AreRawViolations files class [] → (classes : List ClassFile) × IsRawAccepted files class classes
 
--- no turn of a metered run is ill-formed, nor any step of a plain run, but for an answer that the host doesn't give
+-- a plain run is reported, or an answer is lacking that the host doesn't give
+abbrev pub IsReportedOrStarves : Program → Terms → Declared → List ℕ → List HostAnswer → ℕ → Type 0
+IsReportedOrStarves program terms entry input answers most =
+    IsSome (plain_run program [] terms entry input answers most) ⊎ Starves program [] terms entry input answers most
+
+-- no turn of a metered run is ill-formed, nor any step of a plain run, but for an answer that the host doesn't give: of files that `check` accepts, and of those that are accepted
+-- where they are judged with the library whose host answers
 pub record RunsStand : Type 0 where
   pub metered : (files : List File) (classes : List ClassFile) (program : Program) → IsAccepted files classes → IsProgramIn deterministic_library classes program
       → (entry : Declared) (input : List ℕ) (most : Thresholds) (n : ℕ) → IsEntry program entry → RunStands program (metered_run program entry input most n)
   pub plain : (files : List File) (classes : List ClassFile) (program : Program) → IsAccepted files classes → IsProgramIn raw_library classes program
       → (terms : Terms) (entry : Declared) (input : List ℕ) (answers : List HostAnswer) (most : ℕ) → IsEntry program entry
-      → IsSome (plain_run program [] terms entry input answers most) ⊎ Starves program [] terms entry input answers most
+      → IsReportedOrStarves program terms entry input answers most
+  pub raw : (files : List File) (classes : List ClassFile) (program : Program) → IsAcceptedBy raw_library files classes → IsProgramIn raw_library classes program
+      → (terms : Terms) (entry : Declared) (input : List ℕ) (answers : List HostAnswer) (most : ℕ) → IsEntry program entry
+      → IsReportedOrStarves program terms entry input answers most
+  -- the entry of a class of which nothing is violated that is judged of its run is one
+  pub judged : (files : List File) (class : Name) (classes : List ClassFile) (program : Program) → AreGoodFiles files classes → AreRawViolations files class []
+      → IsProgramIn raw_library classes program → (terms : Terms) (input : List ℕ) (answers : List HostAnswer) (most : ℕ)
+      → IsReportedOrStarves program terms (entry_of class) input answers most
+
+-- class files ask the host nothing: a program of them asks it what the library asks, and of the libraries only the one whose host answers asks anything
+pub record OthersAskNothing : Type 0 where
+  pub any : (library : Library) (classes : List ClassFile) (program : Program) → AsksNothing (library_program library) → IsProgramIn library classes program → AsksNothing program
+  pub deterministic : (classes : List ClassFile) (program : Program) → IsProgramIn deterministic_library classes program → AsksNothing program
+  pub sandbox : (classes : List ClassFile) (program : Program) → IsProgramIn sandbox_library classes program → AsksNothing program
+  pub raw : AsksNothing (library_program raw_library) → ⊥

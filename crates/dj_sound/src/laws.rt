@@ -1,4 +1,4 @@
-ghost use Rattle.dj_sound.specs.Laws.{HaveClassFiles, NamesRise, MembersDiffer, HaveEnds, HaveHierarchy, HaveConstants, HaveCodes, HaveBodies, AcceptedIsSound, AreLoadable, AreRawAccepted, HaveRawClassFiles, RunsStand};
+ghost use Rattle.dj_sound.specs.Laws.{HaveClassFiles, NamesRise, MembersDiffer, HaveEnds, HaveHierarchy, HaveConstants, HaveCodes, HaveBodies, AcceptedIsSound, AreLoadable, AreRawAccepted, HaveRawClassFiles, OthersAskNothing, RunsStand};
 
 /// Files in which no rule is violated are class files.
 pub fn have_class_files()
@@ -70,7 +70,13 @@ pub fn have_raw_class_files()
     ensures { HaveRawClassFiles }
 {}
 
-/// No run of accepted files is ill-formed, but for an answer that the host doesn't give.
+/// A program of class files asks the host what its library asks, and of the libraries only the one whose host answers asks something.
+#[tactic(auto, using(crate::proofs::Asking::others_ask_nothing))]
+pub fn others_ask_nothing()
+    ensures { OthersAskNothing }
+{}
+
+/// No run of files that are accepted with the one library or with the other is ill-formed, but for an answer that the host doesn't give.
 #[tactic(auto, using(crate::proofs::Running::runs_stand))]
 pub fn runs_stand()
     ensures { RunsStand }

@@ -1,16 +1,17 @@
--- What the numbers of an image's classes tell of superclasses.
-use Rattle.std.specs.Prelude.{◌≡◌, ℕ, Some, slice_get}
-use Rattle.dj_names.specs.Types.{Name, class_type}
+-- Which classes of an image have the fields that one of them declares.
+use Rattle.std.specs.Prelude.{ℕ, Bool, false, Option, Some, None}
+use Rattle.dj_names.specs.Types.{Name}
+use Rattle.dj_model.specs.Linking.{most_classes}
+use Rattle.dj_classes.specs.Tables.{name_at}
 use Rattle.dj_types.specs.Typed.{types_of}
-use Rattle.dj_members.specs.Numbering.{IsWhole, TellsHolders, has_of}
+use Rattle.dj_members.specs.Numbering.{has_of}
 use Rattle.dj_image.specs.Imaged.{Imaged, program_of, typed_of}
-use Rattle.dj_image.specs.Numbering.{AreSettled}
 
--- in each image a class or an array has one number, and a superclass without a number is no class of the program
-abbrev pub AreWhole : Type 0
-AreWhole = (imaged : Imaged) → AreSettled (typed_of imaged) → IsWhole (types_of (typed_of imaged)) (program_of imaged)
+-- whether the class of a number, or one of its superclasses, has the name; no array has, and nothing where there is no name
+abbrev pub has_named : Imaged → Option Name → ℕ → Bool
+has_named imaged None class = false
+has_named imaged (Some name) class = has_of (program_of imaged) (types_of (typed_of imaged)) name most_classes class
 
--- which classes of an image have the fields that a class declares is told by the names of those above them
-abbrev pub TellHolders : Type 0
-TellHolders = (imaged : Imaged) → AreSettled (typed_of imaged) → (declaring : ℕ) (name : Name) → slice_get (types_of (typed_of imaged)) declaring ≡ Some (class_type name)
-    → TellsHolders (types_of (typed_of imaged)) (program_of imaged) declaring (has_of (program_of imaged) (types_of (typed_of imaged)) name)
+-- of the numbers of a declaring class and of another one, whether that is the declaring one or has it among its superclasses
+abbrev pub holds : Imaged → ℕ → ℕ → Bool
+holds imaged declaring class = has_named imaged (name_at (program_of imaged) declaring) class

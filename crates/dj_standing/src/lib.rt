@@ -1,6 +1,6 @@
-//! What the numbers of an image's classes tell: which classes have the fields of a declaring class.
+//! Which classes of an image have the fields that one of them declares.
 #![tactic(auto)]
 
-mod laws;
+mod superclasses;
 
-pub use laws::superclasses_tell;
+pub use superclasses::Superclasses;

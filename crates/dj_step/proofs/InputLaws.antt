@@ -122,9 +122,9 @@ holds imaged input limit class count r old mid new typed none long makes fills =
           ∙ ap (λ (t : Ty). record { objects = Array t elements.Byte (map (cast_signed w8) input) ∷ []; used = object_size (input_array input) }) ty;
       limited = ap (λ (h : LimitedHeap). h.limit) now;
       fits = omega (arith, room, used, limited, sizes);
-      known = subst (λ (h : LimitedHeap). All (IsKnown (types_of (typed_of imaged)) (length h.heap.objects)) h.heap.objects) (sym now)
-          (All-push (IsKnown (types_of (typed_of imaged)) 1) [] (Array class elements.Byte (map (cast_signed w8) input)) (All-nil (IsKnown (types_of (typed_of imaged)) 1))
-          (record { class = slice_get_within (types_of (typed_of imaged)) class (base_array bases.Byte) typed; holds = λ none. absurd (false≢true none); there = λ none. absurd (false≢true none) }));
+      known = subst (λ (h : LimitedHeap). All (IsKnown (types_of (typed_of imaged))) h.heap.objects) (sym now)
+          (All-push (IsKnown (types_of (typed_of imaged))) [] (Array class elements.Byte (map (cast_signed w8) input)) (All-nil (IsKnown (types_of (typed_of imaged))))
+          (record { class = slice_get_within (types_of (typed_of imaged)) class (base_array bases.Byte) typed; holds = λ none. absurd (false≢true none) }));
     }
 
 pub refused : (input : List ℕ) (limit count used size : ℕ) (h : LimitedHeap) → h ≡ empty limit → count ≡ length input → Refuses h (array_size elements.Byte count) (errors.Full used size)

@@ -1,13 +1,15 @@
-ghost use Rattle.std.specs.Prelude.{◌≡◌, ◌++◌, ◌≤◌, ◌<◌, length, IfOk, IfErr};
+ghost use Rattle.std.specs.Prelude.{◌≡◌, ◌++◌, ◌≤◌, ◌<◌, false, length, IfOk, IfErr};
 ghost use Rattle.std.specs.Option.{option_map};
 ghost use Rattle.dj_model.specs.Sound.{IsSound};
-ghost use Rattle.dj_model.specs.Standing.{IsEntry};
+ghost use Rattle.dj_model.specs.Standing.{AsksNothing, IsEntry};
 ghost use Rattle.dj_calls.specs.Counting.{AreLow};
 ghost use Rattle.dj_host.specs.Hosted.{given_since};
 ghost use Rattle.dj_types.specs.Members.{all_methods};
 ghost use Rattle.dj_image.specs.Imaged.{program_of};
 ghost use Rattle.dj_activations.specs.Activations.{declared_at};
-ghost use Rattle.dj_step.specs.Machines.{Begins, EndsAtStart, Steps, start_outcome, step_answer};
+ghost use Rattle.dj_turning.specs.Memory.{NeedsNoMemory};
+ghost use Rattle.dj_step.specs.declared.answers.StepAnswer.TheVariants as steps;
+ghost use Rattle.dj_step.specs.Machines.{Begins, EndsAtStart, Steps, is_over, start_outcome, step_answer, terms_of};
 ghost use Rattle.dj_step.specs.Running.{HoldsEntry, HoldsInput};
 
 use crate::answers::{StartError, StepAnswer};
@@ -21,7 +23,7 @@ use dj_initialising::Prepared;
 use dj_names::{Costs, Outcome, Thresholds};
 use dj_settling::Settled;
 use dj_stack::Frames;
-use dj_turning::{Run, Tables, turn};
+use dj_turning::{Begun, Run, Tables, begin_turn, end_turn};
 use std::alloc::Global;
 use std::marker::Model;
 
@@ -86,10 +88,12 @@ impl<'a> Machine<'a> {
     }
 
     /// The next step. A run that has ended stays as it is, and so does one for which there was no memory.
-    #[tactic(auto, using(crate::proofs::StepLaws::stays_failed, crate::proofs::StepLaws::stays_ended, crate::proofs::StepLaws::gave_nothing))]
+    #[tactic(auto, using(crate::proofs::StepLaws::stays_failed, crate::proofs::StepLaws::stays_ended, crate::proofs::StepLaws::gave_nothing, crate::proofs::StepLaws::over_not, crate::proofs::StepLaws::went_apart, crate::proofs::StepLaws::ended_apart))]
     pub fn step<H: Host>(&mut self, alloc: Global, host: &mut H) -> StepAnswer
         ensures steps { Steps self.old self.new (given_since (H.given host.old) (H.given host.new)) result }
         ensures gave { H.given host.new ≡ H.given host.old ++ given_since (H.given host.old) (H.given host.new) }
+        ensures quiet { AsksNothing (program_of self.old.image) → H.given host.new ≡ H.given host.old }
+        ensures frugal { is_over self.old ≡ false → NeedsNoMemory (program_of self.old.image) self.old.image.prefix (terms_of self.old) self.old.state → result ≡ steps.Memory → ⊥ }
     {
         if self.failed {
             return StepAnswer::Memory;
@@ -97,7 +101,12 @@ impl<'a> Machine<'a> {
         if self.outcome.is_some() {
             return StepAnswer::Ended;
         }
-        let Ok(settled) = turn(alloc, self.image, &self.tables, &mut self.run, host) else {
+        let begun = begin_turn(self.image, &mut self.run);
+        if let Begun::Went = begun {
+            return StepAnswer::Went;
+        }
+        let Ok(settled) = end_turn(alloc, self.image, &self.tables, &mut self.run, host, begun)
+        else {
             self.failed = true;
             return StepAnswer::Memory;
         };

@@ -59,7 +59,7 @@ acted_some imaged i before after acts.Stuck a some = as_many before.frames after
 acted_some imaged i before after acts.Call a some = subst (λ (m : Machine). 0 < length m.frames) (sym a.1) some
 
 -- it was done, where a flow is told
-acts_of : (imaged : Imaged) (i : Instruction) (before after : Machine) (acted : Acted) (flow : Flow) → flow_told acted ≡ Some flow → IsActed imaged i before after acted → Acts imaged i before after acted
+pub acts_of : (imaged : Imaged) (i : Instruction) (before after : Machine) (acted : Acted) (flow : Flow) → flow_told acted ≡ Some flow → IsActed imaged i before after acted → Acts imaged i before after acted
 acts_of imaged i before after (acts.Goes way) flow e a = a
 acts_of imaged i before after (acts.Catch exception) flow e a = a
 acts_of imaged i before after acts.Link flow e a = a

@@ -20,6 +20,7 @@ use Rattle.dj_model.specs.Members.{kinds_of}
 use Rattle.dj_model.specs.NativeKinds.{native_signature}
 use Rattle.dj_model.specs.Shape.{is_static_mode}
 use Rattle.dj_model.specs.Sound.{IsSound, IsSoundBody}
+use Rattle.dj_model.specs.Standing.{AsksNothing}
 use Rattle.dj_model.proofs.SoundFrames.{method_is}
 use Rattle.dj_model.specs.Linking.{declared_of}
 use Rattle.dj_model.specs.State.{Terms, State, Frame, Flow, Raise, Goes, Call, End, Part, Effect, goes}
@@ -49,7 +50,7 @@ use Rattle.dj_settling.specs.Told.{told_of}
 use Rattle.dj_settling.specs.Settling.{IsStop, Settles, raising, settled_told}
 use Rattle.dj_turning.specs.Running.{Running, account_of, state_of, terms_of}
 use Rattle.dj_turning.specs.Doing.{IsStill, TurnsBy, doing}
-use Rattle.dj_turning.specs.Natives.{AreGiven, CallsNative}
+use Rattle.dj_turning.specs.Natives.{AreGiven, CallsNative, IsQuiet}
 use Rattle.dj_turning.specs.Calling.{IsInvoked}
 
 -- ---- what is left of the frames stands
@@ -205,6 +206,12 @@ module _ (imaged : Imaged) (called : Mode) (m : Member) where
 
     pub native_before : (old new : List StackFrame) (id : NativeId) (count : ℕ) → IsInvoked imaged old called m (run new) (invoked.Native id count) → run new ≡ run old
     native_before old new id count is = ap run is.invokes.frames
+
+    -- it is one of the program's
+    pub native_quiet : (old new : List StackFrame) (id : NativeId) (count : ℕ) → AsksNothing P → IsInvoked imaged old called m (run new) (invoked.Native id count) → IsQuiet id
+    native_quiet old new id count quiet is =
+        let there = method_is P (declared_of is.invokes.found) is.invokes.found.method is.invokes.its in
+        quiet there.class is.invokes.found.method id there.class_in there.method_in is.invokes.body
 
 -- ---- the arguments of a native method are of the kinds that it takes
 

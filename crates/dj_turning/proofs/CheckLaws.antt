@@ -4,7 +4,6 @@ use Rattle.std.specs.Prelude.{slice_get}
 use Rattle.std.specs.Option.{option_map}
 use Rattle.std.proofs.lemmas.Grind.{reverse_onto}
 use Rattle.std.proofs.lemmas.Option.{same_Some}
-use Rattle.dj_names.specs.declared.run.Value.{Value}
 use Rattle.dj_names.specs.declared.descriptor.Ty.{Ty}
 use Rattle.dj_names.specs.Heaps.{Object, Instance, Array, Text}
 use Rattle.dj_model.specs.Program.{Program, Code, code_of}
@@ -24,7 +23,6 @@ use Rattle.dj_image.specs.Imaged.{Imaged, program_of, typed_of}
 use Rattle.dj_activations.specs.Activations.{AreActivations, IsActivation, declared_at}
 use Rattle.dj_activations.specs.Told.{IsCodeOf}
 use Rattle.dj_activations.proofs.Standing.{code_of_activation, method_within}
-use Rattle.dj_unwinding.specs.Returns.{HasRoomBelow}
 use Rattle.dj_unwinding.proofs.Tops.{on_top}
 use Rattle.dj_settling.specs.Settling.{IsThrown}
 
@@ -41,20 +39,6 @@ instance_thrown imaged h r known e = by (object_in h r) refl e where
   by (Some (Text class units)) is e = absurd cc
 
 -- ---- frames by their numbers
-
-in_front : (xs ys : List StackFrame) (n : ℕ) (x : StackFrame) → slice_get xs n ≡ Some x → slice_get (xs ++ ys) n ≡ Some x
-in_front [] ys n x e = absurd cc
-in_front (y ∷ xs) ys zero x e = e
-in_front (y ∷ xs) ys (suc n) x e = in_front xs ys n x e
-
-at_second : (f g : StackFrame) (below : List StackFrame) (n : ℕ) → n ≡ length below → frame_at (f ∷ (g ∷ below)) n ≡ Some g
-at_second f g below n e =
-    ap (λ (frames : List StackFrame). slice_get frames n) (reverse_onto (g ∷ below) f []) ∙ in_front (reverse (g ∷ below)) (f ∷ []) n g (on_top g below n e)
-
-pub second_there : (frames : List StackFrame) (n : ℕ) → n + 2 ≡ length frames → IsSome (frame_at frames n)
-second_there [] n e = absurd (omega (arith, e))
-second_there (f ∷ []) n e = absurd (omega (arith, e))
-second_there (f ∷ (g ∷ below)) n e = subst IsSome (sym (at_second f g below n (omega (arith, e)))) refl
 
 last_or_front : (xs : List StackFrame) (g : StackFrame) (n : ℕ) (f : StackFrame) → slice_get (xs ++ g ∷ []) n ≡ Some f → (slice_get xs n ≡ Some f) ⊎ (g ≡ f)
 last_or_front [] g zero f e = inr (same_Some g f e)
@@ -99,7 +83,7 @@ roomy imaged formed frames n method count code stand m c is less frame at =
     let room = act.room in
     omega (arith, less, count_is, most, room)
 
--- ---- the top frame, and the one below it
+-- ---- the top frame
 
 abbrev pub IsRoomy : List StackFrame → ℕ → Type 0
 IsRoomy frames n = (frame : StackFrame) → frame_at frames n ≡ Some frame → length frame.operands < frame.room
@@ -107,19 +91,3 @@ IsRoomy frames n = (frame : StackFrame) → frame_at frames n ≡ Some frame →
 pub top_roomy : (frames : List StackFrame) (n : ℕ) → n + 1 ≡ length frames → IsRoomy frames n → length (top_operands frames) < top_room frames
 top_roomy [] n e roomy = absurd (omega (arith, e))
 top_roomy (f ∷ below) n e roomy = roomy f (on_top f below n (omega (arith, e)))
-
-pub nothing_below : (program : Program) (frames : List StackFrame) → HasRoomBelow program frames None
-nothing_below program [] = tt
-nothing_below program (f ∷ []) = tt
-nothing_below program (f ∷ (caller ∷ below)) = λ e. tt
-
-pub last_below : (program : Program) (frames : List StackFrame) (value : Option Value) → length frames < 2 → HasRoomBelow program frames value
-last_below program [] value few = tt
-last_below program (f ∷ []) value few = tt
-last_below program (f ∷ (caller ∷ below)) value few = absurd (omega (arith, few))
-
-pub roomy_below : (program : Program) (frames : List StackFrame) (value : Option Value) (n : ℕ) → n + 2 ≡ length frames → IsRoomy frames n → HasRoomBelow program frames value
-roomy_below program [] value n e roomy = tt
-roomy_below program (f ∷ []) value n e roomy = tt
-roomy_below program (f ∷ (caller ∷ below)) None n e roomy = λ plain. tt
-roomy_below program (f ∷ (caller ∷ below)) (Some v) n e roomy = λ plain. roomy caller (at_second f caller below n (omega (arith, e)))

@@ -12,7 +12,7 @@ use Rattle.dj_names.specs.declared.native.NativeId.{NativeId}
 use Rattle.dj_names.specs.declared.native.NativeId.TheVariants as natives
 use Rattle.dj_names.specs.Heaps.{Object, Instance, Array, Text}
 use Rattle.dj_edge.specs.declared.host.HostAnswer.{HostAnswer}
-use Rattle.dj_model.specs.Natives.{asks, reference}
+use Rattle.dj_model.specs.Natives.{Question, asks, reference}
 use Rattle.dj_model.specs.State.{Flow}
 use Rattle.dj_heap.specs.Heaps.{LimitedHeap, object_in}
 use Rattle.dj_heap.specs.Calls.{made_as}
@@ -21,10 +21,10 @@ use Rattle.dj_calls.specs.declared.answer.NativeAnswer.{NativeAnswer}
 use Rattle.dj_calls.specs.Counting.{Counter}
 use Rattle.dj_calls.specs.Calls.{Calls, Does, flow_told}
 use Rattle.dj_calls.specs.Known.{IsFitting, IsOfChars}
-use Rattle.dj_host.specs.Hosted.{CallsHost, Takes, given_since, is_hosted, with_answers}
+use Rattle.dj_host.specs.Hosted.{AreOfKind, CallsHost, Takes, given_since, is_hosted, with_answers}
 use Rattle.dj_types.specs.Typed.{types_of}
 use Rattle.dj_image.specs.Imaged.{Imaged, program_of, typed_of}
-use Rattle.dj_turning.specs.Natives.{AnswersNative}
+use Rattle.dj_turning.specs.Natives.{AnswersNative, IsQuiet}
 
 -- ---- arguments
 
@@ -104,3 +104,13 @@ none_given answers = ap (drop (length answers)) (sym (append-nil answers)) ∙ d
 
 pub still_given : (answers : List HostAnswer) → answers ≡ answers ++ given_since answers answers
 still_given answers = sym (append-nil answers) ∙ ap (λ (l : List HostAnswer). answers ++ l) (sym (none_given answers))
+
+-- a method that asks nothing is given nothing
+none_of_kind : (question : Option Question) (given : List HostAnswer) → question ≡ None → AreOfKind question given → given ≡ []
+none_of_kind question [] none kind = refl
+none_of_kind question (first ∷ more) none kind = absurd (subst (λ (q : Option Question). AreOfKind q (first ∷ more)) none kind)
+
+pub quietly_asked : (imaged : Imaged) (old new : LimitedHeap) (before after : List HostAnswer) (id : NativeId) (args : List Value) (result : NativeAnswer)
+    → CallsHost (program_of imaged) imaged.prefix (types_of (typed_of imaged)) old new before after id args result → IsQuiet id → after ≡ before
+quietly_asked imaged old new before after id args result calls quiet =
+    calls.given ∙ (ap (λ (l : List HostAnswer). before ++ l) (none_of_kind (asks id args) (given_since before after) (quiet args) calls.kind) ∙ append-nil before)

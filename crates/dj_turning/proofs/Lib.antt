@@ -1,6 +1,9 @@
 pub mod Tops
+pub mod SoundNext
+pub mod SoundFlows
 pub mod CheckLaws
 pub mod UsedLaws
+pub mod GivenOperands
 pub mod Stops
 pub mod Alike
 pub mod ActedLaws
@@ -11,5 +14,11 @@ pub mod Called
 pub mod Prepared
 pub mod Turned
 pub mod TableLaws
+pub mod ShortTables
 pub mod Performed
+pub mod UnnamedLaws
+pub mod SoundActed
+pub mod SoundPrepared
+pub mod SoundRuns
+pub mod BegunLaws
 mod TurningFacts

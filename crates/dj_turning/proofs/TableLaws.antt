@@ -18,13 +18,15 @@ use Rattle.dj_invoking.specs.Natives.{AreNatives}
 use Rattle.dj_invoking.proofs.NativeFacts.{class_told}
 use Rattle.dj_settling.specs.Settling.{HasOwn}
 use Rattle.dj_turning.specs.Running.{IsKept, Kept}
+use Rattle.dj_turning.specs.Short.{AreBounded}
 
-pub kept : (imaged : Imaged) (k : Kept) → IsSound (program_of imaged) imaged.prefix → IsNumbered imaged → HasOwn imaged → ArePlaces (program_of imaged) k.places → AreInitialisers imaged k.initialisers
+pub kept : (imaged : Imaged) (k : Kept) → IsSound (program_of imaged) imaged.prefix → IsNumbered imaged → HasOwn imaged → AreBounded imaged → ArePlaces (program_of imaged) k.places → AreInitialisers imaged k.initialisers
     → AreNatives imaged k.natives → slice_get (types_of (typed_of imaged)) k.throwable ≡ Some (class_type (throwable_name imaged.prefix)) → IsKept imaged k
-kept imaged k sound numbered own places initialisers natives throwable = record {
+kept imaged k sound numbered own bounded places initialisers natives throwable = record {
   sound = sound;
   own = own;
   texts = texts_of_numbered imaged numbered;
+  bounded = bounded;
   places = places;
   initialisers = initialisers;
   natives = natives;

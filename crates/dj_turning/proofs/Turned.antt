@@ -13,6 +13,7 @@ use Rattle.dj_model.specs.Program.{Program}
 use Rattle.dj_model.specs.State.{Terms, State, Frame, Part, Effect}
 use Rattle.dj_model.specs.Initialisation.{Initialised}
 use Rattle.dj_model.specs.Step.{Answer, Went, Ended, IllFormed, act, done, part_of, settled, step, step_of}
+use Rattle.dj_model.specs.Sound.{IsSound}
 use Rattle.dj_model.specs.Standing.{AreStanding, AnswerStands, IsStarvedAt, IsUnanswered}
 use Rattle.dj_model.specs.Laws.{AnswerGrows}
 use Rattle.dj_model.proofs.SoundRuns.{step_stands}
@@ -35,7 +36,7 @@ unanswered : (program : Program) (prefix : Prefix) (terms : Terms) (p : Part) (i
 unanswered program prefix terms p id args question [] none = refl
 unanswered program prefix terms p id args question (first ∷ rest) none = ap (λ (o : Option ℤ). with_answer program prefix terms (record p { answers = rest }) id args o) none
 
-starves : (program : Program) (prefix : Prefix) (terms : Terms) (p : Part) (id : NativeId) (args : List Value) (question : Question) → asks id args ≡ Some question → IsUnanswered question p.answers
+pub starves : (program : Program) (prefix : Prefix) (terms : Terms) (p : Part) (id : NativeId) (args : List Value) (question : Question) → asks id args ≡ Some question → IsUnanswered question p.answers
     → native program prefix terms p id args ≡ None
 unfolding native
 starves program prefix terms p id args question asked none =
@@ -55,12 +56,12 @@ starved_step program prefix terms s at =
 
 -- ---- a run that goes on
 
-on_went : (a : Answer) (s : State) → told_of a ≡ On s → a ≡ Went s
+pub on_went : (a : Answer) (s : State) → told_of a ≡ On s → a ≡ Went s
 on_went (Went t) s e = let same : t ≡ s = cc in ap Went same
 on_went (Ended outcome t) s e = absurd cc
 on_went IllFormed s e = absurd cc
 
-module _ (imaged : Imaged) (kept : Kept) (old new : Running) (gave : List HostAnswer) (is : IsKept imaged kept) (running : IsRunning imaged old)
+module _ (imaged : Imaged) (old new : Running) (gave : List HostAnswer) (sound : IsSound (program_of imaged) imaged.prefix) (running : IsRunning imaged old)
     (turns : TurnsBy imaged (stepping imaged) old new gave settles.Went) where
   abbrev P : Program
   P = program_of imaged
@@ -72,7 +73,7 @@ module _ (imaged : Imaged) (kept : Kept) (old new : Running) (gave : List HostAn
   went = on_went (step P imaged.prefix (terms_of old) s) (state_of imaged [] new) (turns.tells [])
 
   standing : AreStanding P (frames_seen P new.parts.frames)
-  standing = elim (step_stands P imaged.prefix is.sound (terms_of old) s running.standing) [
+  standing = elim (step_stands P imaged.prefix sound (terms_of old) s running.standing) [
     | inl stands ↦ subst (AnswerStands P) went stands
     | inr starved ↦ absurd (let ill : IllFormed ≡ Went (state_of imaged [] new) = sym (starved_step P imaged.prefix (terms_of old) s starved) ∙ went in cc)
   ]
@@ -95,16 +96,16 @@ module _ (imaged : Imaged) (kept : Kept) (old new : Running) (gave : List HostAn
     counts = turns.still.counts;
   }
 
-turned_one : (imaged : Imaged) (kept : Kept) (old new : Running) (gave : List HostAnswer) (settled : Settled) → IsKept imaged kept → IsRunning imaged old
+pub turned_so : (imaged : Imaged) (old new : Running) (gave : List HostAnswer) (settled : Settled) → IsSound (program_of imaged) imaged.prefix → IsRunning imaged old
     → TurnsBy imaged (stepping imaged) old new gave settled → Turns imaged old new gave settled
-turned_one imaged kept old new gave settled is running turns = record {
+turned_so imaged old new gave settled sound running turns = record {
   tells = turns.tells;
   limit = turns.limit;
   counting = turns.counting;
-  running = λ e. goes_on imaged kept old new gave is running (subst (TurnsBy imaged (stepping imaged) old new gave) e turns);
+  running = λ e. goes_on imaged old new gave sound running (subst (TurnsBy imaged (stepping imaged) old new gave) e turns);
 }
 
 pub turned : (imaged : Imaged) (kept : Kept) (old new : Running) (gave : List HostAnswer) (result : Result Settled NoMemory) → IsKept imaged kept → IsRunning imaged old
     → IfOk result (TurnsBy imaged (stepping imaged) old new gave) → IfOk result (Turns imaged old new gave)
 turned imaged kept old new gave (Err e) is running turns = tt
-turned imaged kept old new gave (Ok settled) is running turns = turned_one imaged kept old new gave settled is running turns
+turned imaged kept old new gave (Ok settled) is running turns = turned_so imaged old new gave settled is.sound running turns

@@ -1,10 +1,13 @@
 -- What the parts of a step tell, by plain values.
 use Rattle.std.proofs.Common.{◌≡◌, ℕ, [], ◌∷◌, Option, Some, None, refl, arith}
+use Rattle.dj_names.specs.declared.native.NativeId.TheVariants as natives
 use Rattle.dj_names.specs.declared.run.Charge.{Charge}
+use Rattle.dj_names.specs.declared.run.Value.TheVariants as values
 use Rattle.dj_model.specs.Instructions.{Nop}
 use Rattle.dj_model.specs.State.{Terms, Uncounted, State}
 use Rattle.dj_model.specs.Charging.{new_account}
 use Rattle.dj_model.specs.Effects.{used_class}
+use Rattle.dj_model.specs.Natives.{Nanos, Word}
 use Rattle.dj_model.specs.Step.{IllFormed}
 use Rattle.dj_model.specs.Runs.{empty_heap}
 use Rattle.dj_heap.specs.Heaps.{LimitedHeap}
@@ -14,6 +17,7 @@ use Rattle.dj_acting.specs.declared.acted.Acted.TheVariants as acts
 use Rattle.dj_settling.specs.declared.settled.Settled.TheVariants as settles
 use Rattle.dj_turning.specs.Running.{Counts}
 use Rattle.dj_turning.specs.Doing.{ActedSettles, IsTop, IsUsed, doing_next}
+use Rattle.dj_turning.specs.Natives.{IsQuiet}
 
 abbrev image : Imaged
 image = record { sources = []; prefix = []; arrays = []; texts = [] }
@@ -56,3 +60,13 @@ not_stuck exceeded heap told = told
 
 no_call : (exceeded : Option Charge) (heap : LimitedHeap) → ActedSettles image exceeded acts.Call heap heap [] [] settles.Went → ⊥
 no_call exceeded heap told = told
+
+-- a hash by an object's number asks nothing; a clock asks, and so does a hash by a word, though not of null
+hash_quiet : IsQuiet natives.ObjectHashCode
+hash_quiet args = refl
+
+clock_asks : IsQuiet natives.NanoTime → ⊥
+clock_asks quiet = let none : Some Nanos ≡ None = quiet [] in absurd cc
+
+identity_asks : IsQuiet natives.HostIdentityHashCode → ⊥
+identity_asks quiet = let none : Some Word ≡ None = quiet (values.Ref 1 ∷ []) in absurd cc

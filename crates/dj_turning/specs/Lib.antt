@@ -1,6 +1,10 @@
-pub mod Running
-pub mod Turning
-pub mod Doing
-pub mod Uses
-pub mod Natives
+pub mod Begun
 pub mod Calling
+pub mod Doing
+pub mod Frugal
+pub mod Memory
+pub mod Natives
+pub mod Running
+pub mod Short
+pub mod Turning
+pub mod Uses

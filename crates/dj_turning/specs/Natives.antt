@@ -11,6 +11,7 @@ use Rattle.dj_model.specs.Instructions.{Instruction}
 use Rattle.dj_model.specs.Program.{Program}
 use Rattle.dj_model.specs.State.{Terms, Part, Flow}
 use Rattle.dj_model.specs.Effects.{effect}
+use Rattle.dj_model.specs.Natives.{asks}
 use Rattle.dj_model.specs.Performing.{native}
 use Rattle.dj_model.specs.NativeKinds.{native_signature}
 use Rattle.dj_heap.specs.Heaps.{LimitedHeap}
@@ -43,6 +44,10 @@ CallsNative imaged i frames heap id count = (terms : Terms) (p : Part) → p.ope
     ≡ native (program_of imaged) imaged.prefix terms (record p { operands = drop count (top_operands frames) }) id (arguments_in frames count)
 
 -- ---- answers
+
+-- the method asks the host nothing, whatever its arguments are
+abbrev pub IsQuiet : NativeId → Type 0
+IsQuiet id = (args : List Value) → asks id args ≡ None
 
 -- the model's native method has this effect, where these answers of the host stand before the rest
 abbrev pub Answers : Program → Prefix → List Ty → LimitedHeap → LimitedHeap → Option Counter → Option Counter → List HostAnswer → NativeId → List Value → NativeAnswer → Type 0

@@ -22,6 +22,7 @@ use Rattle.dj_initialising.specs.Store.{AreTexts, IsStore}
 use Rattle.dj_initialising.specs.Preparing.{Parts, with_parts}
 use Rattle.dj_invoking.specs.Natives.{AreNatives}
 use Rattle.dj_settling.specs.Settling.{HasOwn, IsStop}
+use Rattle.dj_turning.specs.Short.{AreBounded}
 
 -- ---- what is made once of an image
 
@@ -39,6 +40,7 @@ pub record IsKept (imaged : Imaged) (kept : Kept) : Type 0 where
   pub sound : IsSound (program_of imaged) imaged.prefix
   pub own : HasOwn imaged
   pub texts : AreTexts imaged
+  pub bounded : AreBounded imaged
   pub places : ArePlaces (program_of imaged) kept.places
   pub initialisers : AreInitialisers imaged kept.initialisers
   pub natives : AreNatives imaged kept.natives

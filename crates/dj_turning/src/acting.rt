@@ -1,4 +1,4 @@
-ghost use Rattle.std.specs.Prelude.{◌≡◌, ◌<◌, [], Some, true, length, IfOk};
+ghost use Rattle.std.specs.Prelude.{◌≡◌, ◌<◌, [], Some, length, IfErr, IfOk};
 ghost use Rattle.dj_model.specs.Instructions.{Instruction};
 ghost use Rattle.dj_model.specs.Sound.{IsSound};
 ghost use Rattle.dj_calls.specs.Known.{AreKnown};
@@ -7,16 +7,16 @@ ghost use Rattle.dj_image.specs.Imaged.{program_of, typed_of};
 ghost use Rattle.dj_activations.specs.Activations.{AreActivations};
 ghost use Rattle.dj_activations.specs.Instructions.{instruction_of_number};
 ghost use Rattle.dj_acting.specs.declared.acted.Acted.TheVariants as acts;
-ghost use Rattle.dj_settling.specs.Settling.{HasOwn, HasRoomFor};
-ghost use Rattle.dj_turning.specs.Running.{IsKept};
-ghost use Rattle.dj_turning.specs.Doing.{ActedSettles, IsStill, IsTop, TurnsBy, doing};
+ghost use Rattle.dj_settling.specs.Frugal.{IsFrugalThrow};
+ghost use Rattle.dj_settling.specs.Settling.{HasOwn, IsThrown};
+ghost use Rattle.dj_turning.specs.Frugal.{IsFrugalActed, IsFrugalRun, IsReadyFor};
+ghost use Rattle.dj_turning.specs.Running.{IsKept, IsRunning};
+ghost use Rattle.dj_turning.specs.Doing.{ActedSettles, IsTop, TurnsBy, doing};
 
-use crate::checks::{has_room_below, is_thrown};
 use crate::counting::exceeded;
 use crate::run::Run;
 use crate::tables::Tables;
 use dj_acting::{Acted, act};
-use dj_effects::Way;
 use dj_heap::Heap;
 use dj_image::{Image, MethodId};
 use dj_names::{Charge, NoMemory, Outcome};
@@ -35,9 +35,10 @@ pub(crate) fn act_next(
     number: u32,
 ) -> Result<Settled, NoMemory>
     requires kept { IsKept image.now tables.now }
-    requires still { IsStill image.now run.old }
+    requires running { IsRunning image.now run.old }
     requires top { IsTop image.now run.old.parts.frames method.number number }
-    ensures { (i : Instruction) → instruction_of_number image.now method.number number ≡ Some i → IfOk result (TurnsBy image.now (doing image.now i) run.old run.new []) }
+    ensures turns { (i : Instruction) → instruction_of_number image.now method.number number ≡ Some i → IfOk result (TurnsBy image.now (doing image.now i) run.old run.new []) }
+    ensures frugal { IsFrugalRun image.now run.old → IfErr result (λ _. ⊥) }
 {
     let acted = act(
         image,
@@ -54,9 +55,10 @@ pub(crate) fn act_next(
     settle_acted(alloc, image, &mut run.frames, &mut run.heap, charge, acted)
 }
 
-// What follows an instruction that was done. There is no memory for one that lacks what it takes, and for a call, which isn't done so; no sound
-// program has one here.
-fn settle_acted(
+/// What follows an instruction that was done. There is no memory for one that lacks what it takes, and for a call, which isn't done so; no sound
+/// program has one here.
+#[inline(always)]
+pub(crate) fn settle_acted(
     alloc: Global,
     image: &Image,
     frames: &mut Frames,
@@ -69,10 +71,12 @@ fn settle_acted(
     requires stand { AreActivations image.now frames.old }
     requires some { 0 < length frames.old }
     requires known { AreKnown (types_of (typed_of image.now)) heap.old }
-    ensures { IfOk result (ActedSettles image.now exceeded acted heap.old heap.new frames.old frames.new) }
+    requires ready { IsReadyFor image.now heap.old frames.old acted }
+    ensures settles { IfOk result (ActedSettles image.now exceeded acted heap.old heap.new frames.old frames.new) }
+    ensures frugal { IsFrugalActed image.now heap.old frames.old acted → IfErr result (λ _. ⊥) }
 {
     match acted {
-        Acted::Goes(way) => go_on(alloc, image, frames, heap, exceeded, way),
+        Acted::Goes(way) => go(alloc, image, frames, heap, exceeded, way),
         Acted::Catch(exception) => catch(alloc, image, frames, heap, exceeded, exception),
         Acted::Link => Ok(Settled::Ended(Outcome::Link)),
         Acted::HeapFull { used, size } => Ok(Settled::Ended(Outcome::HeapFull { used, size })),
@@ -81,44 +85,9 @@ fn settle_acted(
     }
 }
 
-// The run goes on so. In a sound program a caller always has room for what is returned to it.
-fn go_on(
-    alloc: Global,
-    image: &Image,
-    frames: &mut Frames,
-    heap: &mut Heap,
-    exceeded: Option<Charge>,
-    way: Way,
-) -> Result<Settled, NoMemory>
-    requires sound { IsSound (program_of image.now) image.now.prefix }
-    requires own { HasOwn image.now }
-    requires stand { AreActivations image.now frames.old }
-    requires some { 0 < length frames.old }
-    requires known { AreKnown (types_of (typed_of image.now)) heap.old }
-    ensures { IfOk result (ActedSettles image.now exceeded (acts.Goes way) heap.old heap.new frames.old frames.new) }
-{
-    if !has_room_for(image, frames, way) {
-        return Err(NoMemory::Memory);
-    }
-    go(alloc, image, frames, heap, exceeded, way)
-}
-
-// Whether the caller has room for what is returned to it.
-fn has_room_for(image: &Image, frames: &Frames, way: Way) -> bool
-    requires sound { IsSound (program_of image.now) image.now.prefix }
-    requires stand { AreActivations image.now frames.now }
-    ensures { result ≡ true → HasRoomFor (program_of image.now) frames.now way }
-{
-    match way {
-        Way::Back(value) => has_room_below(image, frames, value),
-        Way::Next => true,
-        Way::To(_) => true,
-        Way::Raise(_) => true,
-    }
-}
-
-// The object is thrown. In a sound program it is always one that may be.
+// The object is thrown.
 #[tactic(auto, using(dj_settling::proofs::WayLaws::as_caught))]
+#[inline(never)]
 fn catch(
     alloc: Global,
     image: &Image,
@@ -131,10 +100,9 @@ fn catch(
     requires stand { AreActivations image.now frames.old }
     requires some { 0 < length frames.old }
     requires known { AreKnown (types_of (typed_of image.now)) heap.old }
-    ensures { IfOk result (ActedSettles image.now exceeded (acts.Catch exception) heap.old heap.new frames.old frames.new) }
+    requires thrown { IsThrown image.now heap.old exception }
+    ensures settles { IfOk result (ActedSettles image.now exceeded (acts.Catch exception) heap.old heap.new frames.old frames.new) }
+    ensures frugal { IsFrugalThrow image.now heap.old frames.old exception → IfErr result (λ _. ⊥) }
 {
-    if !is_thrown(image, heap, exception) {
-        return Err(NoMemory::Memory);
-    }
     throw(alloc, image, frames, heap, exceeded, exception)
 }

@@ -6,6 +6,7 @@ ghost use Rattle.dj_model.specs.Instructions.{Invoke};
 ghost use Rattle.dj_model.specs.Linking.{FoundMethod, resolve_method};
 ghost use Rattle.dj_model.specs.Members.{kinds_of};
 ghost use Rattle.dj_model.specs.Sound.{IsSound};
+ghost use Rattle.dj_model.specs.Standing.{AsksNothing};
 ghost use Rattle.dj_stack.specs.Frames.{StackFrame, top_method};
 ghost use Rattle.dj_host.specs.Hosted.{given_since};
 ghost use Rattle.dj_linking.specs.Linked.{class_name};
@@ -55,6 +56,7 @@ pub(crate) fn call<H: Host>(
         → kinds_of (parameters_of m.desc) ≡ Some site.entry.kinds.now
         → IfOk result (TurnsBy image.now (doing image.now (Invoke called m)) run.old run.new (given_since (H.given host.old) (H.given host.new))) }
     ensures gave { H.given host.new ≡ H.given host.old ++ given_since (H.given host.old) (H.given host.new) }
+    ensures quiet { AsksNothing (program_of image.now) → H.given host.new ≡ H.given host.old }
 {
     let invoked = invoke(
         image,
@@ -87,6 +89,7 @@ fn settle_call<H: Host>(
     ensures turns { (old : List StackFrame) (called : model.Mode) (m : Member) → IsInvoked image.now old called m run.old invoked
         → IfOk result (TurnsBy image.now (doing image.now (Invoke called m)) (before run.old old) run.new (given_since (H.given host.old) (H.given host.new))) }
     ensures gave { H.given host.new ≡ H.given host.old ++ given_since (H.given host.old) (H.given host.new) }
+    ensures quiet { AsksNothing (program_of image.now) → H.given host.new ≡ H.given host.old }
 {
     match invoked {
         Invoked::Entered => Ok(Settled::Went),

@@ -5,13 +5,11 @@ ghost use Rattle.dj_calls.specs.Known.{AreKnown};
 ghost use Rattle.dj_types.specs.Typed.{types_of};
 ghost use Rattle.dj_image.specs.Imaged.{program_of, typed_of};
 ghost use Rattle.dj_activations.specs.Activations.{AreActivations};
-ghost use Rattle.dj_unwinding.specs.Returns.{HasRoomBelow};
 ghost use Rattle.dj_settling.specs.Settling.{IsThrown};
 
 use dj_activations::code_of;
 use dj_heap::{Heap, Made};
 use dj_image::{Image, MethodId};
-use dj_names::Value;
 use dj_stack::Frames;
 
 /// Whether it is an object that may be thrown: an instance of a class.
@@ -39,23 +37,6 @@ pub(crate) fn has_room(image: &Image, frames: &Frames) -> bool
     ensures { result ≡ true → length (top_operands frames.now) < top_room frames.now }
 {
     is_roomy(image, frames, frames.depth() - 1)
-}
-
-/// Whether the frame below the top one, where there is one, has room for what is returned to it.
-#[tactic(auto, using(crate::proofs::CheckLaws::second_there, crate::proofs::CheckLaws::nothing_below, crate::proofs::CheckLaws::last_below, crate::proofs::CheckLaws::roomy_below))]
-pub(crate) fn has_room_below(image: &Image, frames: &Frames, value: Option<Value>) -> bool
-    requires formed { IsProgram (program_of image.now) }
-    requires stand { AreActivations image.now frames.now }
-    ensures { result ≡ true → HasRoomBelow (program_of image.now) frames.now value }
-{
-    if value.is_none() {
-        return true;
-    }
-    let depth = frames.depth();
-    if depth < 2 {
-        return true;
-    }
-    is_roomy(image, frames, depth - 2)
 }
 
 // Whether the frame of a number has room for one more operand.

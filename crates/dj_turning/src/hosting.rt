@@ -7,7 +7,7 @@ ghost use Rattle.dj_calls.specs.Known.{AreArguments, AreKnown, IsFitting, IsOfCh
 ghost use Rattle.dj_host.specs.Hosted.{given_since, is_hosted};
 ghost use Rattle.dj_types.specs.Typed.{types_of};
 ghost use Rattle.dj_image.specs.Imaged.{program_of, typed_of};
-ghost use Rattle.dj_turning.specs.Natives.{AnswersNative};
+ghost use Rattle.dj_turning.specs.Natives.{AnswersNative, IsQuiet};
 
 use dj_calls::{Accounter, NativeAnswer, call_native, reference};
 use dj_edge::Host;
@@ -32,6 +32,7 @@ pub(crate) fn answer_of<H: Host>(
     requires kinds { map value_kind args.now ≡ (native_signature id).parameters }
     ensures answers { IfOk result (AnswersNative image.now heap.old heap.new accounter.old accounter.new (given_since (H.given host.old) (H.given host.new)) id args.now) }
     ensures gave { H.given host.new ≡ H.given host.old ++ given_since (H.given host.old) (H.given host.new) }
+    ensures quiet { IsQuiet id → H.given host.new ≡ H.given host.old }
 {
     if is_hosted(id) {
         ask(alloc, image, heap, accounter, host, id, args)
@@ -55,6 +56,7 @@ fn ask<H: Host>(
     requires hosted { is_hosted id ≡ true }
     ensures answers { IfOk result (AnswersNative image.now heap.old heap.new accounter.now accounter.now (given_since (H.given host.old) (H.given host.new)) id args.now) }
     ensures gave { H.given host.new ≡ H.given host.old ++ given_since (H.given host.old) (H.given host.new) }
+    ensures quiet { IsQuiet id → H.given host.new ≡ H.given host.old }
 {
     match accounter {
         Some(_) => Err(NoMemory::Memory),

@@ -10,10 +10,14 @@ mod hosting;
 mod natives;
 mod preparing;
 mod run;
+mod shortness;
 mod tables;
 mod turning;
+mod unnamed;
 mod uses;
 
+pub use dj_acting::Begun;
 pub use run::Run;
 pub use tables::Tables;
 pub use turning::turn;
+pub use unnamed::{begin_turn, end_turn};

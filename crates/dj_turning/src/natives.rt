@@ -8,7 +8,7 @@ ghost use Rattle.dj_image.specs.Imaged.{program_of, typed_of};
 ghost use Rattle.dj_activations.specs.Activations.{AreActivations};
 ghost use Rattle.dj_settling.specs.Settling.{HasOwn, IsRewritten, IsStop, KeepsStop, StopsBy};
 ghost use Rattle.dj_turning.specs.Doing.{IsStill, TurnsBy, doing};
-ghost use Rattle.dj_turning.specs.Natives.{AreGiven, CallsNative, IsAwaited, NativeSettles};
+ghost use Rattle.dj_turning.specs.Natives.{AreGiven, CallsNative, IsAwaited, IsQuiet, NativeSettles};
 
 use crate::checks::{has_room, is_thrown};
 use crate::counting::exceeded;
@@ -43,6 +43,7 @@ pub(crate) fn call_method<H: Host>(
     ensures turns { (i : Instruction) → CallsNative image.now i run.old.parts.frames run.old.parts.store.heap id count
         → IfOk result (TurnsBy image.now (doing image.now i) run.old run.new (given_since (H.given host.old) (H.given host.new))) }
     ensures gave { H.given host.new ≡ H.given host.old ++ given_since (H.given host.old) (H.given host.new) }
+    ensures quiet { IsQuiet id → H.given host.new ≡ H.given host.old }
 {
     copy_operands(&run.frames, count, &mut run.arguments)?;
     drop_operands(&mut run.frames, count);

@@ -1,6 +1,7 @@
-ghost use Rattle.std.specs.Prelude.{IfOk};
+ghost use Rattle.std.specs.Prelude.{IfErr, IfOk};
 ghost use Rattle.dj_turning.specs.Running.{IsKept, IsRunning};
 ghost use Rattle.dj_turning.specs.Doing.{PreparesNext};
+ghost use Rattle.dj_turning.specs.Frugal.{IsFrugalRun};
 
 use crate::frames::top_of;
 use crate::run::Run;
@@ -21,22 +22,28 @@ pub(crate) fn prepare(
 ) -> Result<Prepared, NoMemory>
     requires kept { IsKept image.now tables.now }
     requires running { IsRunning image.now run.old }
-    ensures { IfOk result (PreparesNext image.now run.old run.new) }
+    ensures prepares { IfOk result (PreparesNext image.now run.old run.new) }
+    ensures frugal { IsFrugalRun image.now run.old → IfErr result (λ _. ⊥) }
 {
     let top = top_of(image, &run.frames);
     match used_class(image, top.method, top.number)? {
-        Some(class) => initialise(
-            alloc,
-            image,
-            &tables.places,
-            &tables.initialisers,
-            &mut run.flags,
-            &mut run.statics,
-            &mut run.literals,
-            &mut run.heap,
-            &mut run.frames,
-            class,
-        ),
+        Some(class) => {
+            if run.flags.has_begun(class) {
+                return Ok(Prepared::Ready);
+            }
+            initialise(
+                alloc,
+                image,
+                &tables.places,
+                &tables.initialisers,
+                &mut run.flags,
+                &mut run.statics,
+                &mut run.literals,
+                &mut run.heap,
+                &mut run.frames,
+                class,
+            )
+        }
         None => Ok(Prepared::Ready),
     }
 }

@@ -8,7 +8,9 @@ ghost use Rattle.dj_image.specs.Imaged.{program_of, typed_of};
 ghost use Rattle.dj_invoking.specs.Natives.{AreNatives};
 ghost use Rattle.dj_settling.specs.Settling.{HasOwn};
 ghost use Rattle.dj_turning.specs.Running.{IsKept};
+ghost use Rattle.dj_turning.specs.Short.{AreBounded};
 
+use crate::shortness::are_bounded;
 use dj_image::{BaseNames, Image};
 use dj_initialising::{Initialisers, StaticPlaces};
 use dj_invoking::Natives;
@@ -41,17 +43,19 @@ impl Model for Tables {
 }
 
 impl Tables {
-    /// What a run needs of an image beside its readers. It isn't told of an image without a class that the machine throws, or without Throwable;
-    /// none with a library lacks one.
+    /// What a run needs of an image beside its readers. It isn't told of an image without a class that the machine throws, or without Throwable, and
+    /// none with a library lacks one; nor of one with code that no class file has.
     pub fn of(alloc: Global, image: &Image) -> Result<Tables, NoMemory>
         requires { IsSound (program_of image.now) image.now.prefix }
         ensures { IfOk result (IsKept image.now) }
     {
-        if has_own(image) {
-            tables_of(alloc, image)
-        } else {
-            Err(NoMemory::Memory)
+        if !has_own(image) {
+            return Err(NoMemory::Memory);
         }
+        if !are_bounded(image)? {
+            return Err(NoMemory::Memory);
+        }
+        tables_of(alloc, image)
     }
 
     /// The places of static fields.
@@ -87,6 +91,7 @@ impl Tables {
 fn tables_of(alloc: Global, image: &Image) -> Result<Tables, NoMemory>
     requires sound { IsSound (program_of image.now) image.now.prefix }
     requires own { HasOwn image.now }
+    requires bounded { AreBounded image.now }
     ensures { IfOk result (IsKept image.now) }
 {
     image.is_numbered();

@@ -1,6 +1,9 @@
-ghost use Rattle.std.specs.Prelude.{◌≡◌, ◌++◌, IfOk};
+ghost use Rattle.std.specs.Prelude.{◌≡◌, ◌++◌, [], IfErr, IfOk};
+ghost use Rattle.dj_model.specs.Standing.{AsksNothing};
 ghost use Rattle.dj_host.specs.Hosted.{given_since};
-ghost use Rattle.dj_turning.specs.Running.{IsKept, IsRunning};
+ghost use Rattle.dj_image.specs.Imaged.{program_of};
+ghost use Rattle.dj_turning.specs.Memory.{NeedsNoMemory};
+ghost use Rattle.dj_turning.specs.Running.{IsKept, IsRunning, state_of, terms_of};
 ghost use Rattle.dj_turning.specs.Turning.{Turns};
 ghost use Rattle.dj_turning.specs.Doing.{TurnsBy, doing_next, stepping};
 
@@ -10,6 +13,7 @@ use crate::frames::top_of;
 use crate::preparing::prepare;
 use crate::run::Run;
 use crate::tables::Tables;
+use crate::unnamed::take_next;
 use dj_edge::Host;
 use dj_image::Image;
 use dj_initialising::Prepared;
@@ -32,12 +36,15 @@ pub fn turn<H: Host>(
     requires running { IsRunning image.now run.old }
     ensures turns { IfOk result (Turns image.now run.old run.new (given_since (H.given host.old) (H.given host.new))) }
     ensures gave { H.given host.new ≡ H.given host.old ++ given_since (H.given host.old) (H.given host.new) }
+    ensures quiet { AsksNothing (program_of image.now) → H.given host.new ≡ H.given host.old }
+    ensures frugal { NeedsNoMemory (program_of image.now) image.now.prefix (terms_of run.old) (state_of image.now [] run.old) → IfErr result (λ _. ⊥) }
 {
-    take_step(alloc, image, tables, run, host)
+    take_next(alloc, image, tables, run, host)
 }
 
-// The same, as the model's step has it.
-fn take_step<H: Host>(
+/// The same, as the model's step has it.
+#[inline(never)]
+pub(crate) fn take_step<H: Host>(
     alloc: Global,
     image: &Image,
     tables: &Tables,
@@ -48,6 +55,8 @@ fn take_step<H: Host>(
     requires running { IsRunning image.now run.old }
     ensures turns { IfOk result (TurnsBy image.now (stepping image.now) run.old run.new (given_since (H.given host.old) (H.given host.new))) }
     ensures gave { H.given host.new ≡ H.given host.old ++ given_since (H.given host.old) (H.given host.new) }
+    ensures quiet { AsksNothing (program_of image.now) → H.given host.new ≡ H.given host.old }
+    ensures frugal { NeedsNoMemory (program_of image.now) image.now.prefix (terms_of run.old) (state_of image.now [] run.old) → IfErr result (λ _. ⊥) }
 {
     match prepare(alloc, image, tables, run)? {
         Prepared::Ready => perform(alloc, image, tables, run, host),
@@ -69,6 +78,8 @@ fn perform<H: Host>(
     requires running { IsRunning image.now run.old }
     ensures turns { IfOk result (TurnsBy image.now (doing_next image.now) run.old run.new (given_since (H.given host.old) (H.given host.new))) }
     ensures gave { H.given host.new ≡ H.given host.old ++ given_since (H.given host.old) (H.given host.new) }
+    ensures quiet { AsksNothing (program_of image.now) → H.given host.new ≡ H.given host.old }
+    ensures frugal { NeedsNoMemory (program_of image.now) image.now.prefix (terms_of run.old) (state_of image.now [] run.old) → IfErr result (λ _. ⊥) }
 {
     let top = top_of(image, &run.frames);
     match call_at(image, top.method, top.number) {

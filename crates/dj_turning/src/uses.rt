@@ -1,4 +1,4 @@
-ghost use Rattle.std.specs.Prelude.{◌≡◌, ◌<◌, Some, length, IfOk};
+ghost use Rattle.std.specs.Prelude.{◌≡◌, ◌<◌, Some, length, true, IfErr, IfOk, IsFalse};
 ghost use Rattle.dj_model.specs.Types.{Member};
 ghost use Rattle.dj_model.specs.Instructions as model;
 ghost use Rattle.dj_model.specs.Instructions.{Instruction, Invoke, Named};
@@ -10,8 +10,9 @@ ghost use Rattle.dj_image.specs.Imaged.{program_of};
 ghost use Rattle.dj_image.specs.declared.operand.Operand.TheVariants as operands;
 ghost use Rattle.dj_activations.specs.Instructions.{HasInstruction, instruction_of_number};
 ghost use Rattle.dj_invoking.specs.Choosing.{IsMethod, told_mode};
+ghost use Rattle.dj_acting.specs.Frugal.{LoadsByKnown, makes};
 ghost use Rattle.dj_turning.specs.Doing.{IsUsed};
-ghost use Rattle.dj_turning.specs.Uses.{IsOperandNamed};
+ghost use Rattle.dj_turning.specs.Uses.{IsOperandNamed, is_given};
 
 use dj_acting::{ClassUse, FieldUse, class_use, field_use};
 use dj_activations::instr_of;
@@ -29,7 +30,9 @@ pub(crate) fn used_class(
     requires sound { IsSound (program_of image.now) image.now.prefix }
     requires there { method.number < length (all_methods (program_of image.now)) }
     requires stands { HasInstruction image.now method.number number }
-    ensures { (i : Instruction) → instruction_of_number image.now method.number number ≡ Some i → IfOk result (IsUsed image.now i) }
+    ensures used { (i : Instruction) → instruction_of_number image.now method.number number ≡ Some i → IfOk result (IsUsed image.now i) }
+    ensures frugal { (i : Instruction) → instruction_of_number image.now method.number number ≡ Some i → IsFalse (makes i)
+        → LoadsByKnown image.now method.number number → IfErr result (λ _. ⊥) }
 {
     match call_at(image, method, number) {
         Some(site) => Ok(called_class(image, site.mode, site.method)),
@@ -57,8 +60,11 @@ fn operand_class(image: &Image, method: MethodId, number: u32) -> Result<Option<
     requires sound { IsSound (program_of image.now) image.now.prefix }
     requires there { method.number < length (all_methods (program_of image.now)) }
     requires stands { HasInstruction image.now method.number number }
-    ensures { (i : Instruction) → instruction_of_number image.now method.number number ≡ Some i → IfOk result (IsUsed image.now i) }
+    ensures used { (i : Instruction) → instruction_of_number image.now method.number number ≡ Some i → IfOk result (IsUsed image.now i) }
+    ensures frugal { (i : Instruction) → instruction_of_number image.now method.number number ≡ Some i → IsFalse (makes i)
+        → LoadsByKnown image.now method.number number → IfErr result (λ _. ⊥) }
 {
+    image.is_numbered();
     let instr = instr_of(image, method, number);
     let operand = image.operand(method, number);
     class_of_operand(image, instr, operand)
@@ -68,7 +74,8 @@ fn operand_class(image: &Image, method: MethodId, number: u32) -> Result<Option<
 
 fn class_of_operand(image: &Image, instr: &Instr, operand: Operand) -> Result<Option<u32>, NoMemory>
     requires { (named : Named) × IsOperandNamed image.now instr.now operand named }
-    ensures { (named : Named) → IsOperandNamed image.now instr.now operand named → IfOk result (IsUsed image.now (instruction_of instr.now named)) }
+    ensures used { (named : Named) → IsOperandNamed image.now instr.now operand named → IfOk result (IsUsed image.now (instruction_of instr.now named)) }
+    ensures frugal { is_given operand ≡ true → IfErr result (λ _. ⊥) }
 {
     match operand {
         Operand::Class(class) => Ok(new_class(image, instr, class)),

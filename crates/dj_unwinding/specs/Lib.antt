@@ -3,3 +3,4 @@ pub mod Resuming
 pub mod Returns
 pub mod Unwinding
 pub mod Rows
+pub mod Short

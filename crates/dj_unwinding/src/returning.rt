@@ -1,7 +1,8 @@
-ghost use Rattle.std.specs.Prelude.{◌<◌, length, IfOk};
+ghost use Rattle.std.specs.Prelude.{◌<◌, length, IfErr, IfOk};
 ghost use Rattle.dj_image.specs.Imaged.{program_of};
 ghost use Rattle.dj_activations.specs.Activations.{AreActivations};
 ghost use Rattle.dj_unwinding.specs.Returns.{HasRoomBelow, IsReturned};
+ghost use Rattle.dj_unwinding.specs.Short.{HasNumberBelow};
 
 use crate::top::{resume, top_method};
 use dj_activations::is_initialiser;
@@ -20,7 +21,7 @@ pub enum Returned {
 
 /// The method of the top frame returns. The caller's call is done, with the value pushed; but below an initialiser the caller's instruction is
 /// still to be done, and nothing is pushed.
-#[tactic(auto, using(dj_activations::proofs::Standing::top_within, crate::proofs::Frames::last_returned, crate::proofs::Frames::initialiser_returned, crate::proofs::Frames::method_returned, crate::proofs::Frames::room_below, crate::proofs::Frames::some_below, crate::proofs::Frames::popped_stand, crate::proofs::Frames::resumed_stand))]
+#[tactic(auto, using(dj_activations::proofs::Standing::top_within, crate::proofs::Frames::last_returned, crate::proofs::Frames::initialiser_returned, crate::proofs::Frames::method_returned, crate::proofs::Frames::room_below, crate::proofs::Frames::some_below, crate::proofs::Frames::popped_stand, crate::proofs::Frames::resumed_stand, crate::proofs::ShortLaws::number_below))]
 pub fn go_back(
     image: &Image,
     frames: &mut Frames,
@@ -31,6 +32,7 @@ pub fn go_back(
     requires room { HasRoomBelow (program_of image.now) frames.old value }
     ensures told { IfOk result (λ returned. IsReturned (program_of image.now) frames.old frames.new value returned) }
     ensures stand { IfOk result (λ returned. AreActivations image.now frames.new) }
+    ensures frugal { HasNumberBelow frames.old → IfErr result (λ _. ⊥) }
 {
     let method = MethodId {
         number: top_method(frames),

@@ -1,4 +1,4 @@
-ghost use Rattle.std.specs.Prelude.{◌≡◌, ◌<◌, length, Some, None, IfOk, slice_get};
+ghost use Rattle.std.specs.Prelude.{◌≡◌, ◌<◌, length, Some, None, IfErr, IfOk, slice_get};
 ghost use Rattle.dj_model.specs.Program.{Range, code_of};
 ghost use Rattle.dj_model.specs.Sound.{IsSound};
 ghost use Rattle.dj_model.specs.Step as model;
@@ -8,6 +8,7 @@ ghost use Rattle.dj_image.specs.Imaged.{program_of, typed_of};
 ghost use Rattle.dj_activations.specs.Activations.{declared_at};
 ghost use Rattle.dj_activations.specs.Told.{IsCodeOf};
 ghost use Rattle.dj_unwinding.specs.Rows.{HasRow, IsRowOf};
+ghost use Rattle.dj_unwinding.specs.Short.{AreShort};
 ghost use Rattle.dj_unwinding.specs.Unwinding.{IsClassNumber, is_handling, ranges_at};
 
 use dj_activations::code_of;
@@ -27,7 +28,8 @@ pub(crate) fn handler_of(
     requires sound { IsSound (program_of image.now) image.now.prefix }
     requires there { method.number < length (all_methods (program_of image.now)) }
     requires class { IsClassNumber (typed_of image.now) class }
-    ensures { IfOk result (λ handler. handler ≡ model.handler_of (program_of image.now) image.now.prefix (type_at (typed_of image.now) class) number (code_of (program_of image.now) (declared_at (program_of image.now) method.number))) }
+    ensures found { IfOk result (λ handler. handler ≡ model.handler_of (program_of image.now) image.now.prefix (type_at (typed_of image.now) class) number (code_of (program_of image.now) (declared_at (program_of image.now) method.number))) }
+    ensures frugal { AreShort image.now → IfErr result (λ _. ⊥) }
 {
     match code_of(image, method) {
         Some(code) => handler_in(image, method, code, number, class),
@@ -44,9 +46,11 @@ fn handler_in(
     class: u32,
 ) -> Result<Option<u32>, NoMemory>
     requires sound { IsSound (program_of image.now) image.now.prefix }
+    requires there { method.number < length (all_methods (program_of image.now)) }
     requires told { IsCodeOf image.now method.number code.now }
     requires class { IsClassNumber (typed_of image.now) class }
-    ensures { IfOk result (λ handler. handler ≡ model.handler_in (program_of image.now) image.now.prefix (type_at (typed_of image.now) class) number (ranges_at image.now method.number)) }
+    ensures found { IfOk result (λ handler. handler ≡ model.handler_in (program_of image.now) image.now.prefix (type_at (typed_of image.now) class) number (ranges_at image.now method.number)) }
+    ensures frugal { AreShort image.now → IfErr result (λ _. ⊥) }
 {
     for (at, row) in code.code.ranges.as_slice().iter().enumerate() {
         if handles(image, method, row, at, number, class)? {
@@ -57,7 +61,7 @@ fn handler_in(
 }
 
 // Whether a row of the method holds the instruction and catches the class. There is no memory for a row whose place has no number of 32 bits.
-#[tactic(auto, using(crate::proofs::Catching::has_row))]
+#[tactic(auto, using(crate::proofs::Catching::has_row, crate::proofs::ShortLaws::row_numbered))]
 fn handles(
     image: &Image,
     method: MethodId,
@@ -67,10 +71,12 @@ fn handles(
     class: u32,
 ) -> Result<bool, NoMemory>
     requires sound { IsSound (program_of image.now) image.now.prefix }
+    requires there { method.number < length (all_methods (program_of image.now)) }
     requires row { IsRowOf image.now method.number at row.now }
     requires class { IsClassNumber (typed_of image.now) class }
-    ensures { IfOk result (λ handles. (range : Range) → slice_get (ranges_at image.now method.number) at ≡ Some range
+    ensures tells { IfOk result (λ handles. (range : Range) → slice_get (ranges_at image.now method.number) at ≡ Some range
         → handles ≡ is_handling (program_of image.now) image.now.prefix (type_at (typed_of image.now) class) number range) }
+    ensures frugal { AreShort image.now → IfErr result (λ _. ⊥) }
 {
     if number < row.start || row.end <= number {
         return Ok(false);

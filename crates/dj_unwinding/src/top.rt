@@ -1,4 +1,4 @@
-ghost use Rattle.std.specs.Prelude.{◌≡◌, ◌<◌, length, OnOk};
+ghost use Rattle.std.specs.Prelude.{◌≡◌, ◌<◌, ◌+◌, ◌^◌, length, IfErr, OnOk};
 ghost use Rattle.dj_stack.specs.Frames as tops;
 ghost use Rattle.dj_unwinding.specs.Resuming.{HasRoom, Resumes};
 
@@ -28,7 +28,8 @@ pub(crate) fn top_number(frames: &Frames) -> u32
 pub(crate) fn resume(frames: &mut Frames, given: Option<Value>) -> Result<(), NoMemory>
     requires some { 0 < length frames.old }
     requires room { HasRoom frames.old given }
-    ensures { OnOk result (Resumes frames.old frames.new given) }
+    ensures resumes { OnOk result (Resumes frames.old frames.new given) }
+    ensures frugal { tops.top_number frames.old + 1 < 2 ^ 32 → IfErr result (λ _. ⊥) }
 {
     let Some(next) = top_number(frames).checked_add(1) else {
         return Err(NoMemory::Memory);

@@ -1,9 +1,10 @@
-ghost use Rattle.std.specs.Prelude.{◌≡◌, ◌<◌, length, None, IfOk, IfSome};
+ghost use Rattle.std.specs.Prelude.{◌≡◌, ◌<◌, length, None, IfErr, IfOk, IfSome};
 ghost use Rattle.dj_model.specs.Sound.{IsSound};
 ghost use Rattle.dj_stack.specs.Frames.{below_top};
 ghost use Rattle.dj_types.specs.Typed.{type_at};
 ghost use Rattle.dj_image.specs.Imaged.{program_of, typed_of};
 ghost use Rattle.dj_activations.specs.Activations.{AreActivations};
+ghost use Rattle.dj_unwinding.specs.Short.{AreShort};
 ghost use Rattle.dj_unwinding.specs.Unwinding.{IsClassNumber, IsKnown, IsPassed, IsUnwound};
 
 use crate::rows::handler_of;
@@ -37,6 +38,7 @@ pub fn unwind(
     ensures told { IfOk result (λ unwound. IsUnwound image.now (type_at (typed_of image.now) class) exception frames.old frames.new unwound) }
     ensures known { IfOk result (λ unwound. IsKnown image.now unwound) }
     ensures stand { IfOk result (λ unwound. AreActivations image.now frames.new) }
+    ensures frugal { AreShort image.now → IfErr result (λ _. ⊥) }
 {
     while 0 < frames.depth() {
         if let Some(unwound) = pass(image, frames, class, exception)? {
@@ -62,6 +64,7 @@ fn pass(
     ensures known { IfOk result (λ passed. IfSome passed (IsKnown image.now)) }
     ensures left { IfOk result (λ passed. passed ≡ None → frames.new ≡ below_top frames.old) }
     ensures stand { IfOk result (λ passed. AreActivations image.now frames.new) }
+    ensures frugal { AreShort image.now → IfErr result (λ _. ⊥) }
 {
     let method = MethodId {
         number: top_method(frames),

@@ -1,14 +1,17 @@
 -- Runs of which a report tells and runs of which none does, at plain values.
-use Rattle.std.proofs.Common.{◌≡◌, ℕ, ◌<◌, List, [], ◌∷◌, ◌++◌, length, Option, Some, None, codes, inl, inr, refl, subst, arith}
-use Rattle.dj_edge.specs.Held.{Held, class_files, bytes_at}
+use Rattle.std.proofs.Common.{◌≡◌, ℕ, suc, ◌<◌, ◌≤◌, List, [], ◌∷◌, ◌++◌, length, Option, Some, None, codes, inl, inr, refl, sym, ◌∙◌, subst, arith}
+use Rattle.dj_edge.specs.Held.{File, Held, class_files, bytes_at}
 use Rattle.dj_edge.specs.declared.host.HostAnswer.{HostAnswer}
 use Rattle.dj_names.specs.declared.run.Costs.{Costs}
+use Rattle.dj_names.specs.Types.{Name}
+use Rattle.dj_report.specs.declared.report.Report.{Report}
 use Rattle.dj_sandbox.specs.Entry.{entry_name}
+use Rattle.dj_sandbox.specs.Judging.{RunsRaw}
 use Rattle.dj_sandbox.specs.Limits.{AreWithin}
 use Rattle.dj_sandbox.specs.RawRules.{AreRawViolations}
 use Rattle.dj_running.specs.Runs.{IsRawRun}
 use Rattle.dj_words.specs.DoneJobs.{FolderJob, Check, Raw, OnFolder, Assemble, done_job_of}
-use Rattle.djvm_cli.specs.Engine.{AreRuns, AddsRuns, AddsFront, TellsNoRun}
+use Rattle.djvm_cli.specs.Engine.{AreRuns, AreRunsOf, AddsRuns, AddsFront, AddsFew, TellsNoRun}
 use Rattle.djvm_cli.specs.Jobs.{IsRawJob}
 use Rattle.djvm_cli.specs.Report.{FindsInput, ReadsInput, files_within, input_of}
 
@@ -30,9 +33,34 @@ is_raw : IsRawJob (done_job_of raw_words)
 unfolding raw_words done_job_of
 is_raw = tt
 
+check_words : List (List ℕ)
+check_words = codes "check" ∷ codes "c/" ∷ []
+
+assemble_words : List (List ℕ)
+assemble_words = codes "assemble" ∷ codes "t" ∷ []
+
+-- the input is lacking
+short_words : List (List ℕ)
+short_words = codes "raw" ∷ codes "c/" ∷ codes "A" ∷ []
+
 is_not_raw : IsRawJob (done_job_of verify_words) → ⊥
 unfolding verify_words done_job_of
 is_not_raw raw = raw
+
+check_is_not_raw : IsRawJob (done_job_of check_words) → ⊥
+unfolding check_words done_job_of
+check_is_not_raw raw = raw
+
+assemble_is_not_raw : IsRawJob (done_job_of assemble_words) → ⊥
+unfolding assemble_words done_job_of
+assemble_is_not_raw raw = raw
+
+short_is_not_raw : IsRawJob (done_job_of short_words) → ⊥
+unfolding short_words done_job_of
+short_is_not_raw raw = raw
+
+no_job_is_not_raw : IsRawJob None → ⊥
+no_job_is_not_raw raw = raw
 
 -- ---- other jobs have none
 
@@ -105,6 +133,74 @@ none_added held answers run (inr adds) =
     let gone : run ∷ [] ≡ [] = subst (λ (runs : List (Costs × ℕ)). run ∷ [] ≡ runs) none is in
     absurd cc
 
+-- ---- where no run is told of
+
+-- where a rule is violated
+no_run_where_rejected : (held : Held) (answers : List HostAnswer) → length (class_files (codes "c") held) ≡ 1 → FindsInput raw_job held None
+    → AreWithin (class_files (codes "c") held) → (AreRawViolations (files_within (codes "c") held) (entry_name (codes "A")) [] → ⊥) → TellsNoRun raw_words (Some held) answers
+unfolding raw_words done_job_of
+no_run_where_rejected held answers one input within violated =
+    let few : length (class_files (codes "c") held) ≤ 4096 = omega (arith, one) in
+    inl (record { count = few; input = input; files = within }, violated)
+
+-- where the input isn't there
+no_run_where_absent : (held : Held) (answers : List HostAnswer) → bytes_at held (codes "in") ≡ None → TellsNoRun raw_words (Some held) answers
+unfolding raw_words done_job_of
+no_run_where_absent held answers absent = inr ((λ reaches. found_nowhere (bytes_at held (codes "in")) absent reaches.input), refl)
+
+-- where there are too many files
+no_run_where_many : (held : Held) (answers : List HostAnswer) → 4096 < length (class_files (codes "c") held) → TellsNoRun raw_words (Some held) answers
+unfolding raw_words done_job_of
+no_run_where_many held answers many = inr ((λ reaches. let few : length (class_files (codes "c") held) ≤ 4096 = reaches.count in omega (arith, many, few)), refl)
+
+-- one is told of where no rule is violated
+a_run_where_accepted : (held : Held) (answers : List HostAnswer) → length (class_files (codes "c") held) ≡ 1 → FindsInput raw_job held None
+    → AreWithin (class_files (codes "c") held) → AreRawViolations (files_within (codes "c") held) (entry_name (codes "A")) [] → TellsNoRun raw_words (Some held) answers → ⊥
+unfolding raw_words done_job_of
+a_run_where_accepted held answers one input within silent (inl made) = made.1 silent
+a_run_where_accepted held answers one input within silent (inr not_made) =
+    let few : length (class_files (codes "c") held) ≤ 4096 = omega (arith, one) in
+    not_made.0 (record { count = few; input = input; files = within })
+
 -- of a store that tells nothing it isn't told that no run is told of
 not_told : (answers : List HostAnswer) → TellsNoRun raw_words None answers → ⊥
 not_told answers none = none
+
+-- ---- the host's answers
+
+none_more : (answers more : List HostAnswer) → length answers ≡ length (answers ++ more) → more ≡ []
+none_more [] [] e = refl
+none_more [] (answer ∷ more) e = let none : 0 ≡ suc (length more) = e in absurd (omega (arith, none))
+none_more (answer ∷ answers) more e = let same : suc (length answers) ≡ suc (length (answers ++ more)) = e in none_more answers more (omega (arith, same))
+
+-- a run that took only the first of them is told of with no more than these
+none_left : (files : List File) (class : Name) (input : List ℕ) (steps : ℕ) (answers more : List HostAnswer) (report : Report)
+    → (runs : RunsRaw files class input steps (answers ++ more) (Some report)) → runs.2.taken ≡ length answers → more ≡ []
+none_left files class input steps answers more report runs took = none_more answers more (sym took ∙ runs.6)
+
+-- nor is its end added with them to the runs
+none_left_of_run : (files : List File) (class : Name) (input : List ℕ) (steps : ℕ) (answers more : List HostAnswer) (run : Costs × ℕ)
+    → (made : IsRawRun files class input steps (answers ++ more) run) → made.2.taken ≡ length answers → more ≡ []
+none_left_of_run files class input steps answers more run made took = none_more answers more (sym took ∙ made.6)
+
+-- ---- whatever the store tells
+
+-- a raw run is made once at most
+once_at_most : (answers : List HostAnswer) (a b : Costs × ℕ) → AreRunsOf (Some (OnFolder raw_job)) answers (a ∷ b ∷ []) → ⊥
+once_at_most answers a b two = two
+
+-- it may be that there was no memory for it
+none_made : (answers : List HostAnswer) → AreRunsOf (Some (OnFolder raw_job)) answers []
+none_made answers = tt
+
+-- and it is of some class files and some input, and has taken all of the answers
+made_of_some : (answers more : List HostAnswer) (run : Costs × ℕ) → (are : AreRunsOf (Some (OnFolder raw_job)) (answers ++ more) (run ∷ [])) → are.2.2.taken ≡ length answers → more ≡ []
+made_of_some answers more run are took = none_left_of_run are.0 (entry_name (codes "A")) are.1 5 answers more run are.2 took
+
+-- other jobs make none
+check_makes_none : (answers : List HostAnswer) (run : Costs × ℕ) → AreRunsOf (Some (OnFolder (Check (codes "c")))) answers (run ∷ []) → ⊥
+check_makes_none answers run none = absurd cc
+
+-- runs that were told before stay
+none_forgotten : (answers : List HostAnswer) (run : Costs × ℕ) → AddsFew [] answers (run ∷ []) [] → ⊥
+none_forgotten answers run (runs, are, adds) = absurd cc

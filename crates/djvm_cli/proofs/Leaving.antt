@@ -13,7 +13,7 @@ use Rattle.dj_sandbox.specs.RawRules.{AreRawViolations}
 use Rattle.dj_running.specs.Runs.{AreRawRuns, AddsRawRuns}
 use Rattle.dj_words.specs.DoneJobs.{DoneJob, FolderJob, Check, Verify, Raw, OnFolder, Assemble}
 use Rattle.djvm_cli.specs.declared.load.Stop.{Stop}
-use Rattle.djvm_cli.specs.Engine.{Reaches, AreJudgedRuns, AreFolderRuns, AreRuns, Adds, Leaves, LeavesRaw, LeavesJudged, LeavesJob}
+use Rattle.djvm_cli.specs.Engine.{Reaches, AreJudgedRuns, AreFolderRuns, AreRuns, AreFewRuns, AreRunsOf, Adds, Leaves, LeavesRaw, LeavesJudged, LeavesJob}
 use Rattle.djvm_cli.specs.Jobs.{folder_of, IsRawJob}
 use Rattle.djvm_cli.specs.Report.{files_within, input_of}
 
@@ -31,13 +31,15 @@ gave_nothing before = sym (ap (λ (more : List HostAnswer). before ++ more) (giv
 
 adds_none : {T E : Type 0} (P : Made → Type 0) (old : Made) (r : Result T E) → P [] → Adds P old old r
 adds_none P old (Ok x) p = ([], p, sym (append-nil old))
-adds_none P old (Err e) p = inl refl
+adds_none P old (Err e) p = refl
 
-module _ {T E : Type 0} (AreSuch : List HostAnswer → Made → Type 0) (IsRaw : Type 0) (NoRun : List HostAnswer → Type 0) (given : List HostAnswer) (made : Made) where
+module _ {T E : Type 0} (AreSuch AreOfJob : List HostAnswer → Made → Type 0) (IsRaw : Type 0) (NoRun : List HostAnswer → Type 0) (given : List HostAnswer) (made : Made)
+    (unmade : AreOfJob (given_since given given) []) where
   -- where none is told of
-  leaves_all : (r : Result T E) → AreSuch (given_since given given) [] → Leaves AreSuch IsRaw NoRun given given made made r
+  leaves_all : (r : Result T E) → AreSuch (given_since given given) [] → Leaves AreSuch AreOfJob IsRaw NoRun given given made made r
   leaves_all r none = record {
     runs = adds_none (AreSuch (given_since given given)) made r none;
+    few = ([], unmade, sym (append-nil made));
     idle = λ other. refl;
     quiet = λ other. refl;
     unasked = λ unrun. refl;
@@ -45,14 +47,23 @@ module _ {T E : Type 0} (AreSuch : List HostAnswer → Made → Type 0) (IsRaw :
   }
 
   -- at a fault, or for want of memory
-  leaves_stopped : (r : Result T E) (e : E) → r ≡ Err e → Leaves AreSuch IsRaw NoRun given given made made r
-  leaves_stopped r e is = subst (λ (x : Result T E). Leaves AreSuch IsRaw NoRun given given made made x) (sym is) (record {
-    runs = inl refl;
+  leaves_stopped : (r : Result T E) (e : E) → r ≡ Err e → Leaves AreSuch AreOfJob IsRaw NoRun given given made made r
+  leaves_stopped r e is = subst (λ (x : Result T E). Leaves AreSuch AreOfJob IsRaw NoRun given given made made x) (sym is) (record {
+    runs = refl;
+    few = ([], unmade, sym (append-nil made));
     idle = λ other. refl;
     quiet = λ other. refl;
     unasked = λ unrun. refl;
     gave = gave_nothing given;
   })
+
+-- no job asks for a run
+none_of_job : (job : Option DoneJob) (answers : List HostAnswer) → AreRunsOf job answers []
+none_of_job None answers = refl
+none_of_job (Some (OnFolder (Check folder))) answers = refl
+none_of_job (Some (OnFolder (Verify folder entry path most))) answers = refl
+none_of_job (Some (OnFolder (Raw folder entry path steps))) answers = tt
+none_of_job (Some (Assemble path)) answers = refl
 
 -- ---- the judging
 
@@ -65,8 +76,8 @@ no_judged_run (Raw folder entry path steps) files input answers other = absurd (
 pub judged_quietly : {T E : Type 0} (job : FolderJob) (files : List File) (input : List ℕ) (given : List HostAnswer) (made : Made) (r : Result T E) → (IsRawJob (Some (OnFolder job)) → ⊥)
     → LeavesJudged job files input given given made made r
 judged_quietly job files input given made r other =
-    leaves_all (AreJudgedRuns job files input) (IsRawJob (Some (OnFolder job))) (λ answers. AreJudgedRuns job files input answers []) given made r
-    (no_judged_run job files input (given_since given given) other)
+    leaves_all (AreJudgedRuns job files input) (AreRunsOf (Some (OnFolder job))) (IsRawJob (Some (OnFolder job))) (λ answers. AreJudgedRuns job files input answers []) given made
+    (none_of_job (Some (OnFolder job)) (given_since given given)) r (no_judged_run job files input (given_since given given) other)
 
 -- ---- a raw run
 
@@ -78,24 +89,29 @@ module _ (files : List File) (class name : Name) (same : class ≡ name) (input 
   quiet_by_name : AreRawRuns files name input steps (given_since before after) [] → after ≡ before
   quiet_by_name = subst (λ (c : Name). (AreRawViolations files c [] → ⊥) → after ≡ before) same quiet
 
+  few_of : (answers : List HostAnswer) (runs : Made) → AreRawRuns files name input steps answers runs → AreFewRuns name steps answers runs
+  few_of answers [] are = tt
+  few_of answers (run ∷ []) are = (files, input, are.1)
+  few_of answers (run ∷ other ∷ more) are = are
+
   -- the report is told
   pub raw_told : (report : Report) → AddsTo (Ok report) class → LeavesRaw {T = Report} {E = Stop} files name input steps before after old new (Ok report)
   raw_told report adds = record {
-    runs = subst (AddsTo (Ok report)) same adds;
+    runs = told;
+    few = (told.0, few_of (given_since before after) told.0 told.1, told.2);
     idle = λ other. absurd (other tt);
     quiet = λ other. absurd (other tt);
     unasked = quiet_by_name;
     gave = gave;
-  }
-
-  at_error : (e : SandboxError) (stop : Stop) → AddsTo (Err e) name → Adds {T = Report} {E = Stop} (AreRawRuns files name input steps (given_since before after)) old new (Err stop)
-  at_error e stop (inl kept) = inl kept
-  at_error e stop (inr told) = inr (told.0 ∷ [], told.1, told.2)
+  } where
+    told : AddsTo (Ok report) name
+    told = subst (AddsTo (Ok report)) same adds
 
   -- there was no memory
   pub raw_stopped : (e : SandboxError) (r : Result Report Stop) (stop : Stop) → r ≡ Err stop → AddsTo (Err e) class → LeavesRaw files name input steps before after old new r
   raw_stopped e r stop is adds = subst (λ (x : Result Report Stop). LeavesRaw files name input steps before after old new x) (sym is) (record {
-    runs = at_error e stop (subst (AddsTo (Err e)) same adds);
+    runs = adds;
+    few = ([], tt, adds ∙ sym (append-nil old));
     idle = λ other. absurd (other tt);
     quiet = λ other. absurd (other tt);
     unasked = quiet_by_name;
@@ -106,7 +122,7 @@ module _ (files : List File) (class name : Name) (same : class ≡ name) (input 
 pub raw_unmade : (files : List File) (name : Name) (input : List ℕ) (steps : ℕ) (given : List HostAnswer) (made : Made) (r : Result Report Stop) (stop : Stop) → r ≡ Err stop
     → LeavesRaw files name input steps given given made made r
 raw_unmade files name input steps given made r stop is =
-    leaves_stopped (AreRawRuns files name input steps) ⊤ (λ answers. AreRawRuns files name input steps answers []) given made r stop is
+    leaves_stopped (AreRawRuns files name input steps) (AreFewRuns name steps) ⊤ (λ answers. AreRawRuns files name input steps answers []) given made tt r stop is
 
 -- ---- a job on a folder
 
@@ -121,11 +137,14 @@ module _ (job : FolderJob) where
   pub unreached : {E : Type 0} (held : Option Held) (given : List HostAnswer) (made : Made) (report : Report) → IfSome held (λ h. Reaches job h → ⊥)
       → LeavesJob {T = Report} {E = E} (Some (OnFolder job)) held given given made made (Ok report)
   unreached held given made report short =
-      leaves_all (told_runs held) (IsRawJob (Some (OnFolder job))) (no_run held) given made (Ok report)
+      leaves_all (told_runs held) (AreRunsOf (Some (OnFolder job))) (IsRawJob (Some (OnFolder job))) (no_run held) given made
+      (none_of_job (Some (OnFolder job)) (given_since given given)) (Ok report)
       (told_so held (λ h. Reaches job h → ⊥) (λ h. AreFolderRuns job h (given_since given given) []) (λ h no. inr (no, refl)) short)
 
   pub stopped : {T E : Type 0} (held : Option Held) (given : List HostAnswer) (made : Made) (r : Result T E) (stop : E) → r ≡ Err stop → LeavesJob (Some (OnFolder job)) held given given made made r
-  stopped held given made r stop is = leaves_stopped (told_runs held) (IsRawJob (Some (OnFolder job))) (no_run held) given made r stop is
+  stopped held given made r stop is =
+      leaves_stopped (told_runs held) (AreRunsOf (Some (OnFolder job))) (IsRawJob (Some (OnFolder job))) (no_run held) given made
+      (none_of_job (Some (OnFolder job)) (given_since given given)) r stop is
 
   -- the files and the input that are judged are those that are held
   abbrev pub IsReached : List File → List ℕ → Held → Type 0
@@ -153,14 +172,14 @@ module _ (job : FolderJob) where
     module _ {T E : Type 0} (held : Option Held) (there : IfSome held (IsReached set bytes)) where
       adds_told : (answers : List HostAnswer) (old new : Made) (r : Result T E) → Adds (AreJudgedRuns job set bytes answers) old new r → Adds (told_runs held answers) old new r
       adds_told answers old new (Ok x) adds = (adds.0, all_told held answers adds.0 there adds.1, adds.2)
-      adds_told answers old new (Err e) (inl kept) = inl kept
-      adds_told answers old new (Err e) (inr adds) = inr (adds.0, all_told held answers adds.0 there adds.1, adds.2)
+      adds_told answers old new (Err e) kept = kept
 
       -- they are judged
       pub reached : (before after : List HostAnswer) (old new : Made) (r : Result T E) → LeavesJudged job set bytes before after old new r
           → LeavesJob (Some (OnFolder job)) held before after old new r
       reached before after old new r left = record {
         runs = adds_told (given_since before after) old new r left.runs;
+        few = left.few;
         idle = left.idle;
         quiet = left.quiet;
         unasked = λ none. left.unasked (none_told held (given_since before after) there none);
@@ -179,17 +198,19 @@ no_runs (Some h) = refl
 pub assembled : {T E : Type 0} (path : List ℕ) (held : Option Held) (given : List HostAnswer) (made : Made) (r : Result T E)
     → LeavesJob (Some (Assemble path)) held given given made made r
 assembled path held given made r =
-    leaves_all (λ answers runs. IfSome held (λ h. AreRuns (Some (Assemble path)) h answers runs)) (IsRawJob (Some (Assemble path)))
-    (λ answers. IsSomeAnd held (λ h. AreRuns (Some (Assemble path)) h answers [])) given made r (no_runs held)
+    leaves_all (λ answers runs. IfSome held (λ h. AreRuns (Some (Assemble path)) h answers runs)) (AreRunsOf (Some (Assemble path))) (IsRawJob (Some (Assemble path)))
+    (λ answers. IsSomeAnd held (λ h. AreRuns (Some (Assemble path)) h answers [])) given made refl r (no_runs held)
 
 pub no_job : (job : Option DoneJob) (held : Option Held) (given : List HostAnswer) (made : Made) (r : Result Report Stop) → None ≡ job → LeavesJob job held given given made made r
 no_job job held given made r none =
     subst (λ (j : Option DoneJob). LeavesJob j held given given made made r) none
-    (leaves_all (λ answers runs. IfSome held (λ h. AreRuns None h answers runs)) (IsRawJob None) (λ answers. IsSomeAnd held (λ h. AreRuns None h answers [])) given made r (no_runs held))
+    (leaves_all (λ answers runs. IfSome held (λ h. AreRuns None h answers runs)) (AreRunsOf None) (IsRawJob None) (λ answers. IsSomeAnd held (λ h. AreRuns None h answers [])) given made refl r
+    (no_runs held))
 
 pub no_words : {T E : Type 0} (job : Option DoneJob) (held : Option Held) (given : List HostAnswer) (made : Made) (stop : E) → LeavesJob {T = T} {E = E} job held given given made made (Err stop)
 no_words job held given made stop =
-    leaves_stopped (λ answers runs. IfSome held (λ h. AreRuns job h answers runs)) (IsRawJob job) (λ answers. IsSomeAnd held (λ h. AreRuns job h answers [])) given made (Err stop) stop refl
+    leaves_stopped (λ answers runs. IfSome held (λ h. AreRuns job h answers runs)) (AreRunsOf job) (IsRawJob job) (λ answers. IsSomeAnd held (λ h. AreRuns job h answers [])) given made
+    (none_of_job job (given_since given given)) (Err stop) stop refl
 
 -- ---- a call of the program
 
@@ -207,4 +228,4 @@ module _ (job : Option DoneJob) (answers : List HostAnswer) (old new : Made) whe
   pub front_added : (held : Option Held) (r : Result Report Stop) → Adds (AreTold held) old new r → IfSome held (λ h. (new ≡ old) ⊎ AllAdded h)
   front_added None r adds = tt
   front_added (Some h) (Ok report) adds = inr adds
-  front_added (Some h) (Err e) adds = adds
+  front_added (Some h) (Err e) kept = inl kept

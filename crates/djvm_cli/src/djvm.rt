@@ -10,7 +10,7 @@ ghost use Rattle.dj_sandbox.specs.Limits.{most_input_bytes};
 ghost use Rattle.dj_sandbox.specs.Statuses.{IsAmong, raw_statuses};
 ghost use Rattle.djvm_cli.specs.declared.load.Stop.TheVariants.{Memory};
 ghost use Rattle.dj_words.specs.DoneJobs.{OnFolder, done_job_of};
-ghost use Rattle.djvm_cli.specs.Engine.{AddsRuns, AddsFront, TellsNoRun, LeavesRaw, LeavesJudged, LeavesJob};
+ghost use Rattle.djvm_cli.specs.Engine.{AddsRuns, AddsFront, AddsFew, TellsNoRun, LeavesRaw, LeavesJudged, LeavesJob};
 ghost use Rattle.djvm_cli.specs.Jobs.{folder_of, IsAllowed, IsAllowedJob, IsRawJob};
 ghost use Rattle.djvm_cli.specs.Report.{judging, folder_stages, folder_asks, stages, job_asks};
 ghost use Rattle.djvm_cli.specs.Ends.{IsStatus, IsReportStatus, IsWritten, read_fault, write_fault, no_memory, IsRight, Finished, ReadEnds, WriteFault, OutOfMemory, AsksInOrder, WritesFront, TellsUsage};
@@ -219,10 +219,12 @@ pub fn djvm<F: Files, H: Host, S: Sink, E: Engine>(
     ensures gave { H.given host.new ≡ H.given host.old ++ given_since (H.given host.old) (H.given host.new) }
     ensures unasked { TellsNoRun (map string_bytes words.now) (F.held files.old) (given_since (H.given host.old) (H.given host.new)) → H.given host.new ≡ H.given host.old }
 
-    // The engine made the runs of which the report tells, and none else; and none where no raw run is asked for.
+    // The engine made the runs of which the report tells, and none else. Whatever the store tells, it made one run at most, and that of the words' class on some input;
+    // and none where no raw run is asked for.
     ensures runs { result ≢ read_fault → result ≢ write_fault → result ≢ no_memory
         → AddsRuns (map string_bytes words.now) (F.held files.old) (given_since (H.given host.old) (H.given host.new)) (E.runs engine.old) (E.runs engine.new) }
     ensures front { IfSome (F.held files.old) (λ h. AddsFront (map string_bytes words.now) (Some h) (given_since (H.given host.old) (H.given host.new)) (E.runs engine.old) (E.runs engine.new)) }
+    ensures few { AddsFew (map string_bytes words.now) (given_since (H.given host.old) (H.given host.new)) (E.runs engine.old) (E.runs engine.new) }
     ensures idle { (IsRawJob (done_job_of (map string_bytes words.now)) → ⊥) → E.runs engine.new ≡ E.runs engine.old }
 {
     match report_of(alloc, words, files, host, engine) {

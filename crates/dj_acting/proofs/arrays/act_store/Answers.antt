@@ -1,6 +1,8 @@
 use Rattle.dj_initialising.specs.Store.{store}
 use Rattle.dj_acting.specs.Acting.{machine}
+use Rattle.dj_acting.specs.declared.acted.Acted.TheVariants as acts
 use Rattle.dj_acting.proofs.Families.{acted_on_heap}
+use Rattle.dj_acting.proofs.Frugal.{never_stuck}
 use Rattle.dj_types.specs.Typed.{types_of}
 use Rattle.dj_image.specs.Imaged.{typed_of}
 use Rattle.dj_stack.specs.Frames.{top_operands}
@@ -8,7 +10,7 @@ use Rattle.dj_effects.specs.Actions.{access_view}
 use Rattle.dj_acting.proofs.Effects.{store_is}
 use Rattle.dj_acting.proofs.KnownHeaps.{store_known}
 use Rattle.dj_acting.proofs.Takings.{taken_alike}
-use Rattle.std.proofs.Common.{Some}
+use Rattle.std.proofs.Common.{Some, None, refl}
 use Rattle.dj_acting.proofs.arrays.act_store.Goals as goal
 
 pub returns-clause-done : goal.returns-clause-done
@@ -21,4 +23,12 @@ returns-clause-done c =
 pub returns-clause-known : goal.returns-clause-known
 returns-clause-known c =
     store_known (types_of (typed_of c.args.image.now)) (λ r v. c.takes_top-is_taken.result) (access_view c.args.access) c.args.frames.now c.store_element.new.frames c.args.heap.now c.store_element.new.heap
-    c.in-Some.flow c.requires.known c.requires.top (c.in-Some.ensures (λ r v. c.takes_top-is_taken.result) (taken_alike c.takes_top-is_taken.result (top_operands c.args.frames.now)))
+    c.in-Some.flow c.requires.known (c.in-Some.ensures (λ r v. c.takes_top-is_taken.result) (taken_alike c.takes_top-is_taken.result (top_operands c.args.frames.now)))
+
+pub returns-in_default-clause-frugal : goal.returns-in_default-clause-frugal
+returns-in_default-clause-frugal c = λ statics literals are frugal.
+    never_stuck c.args.image.now _ (machine c.args.frames.now (store c.args.heap.now statics literals)) (machine c.store_element.new.frames (store c.store_element.new.heap statics literals)) frugal
+    (acted_on_heap c.args.image.now _ c.args.frames.now c.store_element.new.frames c.args.heap.now c.store_element.new.heap None acts.Stuck _ refl
+    (λ statics literals. store_is c.args.image.now (machine c.args.frames.now (store c.args.heap.now statics literals)) (access_view c.args.access) c.takes_top-is_taken.result
+    c.takes_top-is_taken.ensures)
+    (c.in_default.ensures (λ r v. c.takes_top-is_taken.result) (taken_alike c.takes_top-is_taken.result (top_operands c.args.frames.now))) statics literals are)

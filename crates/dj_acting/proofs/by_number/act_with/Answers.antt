@@ -1,8 +1,11 @@
-use Rattle.std.proofs.Common.{ap, refl}
+use Rattle.std.proofs.Common.{ap, refl, subst}
+use Rattle.dj_model.specs.Instructions.{Instruction}
 use Rattle.dj_names.specs.declared.run.Value.TheVariants as values
 use Rattle.dj_initialising.specs.Store.{store}
 use Rattle.dj_acting.specs.Numbers.{literal_value}
 use Rattle.dj_acting.specs.Acting.{machine}
+use Rattle.dj_acting.specs.Frugal.{IsFrugal}
+use Rattle.dj_acting.proofs.Frugal.{makes_nothing}
 use Rattle.dj_acting.proofs.OperandFacts.{class_used, done_as, field_used, field_within, if_ok_so, literal_is, method_calls, nothing_is, nothing_made, text_there, text_within}
 use Rattle.dj_acting.proofs.by_number.act_with.Goals as goal
 
@@ -19,13 +22,13 @@ pub returns-in-Int-clause-done : goal.returns-in-Int-clause-done
 returns-in-Int-clause-done c = λ named used.
     if_ok_so c.act_literal.result _ _
     (λ acted a. done_as c.args.image.now _ _ (machine c.args.frames.now (store c.args.heap.now c.args.statics.now c.args.literals.now)) (machine c.act_literal.new.frames (store c.args.heap.now c.args.statics.now c.args.literals.now)) acted (literal_is c.args.image.now c.args.instr.now c.args.operand named used (values.Int c.in-Int.field-0) (ap literal_value c.in-Int.is)) (a c.args.statics.now c.args.literals.now c.requires.are))
-    (c.act_literal.ensures c.args.image.now c.args.heap.now (values.Int c.in-Int.field-0) (ap literal_value c.in-Int.is))
+    (c.act_literal.ensures.done c.args.image.now c.args.heap.now (values.Int c.in-Int.field-0) (ap literal_value c.in-Int.is))
 
 pub returns-in-Long-clause-done : goal.returns-in-Long-clause-done
 returns-in-Long-clause-done c = λ named used.
     if_ok_so c.act_literal-in-Long.result _ _
     (λ acted a. done_as c.args.image.now _ _ (machine c.args.frames.now (store c.args.heap.now c.args.statics.now c.args.literals.now)) (machine c.act_literal-in-Long.new.frames (store c.args.heap.now c.args.statics.now c.args.literals.now)) acted (literal_is c.args.image.now c.args.instr.now c.args.operand named used (values.Long c.in-Long.field-0) (ap literal_value c.in-Long.is)) (a c.args.statics.now c.args.literals.now c.requires.are))
-    (c.act_literal-in-Long.ensures c.args.image.now c.args.heap.now (values.Long c.in-Long.field-0) (ap literal_value c.in-Long.is))
+    (c.act_literal-in-Long.ensures.done c.args.image.now c.args.heap.now (values.Long c.in-Long.field-0) (ap literal_value c.in-Long.is))
 
 pub act_push_text-requires-clause-within : goal.act_push_text-requires-clause-within
 act_push_text-requires-clause-within c = text_within c.args.image.now c.args.instr.now c.args.operand c.requires.used.0 c.requires.used.1 c.in-Text.text c.in-Text.is
@@ -59,3 +62,33 @@ returns-in-Field-clause-done c = λ named used.
 
 pub returns-in-Method-clause-done : goal.returns-in-Method-clause-done
 returns-in-Method-clause-done c = λ named used. (method_calls c.args.image.now c.args.instr.now c.args.operand named used _ c.in-Method.is, refl)
+
+pub returns-in-Nothing-clause-frugal : goal.returns-in-Nothing-clause-frugal
+returns-in-Nothing-clause-frugal c = λ named used some frugal.
+    c.act_unnamed.ensures.frugal c.args.statics.now c.args.literals.now c.requires.are
+    (subst (λ (i : Instruction). IsFrugal c.args.image.now i (machine c.args.frames.now (store c.args.heap.now c.args.statics.now c.args.literals.now))) (nothing_is c.args.image.now c.args.instr.now c.args.operand named used c.in-Nothing.is) frugal)
+
+pub returns-in-Int-clause-frugal : goal.returns-in-Int-clause-frugal
+returns-in-Int-clause-frugal c = λ named used some frugal.
+    c.act_literal.ensures.frugal c.args.image.now c.args.heap.now (values.Int c.in-Int.field-0) c.args.statics.now c.args.literals.now c.requires.are
+    (subst (λ (i : Instruction). IsFrugal c.args.image.now i (machine c.args.frames.now (store c.args.heap.now c.args.statics.now c.args.literals.now))) (literal_is c.args.image.now c.args.instr.now c.args.operand named used (values.Int c.in-Int.field-0) (ap literal_value c.in-Int.is)) frugal)
+
+pub returns-in-Long-clause-frugal : goal.returns-in-Long-clause-frugal
+returns-in-Long-clause-frugal c = λ named used some frugal.
+    c.act_literal-in-Long.ensures.frugal c.args.image.now c.args.heap.now (values.Long c.in-Long.field-0) c.args.statics.now c.args.literals.now c.requires.are
+    (subst (λ (i : Instruction). IsFrugal c.args.image.now i (machine c.args.frames.now (store c.args.heap.now c.args.statics.now c.args.literals.now))) (literal_is c.args.image.now c.args.instr.now c.args.operand named used (values.Long c.in-Long.field-0) (ap literal_value c.in-Long.is)) frugal)
+
+pub returns-in-Text-clause-frugal : goal.returns-in-Text-clause-frugal
+returns-in-Text-clause-frugal c = λ named used some frugal.
+    absurd (makes_nothing c.args.image.now _ _ (machine c.args.frames.now (store c.args.heap.now c.args.statics.now c.args.literals.now)) frugal (text_there c.args.image.now c.args.instr.now c.args.operand named used c.in-Text.text c.in-Text.is).1 refl)
+
+pub returns-in-Class-clause-frugal : goal.returns-in-Class-clause-frugal
+returns-in-Class-clause-frugal c = λ named used some frugal.
+    c.act_class.ensures.frugal named (class_used c.args.image.now c.args.instr.now c.args.operand named used c.in-Class.class c.in-Class.is) c.args.statics.now c.args.literals.now c.requires.are frugal
+
+pub returns-in-Field-clause-frugal : goal.returns-in-Field-clause-frugal
+returns-in-Field-clause-frugal c = λ named used some frugal.
+    c.act_field.ensures.frugal named (field_used c.args.image.now c.args.instr.now c.args.operand named used c.in-Field.field.number c.in-Field.is) c.args.literals.now c.requires.are frugal
+
+pub returns-in-Unresolved-clause-frugal : goal.returns-in-Unresolved-clause-frugal
+returns-in-Unresolved-clause-frugal c = λ named used some frugal. absurd (some c.in-Unresolved.is)

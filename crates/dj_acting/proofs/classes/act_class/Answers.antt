@@ -1,7 +1,10 @@
-use Rattle.std.proofs.Common.{sym, subst, ◌∙◌}
+use Rattle.std.proofs.Common.{sym, subst, refl, ◌∙◌}
+use Rattle.dj_initialising.specs.Store.{store}
 use Rattle.std.specs.Prelude.{IfOk}
 use Rattle.dj_model.specs.Instructions.{Instruction}
-use Rattle.dj_acting.specs.Acting.{ActsOnHeap}
+use Rattle.dj_acting.specs.Acting.{ActsOnHeap, machine}
+use Rattle.dj_acting.specs.Frugal.{FrugalOnHeap}
+use Rattle.dj_acting.proofs.Frugal.{makes_nothing}
 use Rattle.dj_acting.proofs.UsedFacts.{class_within, new_named, array_class, cast_class, instance_class, plain_made, plain_is, other_is, other_on_heap}
 use Rattle.dj_acting.proofs.classes.act_class.Goals as goal
 
@@ -59,3 +62,18 @@ pub returns-in-Other-clause-done : goal.returns-in-Other-clause-done
 returns-in-Other-clause-done c = λ named used.
     other_on_heap c.args.image.now _ c.args.frames.now c.args.heap.now
     (other_is c.args.image.now c.args.instr.now c.args.class named used (sym c.class_use.ensures ∙ c.in-Other.is))
+
+pub returns-in-New-clause-frugal : goal.returns-in-New-clause-frugal
+returns-in-New-clause-frugal c = λ named used statics literals are frugal.
+    absurd (makes_nothing c.args.image.now _ _ (machine c.args.frames.now (store c.args.heap.now statics literals)) frugal
+    (new_named c.args.image.now c.args.instr.now c.args.class named used (sym c.class_use.ensures ∙ c.in-New.is)).1 refl)
+
+pub returns-in-NewArray-clause-frugal : goal.returns-in-NewArray-clause-frugal
+returns-in-NewArray-clause-frugal c = λ named used statics literals are frugal.
+    absurd (makes_nothing c.args.image.now _ _ (machine c.args.frames.now (store c.args.heap.now statics literals)) frugal
+    (array_class c.args.image.now c.args.instr.now c.args.class named used c.requires.plain (sym c.class_use.ensures ∙ c.in-NewArray.is)).1 refl)
+
+pub returns-in-Plain-clause-frugal : goal.returns-in-Plain-clause-frugal
+returns-in-Plain-clause-frugal c = λ named used.
+    subst (λ (i : Instruction). FrugalOnHeap c.args.image.now i c.args.frames.now c.args.heap.now c.act_unnamed.result)
+    (sym (plain_is c.args.image.now c.args.instr.now c.args.class named used (sym c.class_use.ensures ∙ c.in-Plain.is))) c.act_unnamed.ensures.frugal

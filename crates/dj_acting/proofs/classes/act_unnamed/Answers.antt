@@ -2,6 +2,7 @@ use Rattle.std.proofs.Common.{sym, subst}
 use Rattle.std.specs.Prelude.{IfOk}
 use Rattle.dj_model.specs.Instructions.{Instruction}
 use Rattle.dj_acting.specs.Acting.{ActsOnHeap}
+use Rattle.dj_acting.specs.Frugal.{FrugalOnHeap}
 use Rattle.dj_acting.proofs.UsedFacts.{made_by_action, other_on_heap}
 use Rattle.dj_acting.proofs.classes.act_unnamed.Goals as goal
 
@@ -15,3 +16,7 @@ returns-in-Some-clause-done c =
 
 pub returns-in-None-clause-done : goal.returns-in-None-clause-done
 returns-in-None-clause-done c = other_on_heap c.args.image.now _ c.args.frames.now c.args.heap.now c.in-None.ensures
+
+pub returns-in-Some-clause-frugal : goal.returns-in-Some-clause-frugal
+returns-in-Some-clause-frugal c =
+    subst (λ (i : Instruction). FrugalOnHeap c.args.image.now i c.args.frames.now c.args.heap.now c.act_plain.result) (sym c.in-Some.ensures) c.act_plain.ensures.frugal

@@ -9,5 +9,5 @@ returns-in_default c = λ member found is. get_none c.args.image.now member foun
 pub returns : goal.returns
 returns c = λ member found is.
     subst (ActsOnHeap c.args.image.now _ c.args.frames.now c.get_field.new.frames c.args.heap.now c.args.heap.now) (sym c.flow_acted.ensures)
-    (got c.args.image.now member found c.args.field.number is c.requires.settled c.in-Some.access c.in-Some.ensures c.args.frames.now c.get_field.new.frames c.args.heap.now c.get_field.result
+    (got c.args.image.now member found c.args.field.number is c.in-Some.access c.in-Some.ensures c.args.frames.now c.get_field.new.frames c.args.heap.now c.get_field.result
     c.requires.known c.get_field.ensures)

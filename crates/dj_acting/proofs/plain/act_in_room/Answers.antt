@@ -1,8 +1,11 @@
-use Rattle.std.proofs.Common.{sym, ap, subst}
+use Rattle.std.proofs.Common.{sym, ap, subst, refl}
+use Rattle.dj_initialising.specs.Store.{store}
 use Rattle.std.specs.Prelude.{IfOk}
 use Rattle.dj_model.specs.Instructions.{Instruction}
 use Rattle.dj_effects.specs.Actions.{action_view}
-use Rattle.dj_acting.specs.Acting.{ActsOnHeap}
+use Rattle.dj_acting.specs.Acting.{ActsOnHeap, machine}
+use Rattle.dj_acting.specs.Frugal.{FrugalOnHeap}
+use Rattle.dj_acting.proofs.Frugal.{makes_nothing}
 use Rattle.dj_acting.proofs.Actions.{plain_acted, values_else}
 use Rattle.dj_acting.proofs.plain.act_in_room.Goals as goal
 
@@ -26,3 +29,11 @@ pub returns-in_default-clause-done : goal.returns-in_default-clause-done
 returns-in_default-clause-done c =
     subst (ActsOnHeap c.args.image.now _ c.args.frames.now c.act_on_values.new.frames c.args.heap.now c.args.heap.now) (sym c.way_acted.ensures)
     (plain_acted c.args.image.now c.args.action c.args.frames.now c.act_on_values.new.frames c.args.heap.now c.act_on_values.result (values_else c.args.action c.in_default.not-LoadElement c.in_default.not-StoreElement c.in_default.not-NewArray c.in_default.not-ArrayLength c.in_default.not-Throw) c.act_on_values.ensures)
+
+pub returns-in-StoreElement-clause-frugal : goal.returns-in-StoreElement-clause-frugal
+returns-in-StoreElement-clause-frugal c =
+    subst (λ (i : Instruction). FrugalOnHeap c.args.image.now i c.args.frames.now c.args.heap.now c.act_store.result) (sym (ap action_view c.in-StoreElement.is)) c.act_store.ensures.frugal
+
+pub returns-in-NewArray-clause-frugal : goal.returns-in-NewArray-clause-frugal
+returns-in-NewArray-clause-frugal c = λ statics literals are frugal.
+    absurd (makes_nothing c.args.image.now _ _ (machine c.args.frames.now (store c.args.heap.now statics literals)) frugal (ap action_view c.in-NewArray.is) refl)

@@ -1,5 +1,7 @@
+use Rattle.std.proofs.Common.{subst, sym}
 use Rattle.dj_host.specs.Hosted.{given_since}
-use Rattle.dj_image.specs.Imaged.{program_of}
+use Rattle.dj_model.specs.Standing.{AsksNothing}
+use Rattle.dj_image.specs.Imaged.{Imaged, program_of}
 use Rattle.dj_activations.specs.Activations.{declared_at}
 use Rattle.dj_step.specs.Machines.{start_outcome}
 use Rattle.dj_machine.proofs.EngineLaws.{ended_quietly, runs_from}
@@ -14,3 +16,7 @@ pub returns-in-Err-clause-ran : goal.returns-in-Err-clause-ran
 returns-in-Err-clause-ran g c =
     ended_quietly c.args.image.now (declared_at (program_of c.args.image.now) c.args.entry.number) c.args.input.now c.args.limits c.args.heap_limit c.args.steps
     (start_outcome c.in-Err.e) c.ended_at_start.result (g.H.Host.given c.args.host.now) c.in-Err.ensures.ends c.ended_at_start.ensures
+
+pub returns-in-Ok-clause-quiet : goal.returns-in-Ok-clause-quiet
+returns-in-Ok-clause-quiet g c = λ quiet.
+    c.run_machine.ensures.quiet (subst (λ (image : Imaged). AsksNothing (program_of image)) (sym c.in-Ok.ensures.begins.image) quiet)

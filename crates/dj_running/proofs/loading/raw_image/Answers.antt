@@ -1,11 +1,12 @@
-use Rattle.std.proofs.Common.{◌≡◌, map, subst, arith}
+use Rattle.std.proofs.Common.{◌≡◌, map, subst, sym, ◌∙◌, arith}
 use Rattle.dj_names.specs.Library.{Library, raw_library}
 use Rattle.dj_natives.specs.Views.{library_view}
 use Rattle.dj_class.specs.Views.{class_of}
 use Rattle.dj_program.specs.Programs.{IsProgramIn}
 use Rattle.dj_image.specs.Imaged.{program_of}
+use Rattle.dj_loader.specs.declared.error.LoadError.TheVariants as errors
 use Rattle.dj_sandbox.proofs.LateLaws.{ok_mapped}
-use Rattle.dj_running.proofs.LoadingLaws.{string_there, rows_described, few_rows, few_members}
+use Rattle.dj_running.proofs.LoadingLaws.{string_there, rows_described, few_rows, few_members, refused_memory}
 use Rattle.dj_running.proofs.loading.raw_image.Goals as goal
 
 pub load-requires-clause-described : goal.load-requires-clause-described
@@ -39,3 +40,27 @@ returns-in-Ok-clause-program c =
     let told : library_view c.in_ok-library.library ≡ raw_library =
     ok_mapped c.raw.result _ (λ library. library_view library ≡ raw_library) _ c.in_ok-library.ensures.cases c.in_ok-library.ensures.variant c.raw.ensures in
     subst (λ (l : Library). IsProgramIn l (map class_of c.args.views.now) (program_of c.in-Ok.image)) told c.in-Ok.ensures.program
+
+pub unreachable-requires : goal.unreachable-requires
+unreachable-requires c =
+    let told : library_view c.in_ok-library.library ≡ raw_library =
+    ok_mapped c.raw.result _ (λ library. library_view library ≡ raw_library) _ c.in_ok-library.ensures.cases c.in_ok-library.ensures.variant c.raw.ensures in
+    let memory = refused_memory c.in_ok-library.library c.args.views.now c.in-Err-Duplicate.field-0 told c.requires.loadable c.in-Err-Duplicate.ensures.refused in
+    let other : errors.Memory ≡ errors.Duplicate c.in-Err-Duplicate.field-0-0 = sym memory ∙ c.in-Err-Duplicate.field-0-is in
+    absurd cc
+
+pub unreachable-requires-in-Err-NoSuper : goal.unreachable-requires-in-Err-NoSuper
+unreachable-requires-in-Err-NoSuper c =
+    let told : library_view c.in_ok-library.library ≡ raw_library =
+    ok_mapped c.raw.result _ (λ library. library_view library ≡ raw_library) _ c.in_ok-library.ensures.cases c.in_ok-library.ensures.variant c.raw.ensures in
+    let memory = refused_memory c.in_ok-library.library c.args.views.now c.in-Err-NoSuper.field-0 told c.requires.loadable c.in-Err-NoSuper.ensures.refused in
+    let other : errors.Memory ≡ errors.NoSuper c.in-Err-NoSuper.field-0-0 = sym memory ∙ c.in-Err-NoSuper.field-0-is in
+    absurd cc
+
+pub unreachable-requires-in-Err-Cycle : goal.unreachable-requires-in-Err-Cycle
+unreachable-requires-in-Err-Cycle c =
+    let told : library_view c.in_ok-library.library ≡ raw_library =
+    ok_mapped c.raw.result _ (λ library. library_view library ≡ raw_library) _ c.in_ok-library.ensures.cases c.in_ok-library.ensures.variant c.raw.ensures in
+    let memory = refused_memory c.in_ok-library.library c.args.views.now c.in-Err-Cycle.field-0 told c.requires.loadable c.in-Err-Cycle.ensures.refused in
+    let other : errors.Memory ≡ errors.Cycle c.in-Err-Cycle.field-0-0 = sym memory ∙ c.in-Err-Cycle.field-0-is in
+    absurd cc

@@ -1,6 +1,5 @@
-use Rattle.std.proofs.Common.{◌∙◌, sym}
 use Rattle.dj_running.proofs.RunLaws.{unstopped_status}
 use Rattle.dj_running.proofs.raw_run.report_of.Goals as goal
 
 pub returns-clause-status : goal.returns-clause-status
-returns-clause-status c = unstopped_status c.args.ending.outcome (sym c.is_stopped.ensures ∙ c.if-is_stopped.false)
+returns-clause-status c = unstopped_status c.args.ending.outcome c.requires

@@ -1,35 +1,24 @@
-use Rattle.std.proofs.Common.{Option, IfOk, IfSome, sym, subst, arith}
+use Rattle.std.proofs.Common.{IfOk, sym, subst, arith}
 use Rattle.dj_model.specs.Types.{Declared}
 use Rattle.dj_model.specs.Standing.{IsEntry}
-use Rattle.dj_types.specs.declared.types.MethodId.{MethodId}
 use Rattle.dj_image.specs.Imaged.{program_of}
 use Rattle.dj_host.specs.Hosted.{given_since}
-use Rattle.dj_running.proofs.GivenNothing.{gave_nothing}
 use Rattle.dj_machine.specs.Engines.{RunsPlainly}
 use Rattle.dj_sandbox.specs.Limits.{most_heap_bytes}
-use Rattle.dj_running.specs.Loading.{IsEntryAt}
 use Rattle.dj_running.specs.Runs.{no_limits}
 use Rattle.dj_running.proofs.raw_run.run_image.Goals as goal
 
-pub returns-in_default-clause-gave : goal.returns-in_default-clause-gave
-returns-in_default-clause-gave g c = gave_nothing (g.H.Host.given c.args.host.now)
-
 pub plain-requires-clause-method : goal.plain-requires-clause-method
-plain-requires-clause-method g c =
-    let named = subst (λ (o : Option MethodId). IfSome o (λ method. IsEntryAt c.args.image.now c.args.entry.now method.number)) c.in-Some.is c.entry_in.ensures in
-    named.there
+plain-requires-clause-method g c = c.entry_in.ensures.there
 
 pub plain-requires-clause-entry : goal.plain-requires-clause-entry
-plain-requires-clause-entry g c =
-    let named = subst (λ (o : Option MethodId). IfSome o (λ method. IsEntryAt c.args.image.now c.args.entry.now method.number)) c.in-Some.is c.entry_in.ensures in
-    subst (IsEntry (program_of c.args.image.now)) (sym named.named) c.requires.entry
+plain-requires-clause-entry g c = subst (IsEntry (program_of c.args.image.now)) (sym c.entry_in.ensures.named) c.requires.entry
 
 pub plain-requires-clause-limits : goal.plain-requires-clause-limits
 plain-requires-clause-limits g c = record { alloc = omega arith; invoke = omega arith; jump = omega arith; throw = omega arith }
 
 pub returns-clause-ran : goal.returns-clause-ran
 returns-clause-ran g c =
-    let named = subst (λ (o : Option MethodId). IfSome o (λ method. IsEntryAt c.args.image.now c.args.entry.now method.number)) c.in-Some.is c.entry_in.ensures in
     subst (λ (entry : Declared). IfOk c.plain.result
     (RunsPlainly c.args.image.now entry c.args.input.now no_limits most_heap_bytes c.args.steps (given_since (g.H.Host.given c.args.host.now) (g.H.Host.given c.plain.new.host))))
-    named.named c.plain.ensures.ran
+    c.entry_in.ensures.named c.plain.ensures.ran

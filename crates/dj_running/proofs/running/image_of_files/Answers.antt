@@ -3,9 +3,12 @@ use Rattle.dj_class.specs.declared.class.ClassView.{ClassView}
 use Rattle.dj_class.specs.Views.{class_of}
 use Rattle.dj_rules.specs.Views.{path_file_view}
 use Rattle.dj_sandbox.specs.Checked.{AreGoodFiles}
-use Rattle.dj_running.proofs.LoadingLaws.{good_of, valid_views, whole_views, few_views}
+use Rattle.dj_running.proofs.LoadingLaws.{good_of, whole_files, valid_views, whole_views, few_views, loadable_views}
 use Rattle.dj_running.proofs.RunLaws.{image_is}
 use Rattle.dj_running.proofs.running.image_of_files.Goals as goal
+
+pub views_of-requires-clause-whole : goal.views_of-requires-clause-whole
+views_of-requires-clause-whole c = whole_files c.args.files.now c.requires.silent
 
 pub raw_image-requires-clause-valid : goal.raw_image-requires-clause-valid
 raw_image-requires-clause-valid c =
@@ -24,6 +27,13 @@ raw_image-requires-clause-coded c =
 pub raw_image-requires-clause-few : goal.raw_image-requires-clause-few
 raw_image-requires-clause-few c =
     subst (λ (views : List ClassView). length views ≤ 4096) (sym c.deref.ensures.value) (few_views c.args.files.now c.in_ok-views.views.items c.requires.few c.in_ok-views.ensures)
+
+pub raw_image-requires-clause-loadable : goal.raw_image-requires-clause-loadable
+raw_image-requires-clause-loadable c =
+    let files = map path_file_view c.args.files.now in
+    let good = good_of files (map class_of c.in_ok-views.views.items) c.requires.silent c.in_ok-views.ensures in
+    let lent = subst (λ (views : List ClassView). AreGoodFiles files (map class_of views)) (sym c.deref.ensures.value) good in
+    loadable_views files c.deref.result.now c.requires.silent lent
 
 pub returns : goal.returns
 returns c =

@@ -1,12 +1,9 @@
-use Rattle.std.proofs.Common.{Some, map, inl}
+use Rattle.std.proofs.Common.{map}
 use Rattle.std.proofs.lemmas.Result.{err_from_is_err_and}
-use Rattle.dj_edge.proofs.Lists.{ok_so}
 use Rattle.dj_rules.specs.Views.{path_file_view}
 use Rattle.dj_host.specs.Hosted.{given_since}
 use Rattle.dj_running.proofs.GivenNothing.{gave_nothing}
-use Rattle.dj_sandbox.specs.Judging.{RunsRaw}
-use Rattle.dj_running.specs.Runs.{TellsEnding}
-use Rattle.dj_running.proofs.RunLaws.{image_sound, image_entry, runs_raw, adds_told, adds_nothing}
+use Rattle.dj_running.proofs.RunLaws.{image_sound, image_entry, runs_unstopped, runs_raw, adds_told, adds_nothing}
 use Rattle.dj_running.proofs.running.run_files.Goals as goal
 
 pub image_of_files-requires-clause-silent : goal.image_of_files-requires-clause-silent
@@ -27,12 +24,16 @@ run_image-requires-clause-sound g c = image_sound (map path_file_view c.args.fil
 pub run_image-requires-clause-entry : goal.run_image-requires-clause-entry
 run_image-requires-clause-entry g c = image_entry (map path_file_view c.args.files.now) c.args.entry.now c.in_ok-image.image c.in_ok-image.ensures c.requires.silent
 
+pub report_of-requires : goal.report_of-requires
+report_of-requires g c =
+    runs_unstopped (map path_file_view c.args.files.now) c.args.entry.now c.in_ok-image.image c.in_ok-image.ensures c.requires.silent c.args.input.now c.args.steps
+    (given_since (g.H.Host.given c.args.host.now) (g.H.Host.given c.run_image.new.host)) c.in-Ok.ending c.in-Ok.ensures.ran
+
 pub returns-in-Ok-clause-ran : goal.returns-in-Ok-clause-ran
 returns-in-Ok-clause-ran g c =
     let files = map path_file_view c.args.files.now in
     let gave = given_since (g.H.Host.given c.args.host.now) (g.H.Host.given c.run_image.new.host) in
-    ok_so c.report_of.result (TellsEnding c.in-Ok.ending) (λ report. RunsRaw files c.args.entry.now c.args.input.now c.args.steps gave (Some report))
-    (λ report told. runs_raw files c.args.entry.now c.in_ok-image.image c.in_ok-image.ensures c.requires.silent c.args.input.now c.args.steps gave c.in-Ok.ending report c.in-Ok.ensures.ran told)
+    runs_raw files c.args.entry.now c.in_ok-image.image c.in_ok-image.ensures c.requires.silent c.args.input.now c.args.steps gave c.in-Ok.ending c.report_of.result c.in-Ok.ensures.ran
     c.report_of.ensures.told
 
 pub returns-in-Ok-clause-runs : goal.returns-in-Ok-clause-runs
@@ -40,7 +41,4 @@ returns-in-Ok-clause-runs g c =
     let files = map path_file_view c.args.files.now in
     let gave = given_since (g.H.Host.given c.args.host.now) (g.H.Host.given c.run_image.new.host) in
     adds_told files c.args.entry.now c.in_ok-image.image c.in_ok-image.ensures c.requires.silent c.args.input.now c.args.steps gave
-    (g.E.Engine.runs c.args.engine.now) (g.E.Engine.runs c.run_image.new.engine) c.in-Ok.ending c.report_of.result c.in-Ok.ensures.ran c.in-Ok.ensures.runs
-
-pub returns-clause-runs : goal.returns-clause-runs
-returns-clause-runs g c = inl c.in-Err.ensures.runs
+    (g.E.Engine.runs c.args.engine.now) (g.E.Engine.runs c.run_image.new.engine) c.in-Ok.ending c.in-Ok.ensures.ran c.in-Ok.ensures.runs

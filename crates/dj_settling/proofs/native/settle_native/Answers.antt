@@ -16,7 +16,7 @@ returns-in-Nothing-clause-settles c = λ flow e.
     subst (λ (answer : NativeAnswer). flow_told c.args.id c.args.args.now answer ≡ Some flow
     → IfOk c.go_next.result (λ settled. Settles image c.args.exceeded (native_settled (program_of image) image.prefix (given answer) flow) c.args.heap.now c.args.heap.now c.args.frames.now c.go_next.new.frames settled))
     (sym c.in-Nothing.is)
-    (λ told. as_native image c.args.exceeded flow (Goes Next) c.args.heap.now c.args.heap.now c.args.frames.now c.go_next.new.frames c.go_next.result (c.go_next.ensures c.args.exceeded) told) e
+    (λ told. as_native image c.args.exceeded flow (Goes Next) c.args.heap.now c.args.heap.now c.args.frames.now c.go_next.new.frames c.go_next.result (c.go_next.ensures.settles c.args.exceeded) told) e
 
 pub returns-in-Full-clause-settles : goal.returns-in-Full-clause-settles
 returns-in-Full-clause-settles c = λ flow e.

@@ -12,7 +12,7 @@ use Rattle.dj_settling.specs.declared.settled.Settled.TheVariants as settles
 use Rattle.dj_turning.specs.Running.{Running}
 use Rattle.dj_turning.specs.Doing.{TurnsBy, doing}
 use Rattle.dj_turning.specs.Calling.{IsInvoked, before}
-use Rattle.dj_turning.proofs.Called.{calls_native, deep_turns, entered_turns, link_turns, native_before, native_given, native_some, native_still, raised_stand, raised_then}
+use Rattle.dj_turning.proofs.Called.{calls_native, deep_turns, entered_turns, link_turns, native_before, native_given, native_quiet, native_some, native_still, raised_stand, raised_then}
 use Rattle.dj_turning.proofs.Performed.{none_then, none_turns}
 use Rattle.dj_turning.proofs.calling.settle_call.Goals as goal
 
@@ -62,3 +62,10 @@ call_method-requires-clause-given g c =
     let k = c.requires.invoked in
     let native = subst (IsInvoked c.args.image.now k.0 k.1 k.2 c.args.run.now) c.in-Native.is k.3 in
     native_given c.args.image.now k.1 k.2 c.args.run.now.parts.flags c.args.run.now.parts.store c.args.run.now.counter c.args.run.now.stop k.0 c.args.run.now.parts.frames _ _ c.requires.sound native
+
+pub returns-in-Native-clause-quiet : goal.returns-in-Native-clause-quiet
+returns-in-Native-clause-quiet g c = λ quiet.
+    let k = c.requires.invoked in
+    let native = subst (IsInvoked c.args.image.now k.0 k.1 k.2 c.args.run.now) c.in-Native.is k.3 in
+    c.call_method.ensures.quiet
+    (native_quiet c.args.image.now k.1 k.2 c.args.run.now.parts.flags c.args.run.now.parts.store c.args.run.now.counter c.args.run.now.stop k.0 c.args.run.now.parts.frames _ _ quiet native)

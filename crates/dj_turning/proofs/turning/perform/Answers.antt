@@ -7,6 +7,7 @@ use Rattle.dj_turning.specs.Running.{IsRunning, Running}
 use Rattle.dj_turning.specs.Doing.{ActedSettles, IsStill, IsTop, IsUsed, PreparesNext, TurnsBy, doing}
 use Rattle.dj_turning.proofs.Prepared.{next_turns}
 use Rattle.dj_turning.proofs.Performed.{none_then, own_class, still_of}
+use Rattle.dj_turning.proofs.SoundRuns.{never_called}
 use Rattle.dj_turning.proofs.UsedLaws.{site_within}
 use Rattle.dj_turning.proofs.turning.perform.Goals as goal
 
@@ -26,9 +27,6 @@ call-requires-clause-named g c =
 pub call-requires-clause-called : goal.call-requires-clause-called
 call-requires-clause-called g c = let at = c.in-Some.ensures.calls in (at.called, at.member, at.resolved, at.mode, at.resolves, at.method, at.kinds)
 
-pub act_next-requires-clause-still : goal.act_next-requires-clause-still
-act_next-requires-clause-still g c = still_of _ _ c.requires.running
-
 pub returns-in-Some-clause-turns : goal.returns-in-Some-clause-turns
 returns-in-Some-clause-turns g c =
     let at = c.in-Some.ensures.calls in
@@ -41,4 +39,10 @@ returns-in-None-clause-turns g c =
     let stands = c.top_of-top.ensures.stands in
     next_turns c.args.image.now c.args.run.now c.act_next.new.run _ _ _ stands.instruction c.act_next.result
     (subst (λ (r : Running). IsTop c.args.image.now r.parts.frames c.top_of-top.result.method.number c.top_of-top.result.number) c.run.view_is c.top_of-top.ensures) stands.at
-    (none_then c.args.image.now (doing c.args.image.now stands.instruction) c.args.run.now c.act_next.new.run (g.H.Host.given c.args.host.now) c.act_next.result (c.act_next.ensures stands.instruction stands.at))
+    (none_then c.args.image.now (doing c.args.image.now stands.instruction) c.args.run.now c.act_next.new.run (g.H.Host.given c.args.host.now) c.act_next.result (c.act_next.ensures.turns stands.instruction stands.at))
+
+pub returns-in-Some-clause-frugal : goal.returns-in-Some-clause-frugal
+returns-in-Some-clause-frugal g c = λ n.
+    let at = c.in-Some.ensures.calls in
+    absurd (never_called c.args.image.now c.args.run.now c.top_of-top.result.method.number c.top_of-top.result.number at.called at.member
+    (subst (λ (r : Running). IsTop c.args.image.now r.parts.frames c.top_of-top.result.method.number c.top_of-top.result.number) c.run.view_is c.top_of-top.ensures) at.is n)

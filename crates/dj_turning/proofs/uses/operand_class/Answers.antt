@@ -1,4 +1,5 @@
 use Rattle.dj_activations.proofs.InstructionFacts.{has_instr}
+use Rattle.dj_turning.proofs.GivenOperands.{given_operand}
 use Rattle.dj_turning.proofs.UsedLaws.{named_then, operand_named}
 use Rattle.dj_turning.proofs.uses.operand_class.Goals as goal
 
@@ -13,9 +14,14 @@ class_of_operand-requires c = (
       c.operand-operand.ensures,
 )
 
-pub returns : goal.returns
-returns c = λ i told.
+pub returns-clause-used : goal.returns-clause-used
+returns-clause-used c = λ i told.
     let named = c.instr_of-instr.ensures.0 in
     named_then c.args.image.now c.args.method.number c.args.number c.instr_of-instr.result.now named c.class_of_operand.result c.instr_of-instr.ensures.1
-    (c.class_of_operand.ensures named
+    (c.class_of_operand.ensures.used named
     (operand_named c.args.image.now c.args.method.number c.args.number c.instr_of-instr.result.now named c.operand-operand.result c.requires.sound c.instr_of-instr.ensures.1 c.operand-operand.ensures)) i told
+
+pub returns-clause-frugal : goal.returns-clause-frugal
+returns-clause-frugal c = λ i told none known.
+    c.class_of_operand.ensures.frugal (given_operand c.args.image.now c.is_numbered.ensures c.args.method.number c.args.number c.instr_of-instr.result.now c.instr_of-instr.ensures.0 c.operand-operand.result i
+    c.requires.sound c.instr_of-instr.ensures.1 c.operand-operand.ensures told none known)

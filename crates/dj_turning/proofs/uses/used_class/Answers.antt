@@ -4,5 +4,5 @@ use Rattle.dj_turning.proofs.uses.used_class.Goals as goal
 pub called_class-requires : goal.called_class-requires
 called_class-requires c = record { there = site_within c.args.image.now c.args.method.number c.args.number c.in-Some.site c.in-Some.ensures.calls }
 
-pub returns-in-Some : goal.returns-in-Some
-returns-in-Some c = λ i told. call_used c.args.image.now c.args.method.number c.args.number c.in-Some.site c.called_class.result c.in-Some.ensures.calls c.called_class.ensures i told
+pub returns-in-Some-clause-used : goal.returns-in-Some-clause-used
+returns-in-Some-clause-used c = λ i told. call_used c.args.image.now c.args.method.number c.args.number c.in-Some.site c.called_class.result c.in-Some.ensures.calls c.called_class.ensures i told

@@ -11,8 +11,8 @@ use Rattle.dj_unwinding.proofs.rows.handler_in.Goals as goal
 abbrev none : Protected
 none = record { start = 0; end = 0; handler = 0; catch_type = 0 }
 
-pub returns-then-branch : goal.returns-then-branch
-returns-then-branch c =
+pub returns-then-branch-clause-found : goal.returns-then-branch-clause-found
+returns-then-branch-clause-found c =
     let image = c.args.image.now in
     let at = c.loop-at.at in
     let rows = c.as_slice-row-items.result.now in
@@ -20,7 +20,7 @@ returns-then-branch c =
     ap (λ (xs : List Protected). slice_get xs at) (sym c.as_slice-row-items.ensures) ∙ slice_get-get_or rows at none c.loop-at-test.true in
     let is : IsRowOf image c.args.method.number at (get_or rows at none) = record { code = c.args.code.now; told = c.requires.told; stands = stands } in
     found_here image c.args.method.number (type_at (typed_of image) c.args.class) c.args.number at (get_or rows at none) is c.loop-at.invariant
-    (λ range e. sym c.if-branch.true ∙ c.in_ok-handles.ensures range e)
+    (λ range e. sym c.if-branch.true ∙ c.in_ok-handles.ensures.tells range e)
 
 pub loop-at-preserved : goal.loop-at-preserved
 loop-at-preserved c =
@@ -31,10 +31,10 @@ loop-at-preserved c =
     ap (λ (xs : List Protected). slice_get xs at) (sym c.as_slice-row-items.ensures) ∙ slice_get-get_or rows at none c.loop-at-test.true in
     let is : IsRowOf image c.args.method.number at (get_or rows at none) = record { code = c.args.code.now; told = c.requires.told; stands = stands } in
     passed_here image c.args.method.number (type_at (typed_of image) c.args.class) c.args.number at (get_or rows at none) is c.loop-at.invariant
-    (λ range e. sym c.if-branch.false ∙ c.in_ok-handles.ensures range e)
+    (λ range e. sym c.if-branch.false ∙ c.in_ok-handles.ensures.tells range e)
 
-pub returns : goal.returns
-returns c =
+pub returns-clause-found : goal.returns-clause-found
+returns-clause-found c =
     let image = c.args.image.now in
     let items = c.as_slice-row-items.ensures in
     found_nowhere image c.args.method.number (type_at (typed_of image) c.args.class) c.args.number c.loop-at.at c.args.code.now c.requires.told c.loop-at.invariant

@@ -10,11 +10,11 @@ use Rattle.dj_directory.proofs.directory.Directory.fields_of.Goals as goal
 pub returns-clause-there : goal.returns-clause-there
 returns-clause-there c =
     subst (λ (d : Numbering). (row : MemberRow) → Contains c.rows_with.result.now row → row.class < length d.program) c.self.view_is
-    (λ row there. field_there c.self.inside.table.now c.self.inside.numbers c.self.inside.methods.items c.self.inside.fields.items c.self.invariant c.args.name c.args.desc row
-    ((subst (λ (rows : List MemberRow). AreRowsWith rows c.args.name c.args.desc c.rows_with.result.now) c.deref.ensures.value c.rows_with.ensures).each row there).0)
+    (λ row there. field_there c.self.inside.table.now c.self.inside.numbers c.self.inside.methods.items c.self.inside.fields.items c.self.inside.first_methods.items c.self.inside.first_fields.items c.self.invariant c.args.name c.args.desc row
+    (c.self.invariant.first_fields_are.within row ((subst (λ (rows : List MemberRow). AreRowsWith rows c.args.name c.args.desc c.rows_with.result.now) c.deref.ensures.value c.rows_with.ensures).each row there).0))
 
 pub returns-clause-declare : goal.returns-clause-declare
 returns-clause-declare c =
     subst (λ (numbering : Numbering). (n d : List ℕ) → number_of numbering n ≡ Some c.args.name → number_of numbering d ≡ Some c.args.desc → IsDescriptor d → DeclareFields numbering.program n (desc_in d) c.rows_with.result.now) c.self.view_is
-    (fields_declared c.self.inside.table.now c.self.inside.numbers c.self.inside.methods.items c.self.inside.fields.items c.self.invariant c.args.name c.args.desc c.rows_with.result.now c.class_count.ensures.few
+    (fields_declared c.self.inside.table.now c.self.inside.numbers c.self.inside.methods.items c.self.inside.fields.items c.self.inside.first_methods.items c.self.inside.first_fields.items c.self.invariant c.args.name c.args.desc c.rows_with.result.now c.class_count.ensures.few
     (subst (λ (rows : List MemberRow). AreRowsWith rows c.args.name c.args.desc c.rows_with.result.now) c.deref.ensures.value c.rows_with.ensures))

@@ -1,0 +1,12 @@
+use Rattle.dj_model.specs.Instructions as model
+use Rattle.dj_acting.proofs.BegunLaws.{begun_by, left_number, left_some}
+use Rattle.dj_acting.proofs.unnamed.begin_length.Goals as goal
+
+pub follow-requires-clause-some : goal.follow-requires-clause-some
+follow-requires-clause-some c = left_some c.args.image.now (model.ArrayLength) c.args.frames.now c.act_length-acted.new.frames c.args.heap.now c.args.heap.now c.act_length-acted.result c.requires.store c.act_length-acted.ensures c.requires.some
+
+pub follow-requires-clause-number : goal.follow-requires-clause-number
+follow-requires-clause-number c = left_number c.args.image.now (model.ArrayLength) c.args.frames.now c.act_length-acted.new.frames c.args.heap.now c.args.heap.now c.act_length-acted.result c.requires.store c.act_length-acted.ensures c.args.number c.requires.number
+
+pub returns : goal.returns
+returns c = begun_by c.args.image.now (model.ArrayLength) c.args.frames.now c.act_length-acted.new.frames c.follow.new.frames c.args.heap.now c.args.heap.now c.act_length-acted.result c.follow.result c.act_length-acted.ensures c.follow.ensures

@@ -1,0 +1,7 @@
+use Rattle.std.proofs.Common.{◌≡◌, length}
+use Rattle.dj_directory.specs.Spans.{AreNearest}
+use Rattle.dj_directory.proofs.marks.nearest_of.Given as goal
+
+-- those of the marks so far
+abbrev pub invariant-loop-mark : goal.invariant-loop-mark
+invariant-loop-mark l = (length l.nearest.items ≡ l.mark-index) × AreNearest l.spans l.marks l.nearest.items

@@ -1,0 +1,7 @@
+use Rattle.std.proofs.Common.{ℕ, ◌<◌}
+use Rattle.dj_directory.specs.Spans.{IsNested}
+use Rattle.dj_directory.proofs.spans.Spans.are_nested.Given as goal
+
+-- those so far
+abbrev pub invariant-loop-class : goal.invariant-loop-class
+invariant-loop-class l = (k : ℕ) → k < l.class → IsNested l.table l.self k

@@ -1,5 +1,0 @@
-use Rattle.std.proofs.Common.{◌<◌, length, IfSome}
-use Rattle.dj_linking.proofs.costly.has_long_chain.Given as goal
-
-abbrev pub invariant-loop : goal.invariant-loop
-invariant-loop l = IfSome l.next (λ at. at < length l.table)
