@@ -2,6 +2,7 @@
 
 import difflib
 import os
+import re
 import shutil
 import subprocess
 import sys
@@ -10,9 +11,28 @@ import tempfile
 SECONDS = 120
 
 
+# The line on standard error beside a report, by its status.
+USAGE = (
+    b"djvm 0.1.0; usage: djvm check FOLDER | djvm verify FOLDER ENTRY INPUT [--alloc N] [--invoke N] [--jump N] [--throw N]"
+    b" | djvm raw FOLDER ENTRY INPUT [--steps N] | djvm assemble FILE\n"
+)
+NO_CLASS_FILE = b"djvm: the folder has no class file: give the folder that javac -d wrote\n"
+NO_RIGHT_PATH = b"djvm: no path is that of its class: give the folder that javac -d wrote\n"
+OF_A_PATH = rb"djvm: \"[^\n]*\": [^\n]+\n"
+NOTES = {
+    64: re.escape(USAGE),
+    65: OF_A_PATH,
+    66: rb"djvm: standard output: [^\n]+\n",
+    67: rb"djvm: there was not enough memory\n|" + OF_A_PATH,
+}
+
+
 class Outcome:
-    def __init__(self, status, stdout, stderr=b""):
-        self.status, self.stdout, self.stderr = status, stdout, stderr
+    """How a run ended and what it wrote. `stderr` is all of what it wrote on standard error, or a wanted one; none where any line that
+    fits the report is right. The reference checker writes no such line, so its outcomes have no notes."""
+
+    def __init__(self, status, stdout, stderr=None, has_notes=True):
+        self.status, self.stdout, self.stderr, self.has_notes = status, stdout, stderr, has_notes
 
 
 def run(program, words, folder, stdout=subprocess.PIPE, before=None):
@@ -22,14 +42,14 @@ def run(program, words, folder, stdout=subprocess.PIPE, before=None):
             [program, *words], cwd=folder, stdin=subprocess.DEVNULL, stdout=stdout, stderr=subprocess.PIPE, preexec_fn=before
         )
     except (OSError, subprocess.SubprocessError) as error:
-        return Outcome("none, it can't be started: %s" % error, b"")
+        return Outcome("none, it can't be started: %s" % error, b"", b"")
     try:
         written, errors = process.communicate(timeout=SECONDS)
     except subprocess.TimeoutExpired:
         process.kill()
         written, errors = process.communicate()
         return Outcome("none after %d seconds" % SECONDS, written or b"", errors)
-    return Outcome(process.returncode, written or b"", errors)
+    return Outcome(process.returncode, written or b"", errors, not os.fsdecode(program).endswith(".py"))
 
 
 def tree(folder):
@@ -57,6 +77,33 @@ def copy(source, target, backwards):
             shutil.copyfile(one, other)
 
 
+def names_all_paths(lines):
+    """Whether these lines of a rejected report are of paths that break the rule NAME, each of them."""
+    words = [line.split(b" ") for line in lines]
+    return {it[0] for it in words} == {it[0] for it in words if it[-1] == b"NAME"}
+
+
+def fits_report(outcome):
+    """Whether what was written on standard error fits the report: where there may be a hint, nothing fits too."""
+    lines = outcome.stdout.split(b"\n")[1:-1]
+    if outcome.status in NOTES:
+        return re.fullmatch(NOTES[outcome.status], outcome.stderr)
+    if outcome.stdout == b"ACCEPTED 0\n":
+        return outcome.stderr == NO_CLASS_FILE
+    if outcome.status == 2 and outcome.stderr == NO_CLASS_FILE:
+        return len(lines) == 1 and lines[0].endswith(b" ENTRY")
+    if outcome.status == 2 and outcome.stderr == NO_RIGHT_PATH:
+        return names_all_paths(lines)
+    return not outcome.stderr
+
+
+def has_right_note(wanted, outcome):
+    """Whether what was written on standard error is what is wanted."""
+    if not outcome.has_notes:
+        return not outcome.stderr
+    return fits_report(outcome) if wanted.stderr is None else outcome.stderr == wanted.stderr
+
+
 def difference(wanted, outcome, before=None, after=None):
     """The lines that say how an outcome differs from the wanted one; none where it doesn't."""
     lines = []
@@ -65,9 +112,9 @@ def difference(wanted, outcome, before=None, after=None):
     if outcome.stdout != wanted.stdout:
         lines.append("standard output:")
         lines += difflib.unified_diff(shown(wanted.stdout), shown(outcome.stdout), "wanted", "written", lineterm="")
-    if outcome.stderr:
-        lines.append("standard error isn't empty:")
-        lines += shown(outcome.stderr)
+    if not has_right_note(wanted, outcome):
+        lines.append("standard error:")
+        lines += difflib.unified_diff(shown(wanted.stderr or b""), shown(outcome.stderr), "wanted", "written", lineterm="")
     if before != after:
         changed = sorted(path for path in before.keys() | after.keys() if before.get(path) != after.get(path))
         lines.append("written in the folder:")

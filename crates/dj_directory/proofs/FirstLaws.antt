@@ -8,7 +8,8 @@ use Rattle.std.proofs.lemmas.List.Elements.{Contains-push, Contains-push_cases, 
 use Rattle.std.proofs.lemmas.List.Quantifiers.{all_pairs_push}
 use Rattle.std.proofs.lemmas.List.Sorted.{IsNonDecreasingBy-push, IsNonDecreasingBy-short}
 use Rattle.dj_directory.specs.declared.rows.MemberRow.{MemberRow}
-use Rattle.dj_directory.specs.Rows.{key_of, Fits, AreInOrder, IsSuch, IsLeast, IsTold, row_at, AreAlike, IsRepeat, HasFirst, AreFirst}
+use Rattle.dj_directory.specs.Rows.{key_of, Fits, AreInOrder, IsSuch, IsLeast, IsTold, row_at, AreAlike, IsRepeat, HasFirst, AreFirst, AreRowsWith}
+use Rattle.dj_directory.specs.Numberings.{ClassesDiffer}
 use Rattle.dj_directory.proofs.RowLaws.{fit_all, such_between, such_key}
 use Rattle.dj_directory.proofs.SpanLaws.{ascend_at}
 
@@ -222,3 +223,19 @@ module _ (rows firsts : List MemberRow) (are : AreFirst rows firsts) (name desc 
       ]
     ];
   }
+
+-- ---- the rows of two numbers among the first ones
+
+-- each class comes once
+pub classes_differ : (rows firsts found : List MemberRow) (name desc : ℕ) → AreFirst rows firsts → AreRowsWith firsts name desc found → ClassesDiffer found
+classes_differ rows firsts found name desc are with_them i j d before lt same =
+    let one : MemberRow = get_or found i d in
+    let other : MemberRow = get_or found j d in
+    let at : ℕ = with_them.first in
+    let within = with_them.stand.within in
+    let less : i < length found = omega (arith, before, lt) in
+    let own = with_them.each one (i, less, get_or_default found i one d less) in
+    let also = with_them.each other (j, lt, get_or_default found j other d lt) in
+    let alike : AreAlike one other = record { name_is = also.1.0 ∙ sym own.1.0; desc_is = also.1.1 ∙ sym own.1.1; class_is = sym same } in
+    are.once (at + i) (at + j) d (omega (arith, before)) (omega (arith, lt, within))
+    (subst (λ (r : MemberRow). AreAlike r (get_or firsts (at + j) d)) (with_them.stand.same i d less) (subst (λ (r : MemberRow). AreAlike one r) (with_them.stand.same j d lt) alike))

@@ -17,7 +17,7 @@ use Rattle.dj_directory.specs.Rows.{Named, method_named, field_named, Members, N
 
 -- ---- one row
 
-kept_row : (old new : Numbers) (members : Members) → Keep old new → (row : MemberRow) → IsRow old members row → IsRow new members row
+pub kept_row : (old new : Numbers) (members : Members) → Keep old new → (row : MemberRow) → IsRow old members row → IsRow new members row
 kept_row old new members keep row is = record {
   name = is.name;
   text = is.text;

@@ -6,3 +6,5 @@ pub mod GatherLaws
 pub mod PlaceLaws
 pub mod CallLaws
 mod DirectoryFacts
+mod SpanFacts
+mod CallFacts

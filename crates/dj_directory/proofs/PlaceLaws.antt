@@ -17,6 +17,7 @@ use Rattle.dj_classes.specs.Tables.{methods_of, methods_at, fields_at}
 use Rattle.dj_directory.specs.Numberings.{DeclareFields, DeclareMethods, Numbering, number_among, number_of}
 use Rattle.dj_directory.specs.declared.rows.MemberRow.{MemberRow}
 use Rattle.dj_directory.specs.Rows.{Named, method_named, field_named, methods_named, fields_named, Members, place_of, Texts, texts_of, number_in, AreDifferent, IsSuch, IsTold, IsRow, AreRows, AreRowsWith, IsDirectory}
+use Rattle.dj_directory.proofs.GatherLaws.{kept_row}
 use Rattle.dj_directory.proofs.NumberLaws.{number_is}
 use Rattle.dj_directory.proofs.FirstLaws.{told_by_first, least_first, such_first}
 
@@ -260,6 +261,11 @@ module _ (program : Program) (texts : Texts) (methods fields first_methods first
     | inr past ↦ ap (λ (all : List Field). field_place all n (desc_in d)) (no_fields program class past)
   ]
 
+  -- the row has the numbers that the directory gives
+  pub method_row : (row : MemberRow) → Contains methods row → IsRow (number_among (texts_of texts)) (methods_named program) row
+  method_row row there =
+      kept_row (number_in texts) (number_among (texts_of texts)) (methods_named program) (λ text n e. number_is texts text ∙ e) row (row_in texts (methods_named program) (length program) methods is.methods_are row there)
+
   -- a method of such a row is there
   pub method_there : (name desc : ℕ) (row : MemberRow) → Contains methods row → row.class < length program
   method_there name desc row there = elim (cases_lt row.class (length program)) [
@@ -307,6 +313,11 @@ module _ (program : Program) (texts : Texts) (methods fields first_methods first
       let lt = inside (methods_named program row.class) row.place (own.name, own.desc) own.there in
       let count = length-map (methods_at program row.class) method_named in
       omega (arith, lt, count)
+
+  -- the row has the numbers that the directory gives
+  pub field_row : (row : MemberRow) → Contains fields row → IsRow (number_among (texts_of texts)) (fields_named program) row
+  field_row row there =
+      kept_row (number_in texts) (number_among (texts_of texts)) (fields_named program) (λ text n e. number_is texts text ∙ e) row (row_in texts (fields_named program) (length program) fields is.fields_are row there)
 
   -- a field of such a row is there
   pub field_there : (name desc : ℕ) (row : MemberRow) → Contains fields row → row.class < length program

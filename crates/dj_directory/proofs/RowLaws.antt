@@ -170,7 +170,15 @@ pub are_rows_with : (rows rest found : List MemberRow) (name desc first end : �
     → IsPointAt rows (target name desc 0) first → IsPointAt rest (target name desc 4294967295) end → AreRowsWith rows name desc found
 are_rows_with rows rest found name desc first end order desc_fits within rest_is within_rest found_is low high =
     let rest_count : length rest ≡ length rows - first = ap length rest_is ∙ length-drop first rows in
+    let found_count : length found ≡ end = ap length found_is ∙ length-take-le end rest within_rest in
     record {
+      first = first;
+      stand = record {
+        within = omega (arith, found_count, within_rest, rest_count, within);
+        same = λ k d lt.
+            (let before : k < end = omega (arith, lt, found_count) in
+            ap (λ (rs : List MemberRow). get_or rs k d) found_is ∙ get_or-take end rest k d before ∙ ap (λ (rs : List MemberRow). get_or rs k d) rest_is ∙ get_or-drop first rows k d);
+      };
       each = λ row there.
           (let k : ℕ = there.0 in
           let count : length found ≡ end = ap length found_is ∙ length-take-le end rest within_rest in

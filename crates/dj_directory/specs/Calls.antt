@@ -1,5 +1,6 @@
 -- What calls look in: of each class the first method of a name and a descriptor, where a call may take it.
 use Rattle.std.specs.Prelude.{◌≡◌, ℕ, ◌<◌, ◌≤◌, ◌&&◌, Bool, true, false, not, List, Contains, Option, Some, None, IfSome, length, slice_get}
+use Rattle.std.specs.List.Sorted.{IsNonDecreasingBy}
 use Rattle.dj_names.specs.Types.{Name}
 use Rattle.dj_names.specs.declared.descriptor.Desc.{Desc}
 use Rattle.dj_model.specs.Program.{Program, Method, is_private, is_static}
@@ -105,6 +106,8 @@ pub record IsCallTable (program : Program) (calls : CallTable) : Type 0 where
   pub rows : List MemberRow
   pub methods : AreMethods program rows
   pub places : (row : MemberRow) → Contains calls.places.items row → Contains rows row
+  pub all_places : (row : MemberRow) → Contains rows row → Contains calls.places.items row
+  pub places_ascend : IsNonDecreasingBy place_key calls.places.items
   pub plain : AreTakable program is_plain rows calls.plain.items
   pub instance : AreTakable program is_not_static rows calls.instance.items
   pub marked : IfSome calls.marked (AreMarked program calls.plain.items calls.instance.items)

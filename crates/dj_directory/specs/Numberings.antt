@@ -1,5 +1,6 @@
 -- The texts that name members of the classes of a program, each by a number.
 use Rattle.std.specs.Prelude.{◌≡◌, ℕ, ◌<◌, List, [], ◌∷◌, Contains, Option, Some, None, length, if◌then◌else◌}
+use Rattle.std.specs.List.{AllPairs}
 use Rattle.dj_names.specs.Types.{Name, same_name}
 use Rattle.dj_names.specs.declared.descriptor.Desc.{Desc}
 use Rattle.dj_model.specs.Program.{Program}
@@ -20,6 +21,10 @@ number_among (t ∷ texts) text = if same_name t.0 text then Some t.1 else numbe
 -- the number of a text, where it has one
 abbrev pub number_of : Numbering → Name → Option ℕ
 number_of numbering text = number_among numbering.texts text
+
+-- no two rows are of one class
+abbrev pub ClassesDiffer : List MemberRow → Type 0
+ClassesDiffer rows = AllPairs (λ one other. one.class ≡ other.class → ⊥) rows
 
 -- the rows are of the classes that declare a method of this name and this descriptor
 pub record DeclareMethods (program : Program) (name : Name) (desc : Desc) (rows : List MemberRow) : Type 0 where

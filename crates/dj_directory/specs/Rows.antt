@@ -212,7 +212,14 @@ pub record IsDirectory (program : Program) (texts : Texts) (methods fields first
 
 -- ---- all rows of two numbers
 
--- these are the rows of these numbers, but for those of a class whose number is the highest
+-- the rows stand among others as here, the first of them at this place
+pub record StandFrom (rows : List MemberRow) (first : ℕ) (found : List MemberRow) : Type 0 where
+  pub within : first + length found ≤ length rows
+  pub same : (k : ℕ) (d : MemberRow) → k < length found → get_or found k d ≡ get_or rows (first + k) d
+
+-- these are the rows of these numbers, but for those of a class whose number is the highest, as they stand
 pub record AreRowsWith (rows : List MemberRow) (name desc : ℕ) (found : List MemberRow) : Type 0 where
+  pub first : ℕ
+  pub stand : StandFrom rows first found
   pub each : (row : MemberRow) → Contains found row → Contains rows row × ((row.name ≡ name) × (row.desc ≡ desc))
   pub all : (row : MemberRow) → Contains rows row → row.name ≡ name → row.desc ≡ desc → row.class < 4294967295 → Contains found row

@@ -1,6 +1,6 @@
 //! What calls look in: methods by their places, and those that a call may take by the numbers of their names and descriptors.
 ghost use Rattle.std.specs.Prelude.{◌≡◌, ◌<◌, Contains, length, IfOk, IfSome, if◌then◌else◌};
-ghost use Rattle.std.specs.List.Sorted.{IsPermutation};
+ghost use Rattle.std.specs.List.Sorted.{IsNonDecreasingBy, IsPermutation};
 ghost use Rattle.dj_classes.specs.Tables.{methods_at};
 ghost use Rattle.dj_directory.specs.Calls.{AreMarked, AreMethods, AreTakable, DeclareLike, DeclaresLike, IsCallTable, IsNearestLike, IsRowAt, IsTakable, IsWhether, place_key, takes, tests};
 ghost use Rattle.dj_directory.specs.Rows.{AreInOrder, IsLeast};
@@ -132,7 +132,8 @@ fn place_key(row: MemberRow) -> u64
 
 // Puts rows in the order of their classes and places.
 fn put_in_places(rows: &mut Vec<MemberRow>)
-    ensures { IsPermutation rows.old.items rows.new.items }
+    ensures moved { IsPermutation rows.old.items rows.new.items }
+    ensures ascend { IsNonDecreasingBy place_key rows.new.items }
 {
     rows.sort_unstable_by_key(|row| place_key(*row));
 }

@@ -3,8 +3,9 @@ ghost use Rattle.dj_declared.specs.Files.{desc_in};
 ghost use Rattle.dj_declared.specs.Members.{IsDescriptor, method_place, field_place};
 ghost use Rattle.dj_classes.specs.Tables.{methods_at, fields_at};
 ghost use Rattle.dj_directory.specs.Calls.{AreMethods};
-ghost use Rattle.dj_directory.specs.Numberings.{DeclareFields, DeclareMethods, number_of};
+ghost use Rattle.dj_directory.specs.Numberings.{ClassesDiffer, DeclareFields, DeclareMethods, number_of};
 ghost use Rattle.dj_directory.specs.declared.rows.MemberRow.{MemberRow};
+ghost use Rattle.dj_directory.specs.Rows.{IsRow, fields_named, methods_named};
 
 use crate::gather::add_class;
 use crate::numbers::number_in;
@@ -106,6 +107,7 @@ impl<'a> Directory<'a> {
         ensures there { (row : MemberRow) → Contains result.now row → row.class < length self.now.program }
         ensures within { (row : MemberRow) → Contains result.now row → row.place < length (methods_at self.now.program row.class) }
         ensures declare { (n d : List ℕ) → number_of self.now n ≡ Some name → number_of self.now d ≡ Some desc → IsDescriptor d → DeclareMethods self.now.program n (desc_in d) result.now }
+        ensures once { ClassesDiffer result.now }
     {
         let _ = self.table.class_count();
         rows_with(&self.first_methods, name, desc)
@@ -115,9 +117,26 @@ impl<'a> Directory<'a> {
     pub fn fields_of(&self, name: u32, desc: u32) -> &[MemberRow]
         ensures there { (row : MemberRow) → Contains result.now row → row.class < length self.now.program }
         ensures declare { (n d : List ℕ) → number_of self.now n ≡ Some name → number_of self.now d ≡ Some desc → IsDescriptor d → DeclareFields self.now.program n (desc_in d) result.now }
+        ensures once { ClassesDiffer result.now }
     {
         let _ = self.table.class_count();
         rows_with(&self.first_fields, name, desc)
+    }
+
+    /// The rows of all methods, of each name, descriptor and class the first one alone, in the order of these.
+    pub fn method_rows(&self) -> &[MemberRow]
+        ensures there { (row : MemberRow) → Contains result.now row → row.class < length self.now.program }
+        ensures named { (row : MemberRow) → Contains result.now row → IsRow (number_of self.now) (methods_named self.now.program) row }
+    {
+        &self.first_methods
+    }
+
+    /// The rows of all fields, of each name, descriptor and class the first one alone, in the order of these.
+    pub fn field_rows(&self) -> &[MemberRow]
+        ensures there { (row : MemberRow) → Contains result.now row → row.class < length self.now.program }
+        ensures named { (row : MemberRow) → Contains result.now row → IsRow (number_of self.now) (fields_named self.now.program) row }
+    {
+        &self.first_fields
     }
 
     /// A law: a member is named by texts that have numbers.

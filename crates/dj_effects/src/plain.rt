@@ -12,6 +12,7 @@ use dj_ops::Instr;
 
 /// What an instruction does that names no constant; none where it names one, or isn't run.
 #[tactic(auto, unfolding(dj_model::specs::Opcodes::instruction_of))]
+#[inline(always)]
 pub fn plain_action(instr: &Instr) -> Option<PlainAction<'_>>
     ensures { IsActionOf result (instruction_of instr.now Nothing) }
 {
@@ -42,6 +43,7 @@ pub fn plain_action(instr: &Instr) -> Option<PlainAction<'_>>
 // ---- instructions without operands
 
 #[tactic(auto, unfolding(dj_model::specs::Opcodes::simple))]
+#[inline(always)]
 fn simple_action(op: u8) -> Option<PlainAction<'static>>
     ensures { IsActionOf result (simple Nothing op) }
 {
@@ -55,6 +57,7 @@ fn simple_action(op: u8) -> Option<PlainAction<'static>>
     }
 }
 
+#[inline(always)]
 fn constant_action(op: u8) -> Option<PlainAction<'static>>
     ensures { IsActionOf result (row_does constant_rows Nothing op) }
 {
@@ -70,6 +73,7 @@ fn constant_action(op: u8) -> Option<PlainAction<'static>>
     })
 }
 
+#[inline(always)]
 fn element_action(op: u8) -> Option<PlainAction<'static>>
     ensures { IsActionOf result (row_does store_rows Nothing op) }
 {
@@ -93,6 +97,7 @@ fn element_action(op: u8) -> Option<PlainAction<'static>>
     })
 }
 
+#[inline(always)]
 fn move_action(op: u8) -> Option<PlainAction<'static>>
     ensures { IsActionOf result (row_does stack_rows Nothing op) }
 {
@@ -110,6 +115,7 @@ fn move_action(op: u8) -> Option<PlainAction<'static>>
     }))
 }
 
+#[inline(always)]
 fn number_action(op: u8) -> Option<PlainAction<'static>>
     ensures { IsActionOf result (row_does number_rows Nothing op) }
 {
@@ -130,6 +136,7 @@ fn number_action(op: u8) -> Option<PlainAction<'static>>
     })
 }
 
+#[inline(always)]
 fn bit_action(op: u8) -> Option<PlainAction<'static>>
     ensures { IsActionOf result (row_does bit_rows Nothing op) }
 {
@@ -150,6 +157,7 @@ fn bit_action(op: u8) -> Option<PlainAction<'static>>
     }))
 }
 
+#[inline(always)]
 fn last_action(op: u8) -> Option<PlainAction<'static>>
     ensures { IsActionOf result (row_does last_rows Nothing op) }
 {
@@ -173,6 +181,7 @@ fn last_action(op: u8) -> Option<PlainAction<'static>>
 
 // ---- instructions with operands
 
+#[inline(always)]
 fn local_action(op: u8, slot: u16) -> Option<PlainAction<'static>>
     ensures { IsActionOf result (operand_does local_rows Nothing op slot) }
 {
@@ -187,6 +196,7 @@ fn local_action(op: u8, slot: u16) -> Option<PlainAction<'static>>
     })
 }
 
+#[inline(always)]
 fn jump_action(op: u8, target: u64) -> Option<PlainAction<'static>>
     ensures { IsActionOf result (operand_does jump_rows Nothing op target) }
 {

@@ -1,77 +1,80 @@
 -- The arrays of rows, in order, are those that have numbers.
-use Rattle.std.proofs.Common.{◌≡◌, ◌↔◌, ℕ, ◌≤◌, ◌⊎◌, Bool, true, false, cond, ◌&&◌, List, [], ◌∷◌, ◌++◌, Option, Some, refl, sym, ap, subst, ◌∙◌, inl, inr, arith, Contains, IsTrue, Ordering}
+use Rattle.std.proofs.Common.{◌≡◌, ◌↔◌, ℕ, ◌≤◌, ◌⊎◌, Bool, true, false, cond, ◌&&◌, List, [], ◌∷◌, ◌++◌, map, Option, Some, None, refl, sym, ap, subst, ◌∙◌, inl, inr, arith, Contains, IsTrue, Ordering}
 use Rattle.std.specs.declared.cmp.Ordering.TheVariants.{Less, Equal, Greater}
-use Rattle.std.specs.Prelude.{is_some, nat_le, Result, Ok, Err, IfOk}
+use Rattle.std.specs.Prelude.{nat_le, Result, Ok, Err, IfOk}
 use Rattle.std.specs.Global.{Vec}
-use Rattle.std.specs.Ordering.{nat_cmp, is_eq, is_lt}
+use Rattle.std.specs.Ordering.{nat_cmp, is_eq}
 use Rattle.std.specs.Cmp.Lexicographic.{slice_cmp}
 use Rattle.std.specs.List.{AllByRecursion, list_all}
-use Rattle.std.specs.List.Sorted.{IsStrictlySortedBy}
 use Rattle.std.specs.Map.{keys_of, values_of}
 use Rattle.std.proofs.lemmas.Bool.Decides.{nat_tests}
-use Rattle.std.proofs.lemmas.Cmp.{nat_list_cmp_total, tied_itself}
+use Rattle.std.proofs.lemmas.Option.{none-some, same_Some}
 use Rattle.dj_names.specs.declared.descriptor.Base.TheVariants as bases
+use Rattle.dj_names.specs.declared.descriptor.Of.{Of}
 use Rattle.dj_names.specs.declared.descriptor.Ty.{Ty}
 use Rattle.dj_names.specs.Types.{Name, base_array}
-use Rattle.dj_names.specs.Descriptors.{type_text}
+use Rattle.dj_names.specs.Descriptors.{of_text}
 use Rattle.dj_model.specs.Program.{Program}
-use Rattle.dj_model.specs.Libraries.{is_name_before}
-use Rattle.dj_classes.proofs.Orders.{is_name_before-cmp}
+use Rattle.dj_types.specs.declared.shapes.Shape.{Shape}
+use Rattle.dj_types.specs.Shapes.{AreElements, shape_in, shape_type}
 use Rattle.dj_types.specs.Typed.{is_known_of, is_array_of, arrays_rise, AreArrays}
 use Rattle.dj_image.specs.Imaged.{IsPartOf}
 use Rattle.dj_image.specs.declared.parts.ClassParts.{ClassParts}
 use Rattle.dj_image.specs.Uses.{used_types}
-use Rattle.dj_image.specs.Rows.{Rows, RiseStrictly, IsKeyed, IsRow, AreRows, known_types, wholes_of}
-use Rattle.dj_image.proofs.RowFacts.{Entries, found_in, same_items, type_once}
+use Rattle.dj_image.specs.Rows.{Rows, RiseStrictly, dims_in, most_at, has_row, IsKeyed, IsRow, AreRows, AreAllKnown, known_types, wholes_of, levels}
+use Rattle.dj_image.proofs.RowFacts.{Entries, found_in, same_items, of_once, has_parts, has_from, both}
+use Rattle.dj_image.proofs.Levels.{IsUnder, Ordered, ordered_from, type_levels, levels_types, elements_levels, under_levels, levels_under, levels_rise, top_found}
 use Rattle.dj_image.proofs.Members.{member_first, member_later, member_none, member_cases, member_of_filter}
 
 -- ---- values and rows
 
-value_has_by : (e : Vec ℕ × Ty) (later : Option Ty) (r : Ordering) → IsTrue (is_some later) ⊎ (r ≡ Equal) → IsTrue (is_some (cond (is_eq r) (Some e.1) later))
-value_has_by e later Less (inl t) = t
-value_has_by e later Less (inr same) = absurd cc
-value_has_by e later Equal either = refl
-value_has_by e later Greater (inl t) = t
-value_has_by e later Greater (inr same) = absurd cc
+keyed_value : (es : Entries) → AllByRecursion IsKeyed es → (t : Ty) → Contains (values_of es) t → (1 ≤ t.dims) × (t.dims ≤ 255)
+keyed_value [] keyed t m = absurd (member_none t m)
+keyed_value (e ∷ es) keyed t m = elim (member_cases e.1 (values_of es) t m) [
+  | inl same ↦ (subst (λ (v : Ty). 1 ≤ v.dims) same keyed.0.1, subst (λ (v : Ty). v.dims ≤ 255) same keyed.0.2)
+  | inr later ↦ keyed_value es keyed.1 t later
+]
 
-value_has : (es : Entries) (ty : Ty) → AllByRecursion IsKeyed es → Contains (values_of es) ty → IsTrue (is_some (found_in es (type_text ty)))
-value_has [] ty keyed m = absurd (member_none ty m)
-value_has (e ∷ es) ty keyed m = value_has_by e (found_in es (type_text ty)) (slice_cmp nat_cmp (type_text ty) e.0.items) (elim (member_cases e.1 (values_of es) ty m) [
-  | inl same ↦ inr (ap (λ (t : Name). slice_cmp nat_cmp t e.0.items) (ap type_text (sym same) ∙ keyed.0.0) ∙ tied_itself nat_list_cmp_total e.0.items)
-  | inr later ↦ inl (value_has es ty keyed.1 later)
-])
+-- what is found at a text
+found_by : (e : Vec ℕ × Ty) (es : Entries) (text : Name) (t : Ty) → IsKeyed e → ((found_in es text ≡ Some t) → Contains (values_of es) t × (of_text t.of ≡ text)) → (r : Ordering) → slice_cmp nat_cmp text e.0.items ≡ r
+    → cond (is_eq r) (Some e.1) (found_in es text) ≡ Some t → Contains (e.1 ∷ values_of es) t × (of_text t.of ≡ text)
+found_by e es text t keyed rest Less order found = let later = rest found in (member_later e.1 (values_of es) t later.0, later.1)
+found_by e es text t keyed rest Equal order found =
+    let same : e.1 ≡ t = same_Some e.1 t found in
+    (subst (λ (v : Ty). Contains (e.1 ∷ values_of es) v) same (member_first e.1 (values_of es)), ap (λ (v : Ty). of_text v.of) (sym same) ∙ keyed.0 ∙ sym (same_items text e.0.items order))
+found_by e es text t keyed rest Greater order found = let later = rest found in (member_later e.1 (values_of es) t later.0, later.1)
 
-has_value_by : (e : Vec ℕ × Ty) (es : Entries) (ty : Ty) (r : Ordering) → slice_cmp nat_cmp (type_text ty) e.0.items ≡ r → type_text e.1 ≡ e.0.items → (IsTrue (is_some (found_in es (type_text ty))) → Contains (values_of es) ty)
-    → IsTrue (is_some (cond (is_eq r) (Some e.1) (found_in es (type_text ty)))) → Contains (e.1 ∷ values_of es) ty
-has_value_by e es ty Less is keyed rest t = member_later e.1 (values_of es) ty (rest t)
-has_value_by e es ty Equal is keyed rest t = subst (λ (v : Ty). Contains (e.1 ∷ values_of es) v) (type_once e.1 ty (keyed ∙ sym (same_items (type_text ty) e.0.items is))) (member_first e.1 (values_of es))
-has_value_by e es ty Greater is keyed rest t = member_later e.1 (values_of es) ty (rest t)
+found_value : (es : Entries) → AllByRecursion IsKeyed es → (text : Name) (t : Ty) → found_in es text ≡ Some t → Contains (values_of es) t × (of_text t.of ≡ text)
+found_value [] keyed text t is = absurd (none-some t is)
+found_value (e ∷ es) keyed text t is = found_by e es text t keyed.0 (found_value es keyed.1 text t) (slice_cmp nat_cmp text e.0.items) refl is
 
-has_value : (es : Entries) (ty : Ty) → AllByRecursion IsKeyed es → IsTrue (is_some (found_in es (type_text ty))) → Contains (values_of es) ty
-has_value [] ty keyed t = absurd cc
-has_value (e ∷ es) ty keyed t = has_value_by e es ty (slice_cmp nat_cmp (type_text ty) e.0.items) refl keyed.0.0 (has_value es ty keyed.1) t
+module _ (wholes : List Ty) (rows : Rows) (are : AreRows wholes rows) (up : RiseStrictly (keys_of rows.entries)) where
+  abbrev tops : List Ty
+  tops = values_of rows.entries
 
-pub numbered_rows : (wholes : List Ty) (rows : Rows) (arrays : List Ty) → arrays ≡ values_of rows.entries → AreRows wholes rows → (ty : Ty) → Contains arrays ty ↔ IsRow wholes ty
-numbered_rows wholes rows arrays is are ty = (
-  λ m. (are.each ty).0 (value_has rows.entries ty are.keyed (subst (λ (xs : List Ty). Contains xs ty) is m)),
-  λ row. subst (λ (xs : List Ty). Contains xs ty) (sym is) (has_value rows.entries ty are.keyed ((are.each ty).1 row)),
-)
+  most_of_top : (t : Ty) → Contains tops t → most_at rows (of_text t.of) ≡ t.dims
+  most_of_top t m = ap dims_in (top_found rows.entries are.keyed (ordered_from rows.entries up) t m)
 
--- ---- they rise
+  pub top_row : (t : Ty) → Contains tops t → IsRow wholes t
+  top_row t m = (are.each t).0 (has_from rows t t.dims (sym (most_of_top t m)) ((keyed_value rows.entries are.keyed t m).0) (omega arith))
 
-both : (a b : Bool) → a ≡ true → b ≡ true → (a && b) ≡ true
-both true true p q = refl
-both true false p q = q
-both false b p q = p
+  under_row : (ty : Ty) → IsUnder 255 tops ty → IsRow wholes ty
+  under_row ty under = (are.each ty).0 (has_from rows ty under.top.dims (sym (ap (λ (of : Of). most_at rows (of_text of)) under.same ∙ most_of_top under.top under.there)) under.some under.within)
 
-rise : (es : Entries) → AllByRecursion IsKeyed es → RiseStrictly (keys_of es) → IsTrue (arrays_rise (values_of es))
-unfolding IsStrictlySortedBy
-rise [] keyed up = refl
-rise (e ∷ []) keyed up = refl
-rise (e ∷ (f ∷ es)) keyed up =
-    both (is_name_before (type_text e.1) (type_text f.1)) (arrays_rise (f.1 ∷ values_of es))
-    (is_name_before-cmp (type_text e.1) (type_text f.1) ∙ ap (λ (t : Name). is_lt (slice_cmp nat_cmp t (type_text f.1))) keyed.0.0 ∙ ap (λ (t : Name). is_lt (slice_cmp nat_cmp e.0.items t)) keyed.1.0.0 ∙ ap is_lt up.0.0)
-    (rise (f ∷ es) keyed.1 up.1)
+  row_under : (ty : Ty) → IsTrue (has_row rows ty) → IsUnder 255 tops ty
+  row_under ty t = by (found_in rows.entries (of_text ty.of)) refl where
+    parts : (1 ≤ ty.dims) × (ty.dims ≤ most_at rows (of_text ty.of))
+    parts = has_parts rows ty t
+
+    by : (o : Option Ty) → found_in rows.entries (of_text ty.of) ≡ o → IsUnder 255 tops ty
+    by None is = absurd (omega (arith, parts.0, parts.1, ap dims_in is))
+    by (Some top) is =
+        let found = found_value rows.entries are.keyed (of_text ty.of) top is in
+        let few = (keyed_value rows.entries are.keyed top found.0).1 in
+        record { top = top; there = found.0; some = parts.0; few = omega (arith, parts.1, ap dims_in is, few); within = omega (arith, parts.1, ap dims_in is); same = of_once ty.of top.of (sym found.1) }
+
+  pub numbered_levels : (ty : Ty) → Contains (type_levels 255 tops) ty ↔ IsRow wholes ty
+  numbered_levels ty = (λ m. under_row ty (under_levels 255 tops ty m), λ row. levels_under 255 tops ty (row_under ty ((are.each ty).1 row)))
 
 -- ---- each is an array whose elements' class is there
 
@@ -95,18 +98,38 @@ all_members : (p : Ty → Bool) (xs : List Ty) → ((x : Ty) → Contains xs x �
 all_members p [] each = refl
 all_members p (x ∷ xs) each = both (p x) (list_all p xs) (each x (member_first x xs)) (all_members p xs (λ y m. each y (member_later x xs y m)))
 
-pub are_arrays : (program : Program) (parts : List ClassParts) (rows : Rows) (arrays : List Ty) → arrays ≡ values_of rows.entries → AreRows (wholes_of program parts) rows → RiseStrictly (keys_of rows.entries) → AreArrays program arrays
-are_arrays program parts rows arrays is are up = record {
-  each = all_members (is_array_of program) arrays each;
-  rise = subst (λ (xs : List Ty). IsTrue (arrays_rise xs)) (sym is) (rise rows.entries are.keyed up);
-} where
-  each : (ty : Ty) → Contains arrays ty → IsTrue (is_array_of program ty)
-  each ty m =
-      let row = (numbered_rows (wholes_of program parts) rows arrays is are ty).0 m in
-      fit_first program ty row.0 row.2 (whole_known program parts row.0 row.1)
+all_from : (program : Program) (tys : List Ty) → ((t : Ty) → Contains tys t → IsTrue (is_known_of program t.of)) → AreAllKnown program tys
+all_from program [] each = tt
+all_from program (t ∷ tys) each = (each t (member_first t tys), all_from program tys (λ u m. each u (member_later t tys u m)))
+
+module _ (program : Program) (parts : List ClassParts) (rows : Rows) (are : AreRows (wholes_of program parts) rows) (up : RiseStrictly (keys_of rows.entries)) where
+  pub tops_known : AreAllKnown program (values_of rows.entries)
+  tops_known = all_from program (values_of rows.entries) (λ t m. let row = top_row (wholes_of program parts) rows are up t m in ap (is_known_of program) row.2.same ∙ whole_known program parts row.0 row.1)
+
+  module _ (shapes tops : List Shape) (is : shapes ≡ levels 255 tops) (tops_are : tops ≡ map (shape_in program) (values_of rows.entries)) where
+    types_are : map (shape_type program) shapes ≡ type_levels 255 (values_of rows.entries)
+    types_are = ap (map (shape_type program)) (is ∙ ap (levels 255) tops_are) ∙ levels_types program 255 (values_of rows.entries) tops_known
+
+    pub numbered_rows : (ty : Ty) → Contains (map (shape_type program) shapes) ty ↔ IsRow (wholes_of program parts) ty
+    numbered_rows ty = subst (λ (xs : List Ty). Contains xs ty ↔ IsRow (wholes_of program parts) ty) (sym types_are) (numbered_levels (wholes_of program parts) rows are up ty)
+
+    pub are_elements : AreElements program shapes
+    are_elements = subst (AreElements program) (sym (is ∙ ap (levels 255) tops_are)) (elements_levels program 255 (values_of rows.entries) tops_known)
+
+    pub are_arrays : AreArrays program (map (shape_type program) shapes)
+    are_arrays = record {
+      each = all_members (is_array_of program) (map (shape_type program) shapes) each;
+      rise = subst (λ (xs : List Ty). IsTrue (arrays_rise xs)) (sym types_are) (levels_rise 255 rows.entries are.keyed (ordered_from rows.entries up));
+    } where
+      each : (ty : Ty) → Contains (map (shape_type program) shapes) ty → IsTrue (is_array_of program ty)
+      each ty m = let row = (numbered_rows ty).0 m in fit_first program ty row.0 row.2 (whole_known program parts row.0 row.1)
 
 -- ---- results
 
 pub both_ok : {T E : Type 0} (r : Result T E) (P Q R : T → Type 0) → IfOk r P → IfOk r Q → ((x : T) → P x → Q x → R x) → IfOk r R
 both_ok (Ok x) P Q R p q f = f x p q
 both_ok (Err e) P Q R p q f = tt
+
+pub ok_gives : {T E : Type 0} (r : Result T E) (P Q : T → Type 0) → IfOk r P → ((x : T) → P x → Q x) → IfOk r Q
+ok_gives (Ok x) P Q p f = f x p
+ok_gives (Err e) P Q p f = tt

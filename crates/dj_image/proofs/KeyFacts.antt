@@ -1,7 +1,7 @@
 -- Rows of arrays, and lent types, by plain values.
-use Rattle.std.proofs.Common.{◌≡◌, ℕ, ◌≤◌, true, false, cond, List, [], ◌∷◌, map, Some, None, IsTrue, Ordering, refl, sym, ap, ◌∙◌, subst, codes, pos, inl, inr, arith, Bor}
+use Rattle.std.proofs.Common.{◌≡◌, ℕ, ◌≤◌, ◌&&◌, true, false, cond, List, [], ◌∷◌, map, length, Some, None, IsTrue, Ordering, refl, sym, ap, ◌∙◌, subst, codes, pos, inl, inr, arith, Bor}
 use Rattle.std.specs.declared.cmp.Ordering.TheVariants.{Less, Equal, Greater}
-use Rattle.std.specs.Prelude.{is_some}
+use Rattle.std.specs.Prelude.{nat_le}
 use Rattle.std.specs.Global.{Vec}
 use Rattle.std.specs.List.{AllByRecursion}
 use Rattle.std.specs.Ordering.{nat_cmp, is_eq}
@@ -11,14 +11,16 @@ use Rattle.dj_names.specs.declared.descriptor.Base.TheVariants as bases
 use Rattle.dj_names.specs.declared.descriptor.Of.TheVariants as ofs
 use Rattle.dj_names.specs.declared.descriptor.Ty.{Ty}
 use Rattle.dj_names.specs.Types.{Name, base_array, array_type}
-use Rattle.dj_names.specs.Descriptors.{type_text}
+use Rattle.dj_names.specs.Descriptors.{of_text, type_text}
 use Rattle.dj_pool.specs.Pool.{Integer}
+use Rattle.dj_types.specs.declared.shapes.Element.TheVariants as elements
+use Rattle.dj_types.specs.declared.shapes.Shape.{Shape}
 use Rattle.dj_image.specs.declared.lent_type.LentOf.TheVariants as lents
 use Rattle.dj_image.specs.declared.uses.Use.TheVariants as uses
 use Rattle.dj_image.specs.Imaged.{IsPartOf}
-use Rattle.dj_image.specs.Rows.{Rows, has_row, IsKeyed, IsRow, AreRows, of_lent, type_lent, IsFitUse, brackets, first_wholes, wholes_of}
+use Rattle.dj_image.specs.Rows.{Rows, dims_in, most_at, has_row, IsKeyed, IsRow, AreRows, AreAllKnown, level, levels, of_lent, type_lent, IsFitUse, brackets, first_wholes, wholes_of}
 use Rattle.dj_image.proofs.Members.{member_first, member_none, member_cases}
-use Rattle.dj_image.proofs.RowFacts.{type_once, same_items, found_in}
+use Rattle.dj_image.proofs.RowFacts.{of_once, same_items, found_in, has_parts}
 use Rattle.dj_image.proofs.TypeFacts.{other_text, other_type, ints}
 
 -- arrays of arrays of ints
@@ -64,35 +66,39 @@ no_text_of_elements fit = fit
 
 -- ---- rows
 
-abbrev text_of_ints : Name
-text_of_ints = codes "[I"
-
-abbrev text_of_longs : Name
-text_of_longs = codes "[J"
-
 ints_itself : IsPartOf ints ints
 ints_itself = record { array = omega arith; few = omega arith; within = omega arith; same = refl }
 
 ints_of_deep : IsPartOf ints deep
 ints_of_deep = record { array = omega arith; few = omega arith; within = omega arith; same = refl }
 
--- one row, of an array of ints
-module _ (key : Vec ℕ) (key_is : key.items ≡ text_of_ints) (rows : Rows) (is : rows.entries ≡ (key, ints) ∷ []) where
-  has_by : (ty : Ty) → has_row rows ty ≡ is_some (cond (is_eq (slice_cmp nat_cmp (type_text ty) text_of_ints)) (Some ints) None)
-  has_by ty =
-      ap (λ (es : List (Vec ℕ × Ty)). is_some (found_in es (type_text ty))) is
-      ∙ ap (λ (text : Name). is_some (cond (is_eq (slice_cmp nat_cmp (type_text ty) text)) (Some ints) None)) key_is
-
-  equal_if : (r : Ordering) → is_some (cond (is_eq r) (Some ints) None) ≡ true → r ≡ Equal
-  equal_if Less e = absurd cc
-  equal_if Equal e = refl
-  equal_if Greater e = absurd cc
+-- one row, of arrays of ints with one dimension at most
+module _ (key : Vec ℕ) (key_is : key.items ≡ codes "I") (rows : Rows) (is : rows.entries ≡ (key, ints) ∷ []) where
+  most_by : (text : Name) → most_at rows text ≡ dims_in (cond (is_eq (slice_cmp nat_cmp text (codes "I"))) (Some ints) None)
+  most_by text =
+      ap (λ (es : List (Vec ℕ × Ty)). dims_in (found_in es text)) is
+      ∙ ap (λ (t : Name). dims_in (cond (is_eq (slice_cmp nat_cmp text t)) (Some ints) None)) key_is
 
   has_ints : IsTrue (has_row rows ints)
-  has_ints = has_by ints
+  has_ints = ap (λ (n : ℕ). nat_le 1 1 && nat_le 1 n) (most_by (codes "I"))
 
   is_ints : (ty : Ty) → IsTrue (has_row rows ty) → ty ≡ ints
-  is_ints ty has = type_once ty ints (same_items (type_text ty) text_of_ints (equal_if (slice_cmp nat_cmp (type_text ty) text_of_ints) (sym (has_by ty) ∙ has)))
+  is_ints ty has = by (slice_cmp nat_cmp (of_text ty.of) (codes "I")) refl where
+    most_if : (r : Ordering) → slice_cmp nat_cmp (of_text ty.of) (codes "I") ≡ r → most_at rows (of_text ty.of) ≡ dims_in (cond (is_eq r) (Some ints) None)
+    most_if r e = most_by (of_text ty.of) ∙ ap (λ (o : Ordering). dims_in (cond (is_eq o) (Some ints) None)) e
+
+    none : most_at rows (of_text ty.of) ≡ 0 → ⊥
+    none e = let parts = has_parts rows ty has in omega (arith, parts.0, parts.1, e)
+
+    by : (r : Ordering) → slice_cmp nat_cmp (of_text ty.of) (codes "I") ≡ r → ty ≡ ints
+    by Less e = absurd (none (most_if Less e))
+    by Equal e =
+        let parts = has_parts rows ty has in
+        let own : most_at rows (of_text ty.of) ≡ 1 = most_if Equal e in
+        let one : ty.dims ≡ 1 = omega (arith, parts.0, parts.1, own) in
+        let of : ty.of ≡ ints.of = of_once ty.of ints.of (same_items (of_text ty.of) (codes "I") e) in
+        (λ i. record { dims = one i; of = of i })
+    by Greater e = absurd (none (most_if Greater e))
 
   row_of : (ty : Ty) → IsTrue (has_row rows ty) → IsRow (ints ∷ []) ty
   row_of ty has = subst (λ (t : Ty). IsRow (ints ∷ []) t) (sym (is_ints ty has)) (ints, member_first ints [], ints_itself)
@@ -110,12 +116,12 @@ module _ (key : Vec ℕ) (key_is : key.items ≡ text_of_ints) (rows : Rows) (is
   ]
 
   keyed : AllByRecursion IsKeyed rows.entries
-  keyed = subst (λ (es : List (Vec ℕ × Ty)). AllByRecursion IsKeyed es) (sym is) ((sym key_is, omega arith), tt)
+  keyed = subst (λ (es : List (Vec ℕ × Ty)). AllByRecursion IsKeyed es) (sym is) ((sym key_is, omega arith, omega arith), tt)
 
   rows_told : AreRows (ints ∷ []) rows
   rows_told = record { keyed = keyed; each = λ ty. (row_of ty, of_row ty) }
 
-  -- not of no array, nor of one of more dimensions, which has a row of its own too
+  -- not of no array, nor of one of more dimensions
   of_none : AreRows [] rows → ⊥
   of_none are = let row : IsRow [] ints = (are.each ints).0 has_ints in member_none row.0 row.1
 
@@ -124,27 +130,59 @@ module _ (key : Vec ℕ) (key_is : key.items ≡ text_of_ints) (rows : Rows) (is
       let has : IsTrue (has_row rows deep) = (are.each deep).1 (deep, member_first deep [], record { array = omega arith; few = omega arith; within = omega arith; same = refl }) in
       other_type deep ints refl refl (is_ints deep has)
 
--- not where the elements of an array are left out
-elements_left_out : (key : Vec ℕ) (rows : Rows) → key.items ≡ codes "[[I" → rows.entries ≡ (key, deep) ∷ [] → AreRows (deep ∷ []) rows → ⊥
-elements_left_out key rows key_is is are =
-    let has : IsTrue (has_row rows ints) = (are.each ints).1 (deep, member_first deep [], ints_of_deep) in
-    let none : has_row rows ints ≡ false =
-    ap (λ (es : List (Vec ℕ × Ty)). is_some (found_in es text_of_ints)) is
-    ∙ ap (λ (text : Name). is_some (cond (is_eq (slice_cmp nat_cmp text_of_ints text)) (Some deep) None)) key_is in
-    false≢true (sym none ∙ has)
+-- a row of more dimensions has the elements too, and isn't one of fewer
+elements_had : (key : Vec ℕ) (rows : Rows) → key.items ≡ codes "I" → rows.entries ≡ (key, deep) ∷ [] → IsTrue (has_row rows ints)
+elements_had key rows key_is is =
+    ap (λ (es : List (Vec ℕ × Ty)). nat_le 1 1 && nat_le 1 (dims_in (found_in es (codes "I")))) is
+    ∙ ap (λ (text : Name). nat_le 1 1 && nat_le 1 (dims_in (cond (is_eq (slice_cmp nat_cmp (codes "I") text)) (Some deep) None))) key_is
 
--- nor without rows, nor where a row stands at the text of another array
+too_many_dims : (key : Vec ℕ) (rows : Rows) → key.items ≡ codes "I" → rows.entries ≡ (key, deep) ∷ [] → AreRows (ints ∷ []) rows → ⊥
+too_many_dims key rows key_is is are =
+    let has : IsTrue (has_row rows deep) =
+    ap (λ (es : List (Vec ℕ × Ty)). nat_le 1 2 && nat_le 2 (dims_in (found_in es (codes "I")))) is
+    ∙ ap (λ (text : Name). nat_le 1 2 && nat_le 2 (dims_in (cond (is_eq (slice_cmp nat_cmp (codes "I") text)) (Some deep) None))) key_is in
+    let row : IsRow (ints ∷ []) deep = (are.each deep).0 has in
+    elim (member_cases ints [] row.0 row.1) [
+      | inl e ↦ let within : 2 ≤ 1 = subst (λ (w : Ty). 2 ≤ w.dims) (sym e) row.2.within in omega (arith, within)
+      | inr none ↦ member_none row.0 none
+    ]
+
+-- nor without rows, nor where a row stands at the text of other elements
 without_rows : (rows : Rows) → rows.entries ≡ [] → AreRows (ints ∷ []) rows → ⊥
 without_rows rows is are =
     let has : IsTrue (has_row rows ints) = (are.each ints).1 (ints, member_first ints [], ints_itself) in
-    let none : has_row rows ints ≡ false = ap (λ (es : List (Vec ℕ × Ty)). is_some (found_in es text_of_ints)) is in
+    let none : has_row rows ints ≡ false = ap (λ (es : List (Vec ℕ × Ty)). nat_le 1 1 && nat_le 1 (dims_in (found_in es (codes "I")))) is in
     false≢true (sym none ∙ has)
 
-at_other_text : (wholes : List Ty) (key : Vec ℕ) (rows : Rows) → key.items ≡ text_of_longs → rows.entries ≡ (key, ints) ∷ [] → AreRows wholes rows → ⊥
+at_other_text : (wholes : List Ty) (key : Vec ℕ) (rows : Rows) → key.items ≡ codes "J" → rows.entries ≡ (key, ints) ∷ [] → AreRows wholes rows → ⊥
 at_other_text wholes key rows key_is is are =
     let all : AllByRecursion IsKeyed ((key, ints) ∷ []) = subst (λ (es : List (Vec ℕ × Ty)). AllByRecursion IsKeyed es) is are.keyed in
-    other_text text_of_ints text_of_longs refl refl (all.0.0 ∙ key_is)
+    other_text (codes "I") (codes "J") refl refl (all.0.0 ∙ key_is)
 
--- nor where an array has more dimensions than a descriptor spells
+-- nor where it has more dimensions than a descriptor spells, or none
 too_deep : (key : Vec ℕ) → IsKeyed (key, record ints { dims = 256 }) → ⊥
-too_deep key told = let few : 256 ≤ 255 = told.1 in omega (arith, few)
+too_deep key told = let few : 256 ≤ 255 = told.2 in omega (arith, few)
+
+no_array : (key : Vec ℕ) → IsKeyed (key, record ints { dims = 0 }) → ⊥
+no_array key told = let some : 1 ≤ 0 = told.1 in omega (arith, some)
+
+-- ---- in order
+
+-- arrays of arrays of ints, and arrays of a class
+abbrev two_tops : List Shape
+two_tops = record { dims = 2; of = elements.Base bases.Int } ∷ record { dims = 1; of = elements.Class 0 } ∷ []
+
+first_level : level 1 two_tops ≡ record { dims = 1; of = elements.Base bases.Int } ∷ record { dims = 1; of = elements.Class 0 } ∷ []
+first_level = refl
+
+second_level : level 2 two_tops ≡ record { dims = 2; of = elements.Base bases.Int } ∷ []
+second_level = refl
+
+fewer_first : map (λ (s : Shape). s.dims) (levels 3 two_tops) ≡ 1 ∷ 1 ∷ 2 ∷ []
+fewer_first = refl
+
+not_tops_alone : levels 3 two_tops ≡ two_tops → ⊥
+not_tops_alone e = let count : 3 ≡ 2 = ap length e in omega (arith, count)
+
+known : AreAllKnown [] (ints ∷ []) × (AreAllKnown [] (record { dims = 1; of = ofs.Class (codes "A") } ∷ []) → ⊥)
+known = ((refl, tt), λ all. false≢true all.0)

@@ -13,6 +13,7 @@ pub mod RowFacts
 pub mod Links
 pub mod Members
 pub mod Wholes
+pub mod Levels
 pub mod ArrayFacts
 pub mod Used
 pub mod UnitFacts

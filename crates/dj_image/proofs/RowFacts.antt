@@ -1,7 +1,7 @@
 -- Rows of arrays by the texts of their descriptors.
-use Rattle.std.proofs.Common.{◌≡◌, ◌↔◌, ℕ, ◌-◌, ◌<◌, ◌≤◌, ◌⊎◌, min, Bool, true, false, not, cond, List, [], ◌∷◌, ◌++◌, take, drop, length, Option, Some, None, refl, sym, ap, subst, ◌∙◌, inl, inr, arith, IsTrue, Ordering}
+use Rattle.std.proofs.Common.{◌≡◌, ◌↔◌, ℕ, ◌-◌, ◌<◌, ◌≤◌, ◌⊎◌, ◌&&◌, min, Bool, true, false, cond, List, [], ◌∷◌, ◌++◌, take, drop, length, Option, Some, None, refl, sym, ap, subst, ◌∙◌, inl, inr, arith, IsTrue, Ordering}
 use Rattle.std.specs.declared.cmp.Ordering.TheVariants.{Less, Equal, Greater}
-use Rattle.std.specs.Prelude.{nat_eq, if◌then◌else◌, is_some}
+use Rattle.std.specs.Prelude.{nat_eq, nat_le, if◌then◌else◌}
 use Rattle.std.specs.Global.{Vec}
 use Rattle.std.specs.Ordering.{nat_cmp, is_eq, match_ordering}
 use Rattle.std.specs.Cmp.Lexicographic.{slice_cmp}
@@ -10,7 +10,8 @@ use Rattle.std.specs.Map.{lookup}
 use Rattle.std.specs.BTreeMap.{is_at, insert_entry}
 use Rattle.std.specs.FinMap.{slice_cmp-IsAntisymmetric, nat_cmp-IsAntisymmetric}
 use Rattle.std.proofs.lemmas.Cmp.{nat_list_cmp_total, tied_itself}
-use Rattle.std.proofs.lemmas.Bool.{cases_lt}
+use Rattle.std.proofs.lemmas.Bool.{and_parts}
+use Rattle.std.proofs.lemmas.Bool.Decides.{nat_tests}
 use Rattle.std.proofs.lemmas.List.{length-append}
 use Rattle.std.proofs.lemmas.List.Elements.{Contains-append_left, Contains-push, Contains-push_cases}
 use Rattle.dj_names.specs.declared.descriptor.Base.{Base}
@@ -21,7 +22,7 @@ use Rattle.dj_names.specs.declared.descriptor.Ty.{Ty}
 use Rattle.dj_names.specs.Types.{Name}
 use Rattle.dj_names.specs.Descriptors.{of_text, type_text}
 use Rattle.dj_image.specs.Imaged.{IsPartOf}
-use Rattle.dj_image.specs.Rows.{Rows, has_row, IsKeyed, IsRow, AreRows, brackets}
+use Rattle.dj_image.specs.Rows.{Rows, dims_in, most_at, has_row, IsKeyed, IsRow, AreRows, brackets}
 use Rattle.dj_image.proofs.ClassTexts.{type_brackets, type_rest, typed}
 
 -- ---- a descriptor is that of one type
@@ -68,7 +69,7 @@ spelled_again (ofs.Base bases.Float) = refl
 spelled_again (ofs.Base bases.Double) = refl
 spelled_again (ofs.Class name) = spelled_class name ∙ named_again name
 
-of_once : (a b : Of) → of_text a ≡ of_text b → a ≡ b
+pub of_once : (a b : Of) → of_text a ≡ of_text b → a ≡ b
 of_once a b e = sym (spelled_again a) ∙ ap of_spelled e ∙ spelled_again b
 
 pub type_once : (a b : Ty) → type_text a ≡ type_text b → a ≡ b
@@ -82,7 +83,7 @@ type_once a b e =
 abbrev pub Entries : Type 0
 Entries = List (Vec ℕ × Ty)
 
-abbrev order : Vec ℕ → Vec ℕ → Ordering
+abbrev pub order : Vec ℕ → Vec ℕ → Ordering
 order x y = slice_cmp nat_cmp x.items y.items
 
 abbrev pub found_in : Entries → Name → Option Ty
@@ -102,16 +103,16 @@ apart text key Greater e other = refl
 keyed_by : (e : Vec ℕ × Ty) (es : Entries) (key : Vec ℕ) (v : Ty) (r : Ordering) → order key e.0 ≡ r → AllByRecursion IsKeyed (e ∷ es) → IsKeyed (key, v) → AllByRecursion IsKeyed (insert_entry order es key v)
     → AllByRecursion IsKeyed (match_ordering r ((key, v) ∷ e ∷ es) ((e.0, v) ∷ es) (e ∷ insert_entry order es key v))
 keyed_by e es key v Less is all own rest = (own, all)
-keyed_by e es key v Equal is all own rest = ((own.0 ∙ same_items key.items e.0.items is, own.1), all.1)
+keyed_by e es key v Equal is all own rest = ((own.0 ∙ same_items key.items e.0.items is, own.1, own.2), all.1)
 keyed_by e es key v Greater is all own rest = (all.0, rest)
 
 keyed_more : (es : Entries) (key : Vec ℕ) (v : Ty) → AllByRecursion IsKeyed es → IsKeyed (key, v) → AllByRecursion IsKeyed (insert_entry order es key v)
 keyed_more [] key v all own = (own, tt)
 keyed_more (e ∷ es) key v all own = keyed_by e es key v (order key e.0) refl all own (keyed_more es key v all.1 own)
 
-pub keyed_now : (old new : Rows) (key : Vec ℕ) (v ty : Ty) → AllByRecursion IsKeyed old.entries → ty.dims ≤ 255 → key.items ≡ type_text ty → v ≡ ty → new.entries ≡ insert_entry order old.entries key v → AllByRecursion IsKeyed new.entries
-keyed_now old new key v ty all few key_is v_is is =
-    subst (λ (es : Entries). AllByRecursion IsKeyed es) (sym is) (keyed_more old.entries key v all (ap type_text v_is ∙ sym key_is, subst (λ (t : Ty). t.dims ≤ 255) (sym v_is) few))
+pub keyed_now : (old new : Rows) (key : Vec ℕ) (v : Ty) (of : Of) → AllByRecursion IsKeyed old.entries → 1 ≤ v.dims → v.dims ≤ 255 → key.items ≡ of_text of → v.of ≡ of → new.entries ≡ insert_entry order old.entries key v → AllByRecursion IsKeyed new.entries
+keyed_now old new key v of all some few key_is v_is is =
+    subst (λ (es : Entries). AllByRecursion IsKeyed es) (sym is) (keyed_more old.entries key v all (ap of_text v_is ∙ sym key_is, some, few))
 
 found_by : (e : Vec ℕ × Ty) (es : Entries) (key : Vec ℕ) (v : Ty) (text : Name) (r : Ordering) → order key e.0 ≡ r → (text ≡ key.items → ⊥) → found_in (insert_entry order es key v) text ≡ found_in es text
     → found_in (match_ordering r ((key, v) ∷ e ∷ es) ((e.0, v) ∷ es) (e ∷ insert_entry order es key v)) text ≡ found_in (e ∷ es) text
@@ -134,54 +135,22 @@ text_cases text key = by (slice_cmp nat_cmp text key) refl where
   by Equal e = inl (same_items text key e)
   by Greater e = inr (λ same. let bad : Greater ≡ Equal = sym e ∙ tied text key same in absurd cc)
 
-pub row_more : (old new : Rows) (key : Vec ℕ) (v ty : Ty) → key.items ≡ type_text ty → found_in new.entries key.items ≡ Some v → new.entries ≡ insert_entry order old.entries key v
-    → (other : Ty) → IsTrue (has_row new other) ↔ (IsTrue (has_row old other) ⊎ (other ≡ ty))
-row_more old new key v ty key_is own is other = by (text_cases (type_text other) key.items) where
-  itself : type_text other ≡ key.items → IsTrue (has_row new other)
-  itself same = ap (λ (text : Name). is_some (found_in new.entries text)) same ∙ ap is_some own
+pub both : (a b : Bool) → a ≡ true → b ≡ true → (a && b) ≡ true
+both true true p q = refl
+both true false p q = q
+both false b p q = p
 
-  by : (type_text other ≡ key.items) ⊎ (type_text other ≡ key.items → ⊥) → IsTrue (has_row new other) ↔ (IsTrue (has_row old other) ⊎ (other ≡ ty))
-  by (inl same) = (λ t. inr (type_once other ty (same ∙ key_is)), λ e. itself same)
-  by (inr differs) =
-      let kept : has_row new other ≡ has_row old other =
-      ap (λ (es : Entries). is_some (found_in es (type_text other))) is ∙ ap is_some (found_other old.entries key v (type_text other) differs) in (
-        λ t. inl (sym kept ∙ t),
-        λ e. elim e [ inl t ↦ kept ∙ t | inr same ↦ absurd (differs (ap type_text same ∙ sym key_is)) ],
-      )
+pub has_parts : (rows : Rows) (ty : Ty) → IsTrue (has_row rows ty) → (1 ≤ ty.dims) × (ty.dims ≤ most_at rows (of_text ty.of))
+has_parts rows ty t = let parts = and_parts (nat_le 1 ty.dims) (nat_le ty.dims (most_at rows (of_text ty.of))) t in (le_from 1 ty.dims parts.0, le_from ty.dims (most_at rows (of_text ty.of)) parts.1) where
+  le_from : (a b : ℕ) → nat_le a b ≡ true → a ≤ b
+  le_from a b e = grind (arith, nat_tests)
+
+pub has_from : (rows : Rows) (ty : Ty) (most : ℕ) → most ≡ most_at rows (of_text ty.of) → 1 ≤ ty.dims → ty.dims ≤ most → IsTrue (has_row rows ty)
+has_from rows ty most is some within = both (nat_le 1 ty.dims) (nat_le ty.dims (most_at rows (of_text ty.of))) (le_to 1 ty.dims some) (le_to ty.dims (most_at rows (of_text ty.of)) (omega (arith, is, within))) where
+  le_to : (a b : ℕ) → a ≤ b → nat_le a b ≡ true
+  le_to a b le = grind (arith, nat_tests)
 
 -- ---- an array and its elements
-
--- the rows are those of these arrays, and of one more and its elements down to these dimensions
-abbrev pub Descends : List Ty → Ty → Rows → ℕ → Type 0
-Descends wholes whole rows dims = (ty : Ty) → IsTrue (has_row rows ty) ↔ (IsRow wholes ty ⊎ ((dims < ty.dims) × IsPartOf ty whole))
-
--- it begins at the whole, or at the most dimensions that a row has
-pub descends_first : (wholes : List Ty) (whole : Ty) (rows : Rows) (dims : ℕ) → dims ≡ min whole.dims 255 → AreRows wholes rows → Descends wholes whole rows dims
-descends_first wholes whole rows dims least are = λ ty. (λ t. inl ((are.each ty).0 t), λ e. elim e [ inl row ↦ (are.each ty).1 row | inr more ↦ absurd (omega (arith, least, more.0, more.1.few, more.1.within)) ])
-
-pub descends_on : (wholes : List Ty) (whole at : Ty) (old new : Rows) (dims : ℕ) → 0 < dims → dims ≤ 255 → dims ≤ whole.dims → at ≡ record { dims = dims; of = whole.of } → Descends wholes whole old dims
-    → ((other : Ty) → IsTrue (has_row new other) ↔ (IsTrue (has_row old other) ⊎ (other ≡ at))) → Descends wholes whole new (dims - 1)
-descends_on wholes whole at old new dims some few within at_is before now = λ ty. (
-  λ t. elim ((now ty).0 t) [
-    | inl was ↦ elim ((before ty).0 was) [ inl row ↦ inl row | inr more ↦ inr (omega (arith, more.0), more.1) ]
-    | inr e ↦ let is : ty ≡ record { dims = dims; of = whole.of } = e ∙ at_is in
-        let d : ty.dims ≡ dims = ap (λ (x : Ty). x.dims) is in
-        inr (omega (arith, d, some), record { array = omega (arith, d, some); few = omega (arith, d, few); within = omega (arith, d, within); same = ap (λ (x : Ty). x.of) is })
-  ],
-  λ e. elim e [
-    | inl row ↦ (now ty).1 (inl ((before ty).1 (inl row)))
-    | inr more ↦ elim (cases_lt dims ty.dims) [
-      | inl above ↦ (now ty).1 (inl ((before ty).1 (inr (above, more.1))))
-      | inr below ↦ (now ty).1 (inr (typed record { dims = dims; of = whole.of } ty.dims ty.of (omega (arith, more.0, below)) more.1.same ∙ sym at_is))
-    ]
-  ],
-)
-
-part_of_part : (a b c : Ty) → 1 ≤ a.dims → a.dims ≤ b.dims → a.of ≡ b.of → IsPartOf b c → IsPartOf a c
-part_of_part a b c some within same part = record { array = some; few = omega (arith, within, part.few); within = omega (arith, within, part.within); same = same ∙ part.same }
-
-row_of_part : (wholes : List Ty) (a b : Ty) → 1 ≤ a.dims → a.dims ≤ b.dims → a.of ≡ b.of → IsRow wholes b → IsRow wholes a
-row_of_part wholes a b some within same row = (row.0, row.1, part_of_part a b row.0 some within same row.2)
 
 row_cases : (wholes : List Ty) (whole ty : Ty) → IsRow (wholes ++ whole ∷ []) ty → IsRow wholes ty ⊎ IsPartOf ty whole
 row_cases wholes whole ty row = elim (Contains-push_cases wholes whole row.0 row.1) [ inl old ↦ inl (row.0, old, row.2) | inr e ↦ inr (subst (λ (w : Ty). IsPartOf ty w) (sym e) row.2) ]
@@ -192,42 +161,76 @@ row_kept wholes whole ty row = (row.0, Contains-append_left wholes (whole ∷ []
 row_last : (wholes : List Ty) (whole ty : Ty) → IsPartOf ty whole → IsRow (wholes ++ whole ∷ []) ty
 row_last wholes whole ty part = (whole, Contains-push wholes whole, part)
 
--- down to no dimensions, or to what had a row before
-pub descended : (wholes : List Ty) (whole at : Ty) (rows : Rows) (dims : ℕ) → at ≡ record { dims = dims; of = whole.of } → Descends wholes whole rows dims → (dims ≡ 0) ⊎ IsTrue (has_row rows at)
-    → AllByRecursion IsKeyed rows.entries → AreRows (wholes ++ whole ∷ []) rows
-descended wholes whole at rows dims at_is down ends keyed = record { keyed = keyed; each = each }
-  where
-    at_dims : at.dims ≡ dims
-    at_dims = ap (λ (x : Ty). x.dims) at_is
+least : (a b c d : ℕ) → a ≤ b → a ≤ 255 → c ≡ min b 255 → c ≤ d → a ≤ d
+least a b c d within few is le = grind (arith, is)
 
-    own : IsTrue (has_row rows at) → IsRow wholes at
-    own t = elim ((down at).0 t) [ inl row ↦ row | inr more ↦ absurd (omega (arith, more.0, at_dims)) ]
+pub no_rows : (rows : Rows) → rows.entries ≡ [] → AreRows [] rows
+no_rows rows is = record { keyed = subst (λ (es : Entries). AllByRecursion IsKeyed es) (sym is) tt; each = each } where
+  each : (ty : Ty) → IsTrue (has_row rows ty) ↔ IsRow [] ty
+  each ty = (
+    λ t. let parts = has_parts rows ty t in
+        let most : most_at rows (of_text ty.of) ≡ 0 = ap (λ (es : Entries). dims_in (found_in es (of_text ty.of))) is in
+        absurd (omega (arith, parts.0, parts.1, most)),
+    λ row. absurd (let none = row.1.1 in omega (arith, none)),
+  )
 
-    below : (ty : Ty) → IsPartOf ty whole → ty.dims ≤ dims → IsTrue (has_row rows ty)
-    below ty part le = elim ends [
-      | inl none ↦ absurd (omega (arith, none, part.array, le))
-      | inr t ↦ (down ty).1 (inl (row_of_part wholes ty at part.array (omega (arith, le, at_dims)) (part.same ∙ sym (ap (λ (x : Ty). x.of) at_is)) (own t)))
-    ]
+pub at_most : (dims whole : ℕ) → dims ≡ min whole 255 → dims ≤ 255
+at_most dims whole is = grind (arith, is)
 
-    part_has : (ty : Ty) → IsPartOf ty whole → IsTrue (has_row rows ty)
-    part_has ty part = elim (cases_lt dims ty.dims) [ inl above ↦ (down ty).1 (inr (above, part)) | inr le ↦ below ty part le ]
+-- what has a row of as many dimensions has all its rows
+pub rows_stay : (wholes : List Ty) (whole : Ty) (rows : Rows) (dims : ℕ) (text : Name) → text ≡ of_text whole.of → dims ≡ min whole.dims 255 → dims ≤ most_at rows text → AreRows wholes rows → AreRows (wholes ++ whole ∷ []) rows
+rows_stay wholes whole rows dims text text_is dims_is le are = record { keyed = are.keyed; each = each } where
+  most_is : (ty : Ty) → ty.of ≡ whole.of → most_at rows text ≡ most_at rows (of_text ty.of)
+  most_is ty same = ap (most_at rows) (text_is ∙ ap of_text (sym same))
 
-    each : (ty : Ty) → IsTrue (has_row rows ty) ↔ IsRow (wholes ++ whole ∷ []) ty
-    each ty = (
-      λ t. elim ((down ty).0 t) [ inl row ↦ row_kept wholes whole ty row | inr more ↦ row_last wholes whole ty more.1 ],
-      λ row. elim (row_cases wholes whole ty row) [ inl old ↦ (down ty).1 (inl old) | inr part ↦ part_has ty part ],
-    )
+  each : (ty : Ty) → IsTrue (has_row rows ty) ↔ IsRow (wholes ++ whole ∷ []) ty
+  each ty = (
+    λ t. row_kept wholes whole ty ((are.each ty).0 t),
+    λ row. elim (row_cases wholes whole ty row) [
+      | inl old ↦ (are.each ty).1 old
+      | inr part ↦ has_from rows ty (most_at rows text) (most_is ty part.same) part.array (least ty.dims whole.dims dims (most_at rows text) part.within part.few dims_is le)
+    ],
+  )
 
--- rows that were there already
-pub stays : (wholes : List Ty) (at : Ty) (old new : Rows) → AreRows wholes old → IsTrue (has_row old at) → ((other : Ty) → IsTrue (has_row new other) ↔ (IsTrue (has_row old other) ⊎ (other ≡ at))) → AllByRecursion IsKeyed new.entries → AreRows wholes new
-stays wholes at old new are has now keyed = record {
-  keyed = keyed;
-  each = λ ty. (
-    λ t. elim ((now ty).0 t) [ inl was ↦ (are.each ty).0 was | inr e ↦ (are.each ty).0 (subst (λ (x : Ty). IsTrue (has_row old x)) (sym e) has) ],
-    λ row. (now ty).1 (inl ((are.each ty).1 row)),
-  );
-}
+-- a row of more dimensions
+pub rows_more : (wholes : List Ty) (whole : Ty) (old new : Rows) (key : Vec ℕ) (v : Ty) → key.items ≡ of_text whole.of → v.dims ≡ min whole.dims 255 → (v.dims ≤ most_at old key.items → ⊥)
+    → found_in new.entries key.items ≡ Some v → new.entries ≡ insert_entry order old.entries key v → AllByRecursion IsKeyed new.entries → AreRows wholes old → AreRows (wholes ++ whole ∷ []) new
+rows_more wholes whole old new key v key_is dims_is more own is keyed are = record { keyed = keyed; each = each } where
+  most_own : (text : Name) → text ≡ key.items → v.dims ≡ most_at new text
+  most_own text same = sym (ap (λ (t : Name). dims_in (found_in new.entries t)) same ∙ ap dims_in own)
 
-pub had : (b new : Bool) → new ≡ not b → new ≡ false → IsTrue b
-had true new is e = refl
-had false new is e = let bad : true ≡ false = sym is ∙ e in absurd cc
+  most_other : (text : Name) → (text ≡ key.items → ⊥) → most_at old text ≡ most_at new text
+  most_other text other = sym (ap (λ (es : Entries). dims_in (found_in es text)) is ∙ ap dims_in (found_other old.entries key v text other))
+
+  part : (ty : Ty) → of_text ty.of ≡ key.items → IsTrue (has_row new ty) → IsPartOf ty whole
+  part ty same t =
+      let parts = has_parts new ty t in
+      let own_most = most_own (of_text ty.of) same in
+      record { array = parts.0; few = few ty.dims v.dims whole.dims (omega (arith, parts.1, own_most)) dims_is; within = within ty.dims v.dims whole.dims (omega (arith, parts.1, own_most)) dims_is; same = of_once ty.of whole.of (same ∙ key_is) } where
+        few : (a b c : ℕ) → a ≤ b → b ≡ min c 255 → a ≤ 255
+        few a b c le e = grind (arith, e)
+
+        within : (a b c : ℕ) → a ≤ b → b ≡ min c 255 → a ≤ c
+        within a b c le e = grind (arith, e)
+
+  to : (ty : Ty) → (of_text ty.of ≡ key.items) ⊎ (of_text ty.of ≡ key.items → ⊥) → IsTrue (has_row new ty) → IsRow (wholes ++ whole ∷ []) ty
+  to ty (inl same) t = row_last wholes whole ty (part ty same t)
+  to ty (inr other) t = let parts = has_parts new ty t in row_kept wholes whole ty ((are.each ty).0 (has_from old ty (most_at new (of_text ty.of)) (sym (most_other (of_text ty.of) other)) parts.0 parts.1))
+
+  kept : (ty : Ty) → (of_text ty.of ≡ key.items) ⊎ (of_text ty.of ≡ key.items → ⊥) → IsTrue (has_row old ty) → IsTrue (has_row new ty)
+  kept ty (inl same) t =
+      let parts = has_parts old ty t in
+      let was : most_at old (of_text ty.of) ≡ most_at old key.items = ap (most_at old) same in
+      has_from new ty v.dims (most_own (of_text ty.of) same) parts.0 (above ty.dims (most_at old (of_text ty.of)) (most_at old key.items) v.dims parts.1 was more) where
+        above : (a b c d : ℕ) → a ≤ b → b ≡ c → (d ≤ c → ⊥) → a ≤ d
+        above a b c d le e beyond = omega (arith, le, e, beyond)
+  kept ty (inr other) t = let parts = has_parts old ty t in has_from new ty (most_at old (of_text ty.of)) (most_other (of_text ty.of) other) parts.0 parts.1
+
+  last : (ty : Ty) → IsPartOf ty whole → IsTrue (has_row new ty)
+  last ty of_whole = has_from new ty v.dims (most_own (of_text ty.of) (ap of_text of_whole.same ∙ sym key_is)) of_whole.array (least ty.dims whole.dims v.dims v.dims of_whole.within of_whole.few dims_is (omega arith))
+
+  each : (ty : Ty) → IsTrue (has_row new ty) ↔ IsRow (wholes ++ whole ∷ []) ty
+  each ty = (
+    to ty (text_cases (of_text ty.of) key.items),
+    λ row. elim (row_cases wholes whole ty row) [ inl old_row ↦ kept ty (text_cases (of_text ty.of) key.items) ((are.each ty).1 old_row) | inr of_whole ↦ last ty of_whole ],
+  )

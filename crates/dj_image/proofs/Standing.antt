@@ -1,11 +1,13 @@
 -- A program with its code and constants differs from the one without them in these only, so what is told of the one is told of the other.
 use Rattle.std.proofs.Common.{◌≡◌, ℕ, ◌<◌, List, [], ◌∷◌, map, length, Option, Some, None, refl, sym, ap, ◌∙◌, subst, IsTrue}
 use Rattle.std.proofs.lemmas.List.{length-map}
-use Rattle.std.specs.Prelude.{slice_get, nat_lt, if◌then◌else◌, unwrap_or, ◌+◌}
+use Rattle.std.specs.Prelude.{slice_get, nat_lt, if◌then◌else◌, unwrap_or, ◌+◌, ◌++◌}
 use Rattle.std.specs.Option.{option_map}
 use Rattle.std.specs.Global.{Vec}
 use Rattle.dj_pool.specs.Pool.{Constant}
+use Rattle.dj_names.specs.declared.run.Raised.{Raised}
 use Rattle.dj_names.specs.Types.{Name}
+use Rattle.dj_names.specs.Values.{raised_class}
 use Rattle.dj_names.specs.declared.descriptor.Ty.{Ty}
 use Rattle.dj_model.specs.Types.{Prefix}
 use Rattle.dj_model.specs.Program as programs
@@ -19,6 +21,7 @@ use Rattle.dj_program.specs.Views.{parts_of}
 use Rattle.dj_program.specs.declared.code.MethodCode.{MethodCode}
 use Rattle.dj_types.specs.declared.types.MemberOf.{MemberOf}
 use Rattle.dj_types.specs.Typed.{Typed, texts_of, types_of, text_number, flags_at, super_at, interfaces_at, component_at, is_subtype_at, string_at, chars_at, stop_at}
+use Rattle.dj_types.specs.Own.{raised_at}
 use Rattle.dj_types.specs.Members.{all_methods, all_fields, field_count_at, resolved_method, resolved_field, selected, special_of, found_method_number, found_field_number, methods_before, fields_before, IsMethodThere, IsFieldThere, IsNthMethod, IsNthField, native_at}
 use Rattle.dj_image.specs.declared.parts.ClassParts.{ClassParts}
 use Rattle.dj_image.specs.Sources.{with_code, with_codes, with_values, class_of_source, program_of_sources}
@@ -123,6 +126,9 @@ module _ {a b : Typed} (like : IsLike a b) where
 
   pub stop_like : stop_at a ≡ stop_at b
   stop_like = moved (λ t. stop_at t) laws.stop_at_bare a b like
+
+  pub raised_like : (raised : Raised) → raised_at a raised ≡ raised_at b raised
+  raised_like raised = moved (λ t. raised_at t raised) (λ t. laws.text_number_bare t (t.prefix ++ raised_class raised)) a b like
 
   pub name_at_like : (class : ℕ) → name_at a.program class ≡ name_at b.program class
   name_at_like class = moved (λ t. name_at t.program class) (λ t. laws.name_at_bare t.program class) a b like

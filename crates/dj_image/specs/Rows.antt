@@ -1,20 +1,20 @@
 -- The code's own: arrays by the texts of their descriptors.
-use Rattle.std.specs.Prelude.{◌≡◌, ◌↔◌, ℕ, suc, ◌≤◌, Bool, List, [], ◌∷◌, ◌++◌, IsTrue, Contains, nat_eq, if◌then◌else◌}
+use Rattle.std.specs.Prelude.{◌≡◌, ◌↔◌, ℕ, zero, suc, ◌≤◌, ◌&&◌, Bool, List, [], ◌∷◌, ◌++◌, map, Option, Some, None, IsTrue, Contains, nat_eq, nat_le, if◌then◌else◌}
 use Rattle.std.specs.Global.{Vec}
 use Rattle.std.specs.Ordering.{nat_cmp}
 use Rattle.std.specs.Cmp.Lexicographic.{slice_cmp}
-use Rattle.std.specs.List.{AllByRecursion, filter}
+use Rattle.std.specs.List.{AllByRecursion, filter, filter_map}
 use Rattle.std.specs.List.Sorted.{IsStrictlySortedBy}
 use Rattle.std.specs.BTreeMap.{BTreeMap, get_by}
-use Rattle.std.specs.Option.{is_some}
 use Rattle.dj_names.specs.declared.descriptor.Base.TheVariants as bases
 use Rattle.dj_names.specs.declared.descriptor.Of.{Of}
 use Rattle.dj_names.specs.declared.descriptor.Of.TheVariants as ofs
 use Rattle.dj_names.specs.declared.descriptor.Ty.{Ty}
-use Rattle.dj_names.specs.Types.{base_array}
-use Rattle.dj_names.specs.Descriptors.{type_text}
+use Rattle.dj_names.specs.Types.{Name, base_array}
+use Rattle.dj_names.specs.Descriptors.{of_text}
 use Rattle.dj_pool.specs.Pool.{Constant, IsClassText, NamesText}
 use Rattle.dj_model.specs.Program.{Program}
+use Rattle.dj_types.specs.declared.shapes.Shape.{Shape}
 use Rattle.dj_types.specs.Typed.{is_known_of}
 use Rattle.dj_image.specs.declared.lent_type.LentType.{LentType}
 use Rattle.dj_image.specs.declared.lent_type.LentOf.{LentOf}
@@ -54,12 +54,22 @@ Rows = BTreeMap (Vec ℕ) Ty
 abbrev pub RiseStrictly : List (Vec ℕ) → Type 0
 RiseStrictly texts = IsStrictlySortedBy (λ x y. slice_cmp nat_cmp x.items y.items) texts
 
--- the array whose descriptor is this text has a row
-abbrev pub has_row : Rows → Ty → Bool
-has_row rows ty = is_some (get_by (λ key. slice_cmp nat_cmp (type_text ty) key.items) rows)
+-- the dimensions of a row, none where there is none
+abbrev pub dims_in : Option Ty → ℕ
+dims_in None = 0
+dims_in (Some top) = top.dims
 
+-- the most dimensions over what this is the descriptor of
+abbrev pub most_at : Rows → Name → ℕ
+most_at rows text = dims_in (get_by (λ key. slice_cmp nat_cmp text key.items) rows)
+
+-- the array has as many dimensions as one of its elements' row, or fewer
+abbrev pub has_row : Rows → Ty → Bool
+has_row rows ty = nat_le 1 ty.dims && nat_le ty.dims (most_at rows (of_text ty.of))
+
+-- a row stands at the descriptor of what its elements are
 abbrev pub IsKeyed : Vec ℕ × Ty → Type 0
-IsKeyed entry = (type_text entry.1 ≡ entry.0.items) × (entry.1.dims ≤ 255)
+IsKeyed entry = (of_text entry.1.of ≡ entry.0.items) × (1 ≤ entry.1.dims) × (entry.1.dims ≤ 255)
 
 -- one of the arrays is it, or has it for elements at whatever depth
 abbrev pub IsRow : List Ty → Ty → Type 0
@@ -69,6 +79,23 @@ IsRow wholes ty = (whole : Ty) × Contains wholes whole × IsPartOf ty whole
 pub record AreRows (wholes : List Ty) (rows : Rows) : Type 0 where
   pub keyed : AllByRecursion IsKeyed rows.entries
   pub each : (ty : Ty) → IsTrue (has_row rows ty) ↔ IsRow wholes ty
+
+-- ---- in order
+
+-- the array of so many dimensions, where the one with the most has as many
+abbrev pub at_level : ℕ → Shape → Option Shape
+at_level dims top = if nat_le dims top.dims then Some (record { dims = dims; of = top.of }) else None
+
+abbrev pub level : ℕ → List Shape → List Shape
+level dims tops = filter_map (at_level dims) tops
+
+-- those of fewer dimensions first
+abbrev pub levels : ℕ → List Shape → List Shape
+levels zero tops = []
+levels (suc dims) tops = levels dims tops ++ level (suc dims) tops
+
+abbrev pub AreAllKnown : Program → List Ty → Type 0
+AreAllKnown program types = AllByRecursion (λ (ty : Ty). IsTrue (is_known_of program ty.of)) types
 
 -- ---- which have rows
 

@@ -1,25 +1,27 @@
-ghost use Rattle.std.specs.Prelude.{◌≡◌, ◌≤◌, ◌∷◌, ◌++◌, ◌⊎◌, ◌↔◌, [], List, not, IsTrue, IfOk, OnOk, Contains};
+ghost use Rattle.std.specs.Prelude.{◌≡◌, ◌≤◌, ◌∷◌, ◌++◌, ◌↔◌, [], List, map, IfOk, OnOk, Contains};
 ghost use Rattle.std.specs.Option.{option_map, option_to_list};
 ghost use Rattle.std.specs.List.{AllByRecursion};
+ghost use Rattle.std.specs.BTreeMap.{keys, values};
 ghost use Rattle.dj_names.specs.declared.descriptor.Ty.{Ty};
 ghost use Rattle.dj_names.specs.Types.{base_array};
-ghost use Rattle.dj_names.specs.Descriptors.{type_text, base_letter};
+ghost use Rattle.dj_names.specs.Descriptors.{of_text, base_letter};
 ghost use Rattle.dj_pool.specs.Pool.{IsPool, IsClassText, NamesText};
 ghost use Rattle.dj_declared.specs.Files.{type_in, name_in};
 ghost use Rattle.dj_model.specs.Opcodes.{array_rows};
 ghost use Rattle.dj_types.specs.Typed.{is_known_of, AreArrays};
+ghost use Rattle.dj_types.specs.Shapes.{AreElements, shape_in, shape_type};
 ghost use Rattle.dj_image.specs.Parts.{FitClasses};
 ghost use Rattle.dj_image.specs.Uses.{base_used, used_type, class_types};
-ghost use Rattle.std.specs.BTreeMap.{keys, values};
-ghost use Rattle.dj_image.specs.Rows.{RiseStrictly, of_lent, type_lent, has_row, IsKeyed, IsFitUse, AreRows, IsRow, known_types, first_wholes, wholes_of};
+ghost use Rattle.dj_image.specs.Rows.{RiseStrictly, of_lent, type_lent, most_at, level, levels, IsKeyed, IsFitUse, AreAllKnown, AreRows, IsRow, known_types, first_wholes, wholes_of};
 
 use crate::error::ImageError;
 use crate::lent_type::{LentOf, LentType, type_in};
 use crate::owned::OwnedPool;
 use crate::parts::ClassParts;
 use crate::uses::{Use, class_uses};
+use dj_classes::ClassTable;
 use dj_names::{Base, Name, Of, Ty};
-use dj_types::Linker;
+use dj_types::{Linker, Shape, shape_of};
 use std::alloc::Global;
 use std::collections::BTreeMap;
 
@@ -40,12 +42,12 @@ fn base_letter(base: Base) -> u8
     }
 }
 
-// The descriptor of a type.
-fn type_text(alloc: Global, ty: LentType<'_>) -> Result<Vec<u8>, ImageError>
-    ensures { IfOk result (λ text. text.items ≡ type_text (type_lent ty.entry)) }
+// The descriptor of what the elements of an array are.
+fn of_text(alloc: Global, of: LentOf<'_>) -> Result<Vec<u8>, ImageError>
+    ensures { IfOk result (λ text. text.items ≡ of_text (of_lent of.entry)) }
 {
-    let mut text = vec![in alloc; b'['; usize::from(ty.dims)]?;
-    match ty.of {
+    let mut text = Vec::new(alloc);
+    match of {
         LentOf::Base(base) => text.push(base_letter(base))?,
         LentOf::Class(name) => {
             text.push(b'L')?;
@@ -56,42 +58,27 @@ fn type_text(alloc: Global, ty: LentType<'_>) -> Result<Vec<u8>, ImageError>
     Ok(text)
 }
 
-fn owned_type(alloc: Global, ty: LentType<'_>) -> Result<Ty, ImageError>
-    requires { ty.dims ≤ 255 }
-    ensures { IfOk result (λ owned. owned ≡ type_lent ty.entry) }
+fn owned_of(alloc: Global, of: LentOf<'_>) -> Result<Of, ImageError>
+    ensures { IfOk result (λ owned. owned ≡ of_lent of.entry) }
 {
-    let of = match ty.of {
+    Ok(match of {
         LentOf::Base(base) => Of::Base(base),
         LentOf::Class(name) => Of::Class(Name::from_slice(alloc, name)?),
-    };
-    Ok(Ty {
-        dims: ty.dims as u8,
-        of,
     })
 }
 
-// Gives an array a row, and tells whether it had none.
-fn add_row(
-    alloc: Global,
-    rows: &mut BTreeMap<Vec<u8>, Ty>,
-    ty: LentType<'_>,
-) -> Result<bool, ImageError>
-    requires few { ty.dims ≤ 255 }
-    requires keyed { AllByRecursion IsKeyed rows.old.entries }
-    ensures keyed { OnOk result (AllByRecursion IsKeyed rows.new.entries) }
-    ensures new { IfOk result (λ new. new ≡ not (has_row rows.old (type_lent ty.entry))) }
-    ensures now { (other : Ty) → OnOk result (IsTrue (has_row rows.new other) ↔ (IsTrue (has_row rows.old other) ⊎ (other ≡ type_lent ty.entry))) }
+// The most dimensions that the elements of this descriptor have under them.
+fn most_dims(rows: &BTreeMap<Vec<u8>, Ty>, text: &[u8]) -> u8
+    ensures { result ≡ most_at rows.now text.now }
 {
-    let text = type_text(alloc, ty)?;
-    if rows.contains_key(text.as_slice()) {
-        return Ok(false);
+    match rows.get(text) {
+        Some(top) => top.dims,
+        None => 0,
     }
-    rows.insert(text, owned_type(alloc, ty)?)?;
-    Ok(true)
 }
 
-// Gives rows to an array and to its elements, as far down as these are arrays that have none. More dimensions than a descriptor spells
-// have no rows.
+// Gives rows to an array and to its elements at whatever depth, as far as these are arrays. More dimensions than a descriptor spells have
+// no rows.
 fn add_rows(
     alloc: Global,
     rows: &mut BTreeMap<Vec<u8>, Ty>,
@@ -101,13 +88,13 @@ fn add_rows(
     ensures keyed { OnOk result (AllByRecursion IsKeyed rows.new.entries) }
     ensures rows { (wholes : List Ty) → AreRows wholes rows.old → OnOk result (AreRows (wholes ++ type_lent whole.entry ∷ []) rows.new) }
 {
-    let mut dims = whole.dims.min(255);
-    while dims > 0 {
-        if !add_row(alloc, rows, LentType { dims, of: whole.of })? {
-            return Ok(());
-        }
-        dims -= 1;
+    let dims = whole.dims.min(255) as u8;
+    let text = of_text(alloc, whole.of)?;
+    if dims <= most_dims(rows, text.as_slice()) {
+        return Ok(());
     }
+    let of = owned_of(alloc, whole.of)?;
+    rows.insert(text, Ty { dims, of })?;
     Ok(())
 }
 
@@ -214,20 +201,49 @@ fn first_rows(alloc: Global) -> Result<BTreeMap<Vec<u8>, Ty>, ImageError>
 {
     let mut rows = BTreeMap::new(alloc);
     let of = LentOf::Base(Base::Byte);
-    add_row(alloc, &mut rows, LentType { dims: 1, of })?;
+    add_rows(alloc, &mut rows, LentType { dims: 1, of })?;
     let of = LentOf::Base(Base::Char);
-    add_row(alloc, &mut rows, LentType { dims: 1, of })?;
+    add_rows(alloc, &mut rows, LentType { dims: 1, of })?;
     Ok(rows)
 }
 
-// The arrays of rows, in the order of the texts.
-fn arrays_in(alloc: Global, rows: BTreeMap<Vec<u8>, Ty>) -> Result<Vec<Ty>, ImageError>
-    ensures arrays { IfOk result (λ arrays. arrays.items ≡ values rows) }
-    ensures ordered { IfOk result (λ _. RiseStrictly (keys rows)) }
+// ---- in order
+
+// The arrays of rows that have the most dimensions, in the order of the texts of what their elements are.
+fn tops_in(
+    alloc: Global,
+    table: &ClassTable,
+    rows: BTreeMap<Vec<u8>, Ty>,
+) -> Result<Vec<Shape>, ImageError>
+    requires { AreAllKnown table.now (values rows) }
+    ensures { IfOk result (λ tops. tops.items ≡ map (shape_in table.now) (values rows)) }
 {
-    let mut arrays = Vec::with_capacity(alloc, rows.len())?;
-    for array in rows.into_values() {
-        arrays.push(array)?;
+    let mut tops = Vec::new(alloc);
+    for top in rows.into_values() {
+        tops.push(shape_of(table, &top))?;
+    }
+    Ok(tops)
+}
+
+// Appends the arrays of so many dimensions.
+fn add_level(arrays: &mut Vec<Shape>, tops: &[Shape], dims: u8) -> Result<(), ImageError>
+    ensures { OnOk result (arrays.new.items ≡ arrays.old.items ++ level dims tops.now) }
+{
+    for top in tops {
+        if dims <= top.dims {
+            arrays.push(Shape { dims, of: top.of })?;
+        }
+    }
+    Ok(())
+}
+
+// The arrays that these are or have for elements at whatever depth, in the order of the texts: those of fewer dimensions first.
+fn levels_of(alloc: Global, tops: &[Shape]) -> Result<Vec<Shape>, ImageError>
+    ensures { IfOk result (λ arrays. arrays.items ≡ levels 255 tops.now) }
+{
+    let mut arrays = Vec::new(alloc);
+    for below in 0..255 {
+        add_level(&mut arrays, tops, below + 1)?;
     }
     Ok(arrays)
 }
@@ -237,14 +253,17 @@ pub(crate) fn arrays_of(
     alloc: Global,
     linker: &Linker,
     parts: &[ClassParts],
-) -> Result<Vec<Ty>, ImageError>
+) -> Result<Vec<Shape>, ImageError>
     requires { FitClasses linker.now.program parts.now }
-    ensures arrays { IfOk result (λ arrays. AreArrays linker.now.program arrays.items) }
-    ensures numbered { (ty : Ty) → IfOk result (λ arrays. Contains arrays.items ty ↔ IsRow (wholes_of linker.now.program parts.now) ty) }
+    ensures arrays { IfOk result (λ arrays. AreArrays linker.now.program (map (shape_type linker.now.program) arrays.items)) }
+    ensures elements { IfOk result (λ arrays. AreElements linker.now.program arrays.items) }
+    ensures numbered { (ty : Ty) → IfOk result (λ arrays. Contains (map (shape_type linker.now.program) arrays.items) ty ↔ IsRow (wholes_of linker.now.program parts.now) ty) }
 {
     let mut rows = first_rows(alloc)?;
     for class in parts {
         add_class(alloc, linker, &mut rows, class)?;
     }
-    arrays_in(alloc, rows)
+    let few = rows.len();
+    let tops = tops_in(alloc, linker.classes(), rows)?;
+    levels_of(alloc, &tops)
 }

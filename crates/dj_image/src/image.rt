@@ -4,6 +4,7 @@ ghost use Rattle.dj_model.specs.Linking.{place_of};
 ghost use Rattle.dj_declared.specs.Files.{bare_class};
 ghost use Rattle.dj_declared.specs.Members.{IsDescriptor};
 ghost use Rattle.dj_types.specs.Typed.{texts_of, types_of, text_number, flags_at, super_at, interfaces_at, component_at, is_subtype_at, string_at, chars_at, stop_at};
+ghost use Rattle.dj_types.specs.Own.{raised_at};
 ghost use Rattle.dj_types.specs.Members.{all_methods, all_fields, field_count_at, resolved_method, resolved_field, selected, special_of, found_method_number, found_field_number, IsMethodThere, IsFieldThere, IsNthMethod, IsNthField, number_of_method, number_of_field};
 ghost use Rattle.dj_image.specs.Imaged.{program_of, typed_of, IsNumbered};
 ghost use Rattle.dj_image.specs.Codes.{HasInstr, HasRange, IsOperandAt, IsNamedAt, IsCaughtAt, IsConstantAt, IsBodyAt};
@@ -15,7 +16,7 @@ use crate::shaped::{ShapeParts, shape_parts};
 use crate::taken::{
     caught_kept, code_at, constant_at, index_of, instr_at, named_kept, operand_there, range_at,
 };
-use dj_names::{NativeId, Units};
+use dj_names::{NativeId, Raised, Units};
 use dj_program::MethodCode;
 use dj_types::{FieldId, Linker, MemberOf, MethodId, Types};
 use std::marker::Model;
@@ -168,6 +169,13 @@ impl Image {
         ensures { result ≡ stop_at (typed_of self.now) }
     {
         self.types.stop()
+    }
+
+    /// The class of an exception of an instruction's own, where it is there.
+    pub fn raised(&self, raised: Raised) -> Option<u32>
+        ensures { result ≡ raised_at (typed_of self.now) raised }
+    {
+        self.types.raised(raised)
     }
 
     /// The number of instance fields of a class, inherited ones included; 0 of an array.

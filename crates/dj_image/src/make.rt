@@ -13,12 +13,12 @@ use crate::image::Image;
 use crate::parts::ClassParts;
 use crate::tables::tables_of;
 use crate::texts::texts_of;
-use dj_names::{Ty, Units};
-use dj_types::{Linker, Types};
+use dj_names::Units;
+use dj_types::{Linker, Shape, Types};
 use std::alloc::Global;
 
 // There is no memory for more classes and arrays than have numbers.
-fn check_types(linker: &Linker, arrays: &[Ty]) -> Result<(), ImageError>
+fn check_types(linker: &Linker, arrays: &[Shape]) -> Result<(), ImageError>
     ensures { OnOk result (length linker.now.program + length arrays.now < 2 ^ 32) }
 {
     let Ok(count) = u32::try_from(arrays.len()) else {

@@ -19,5 +19,9 @@ pub mod Walks
 pub mod Numbered
 pub mod Unnumbered
 pub mod Calling
+pub mod Tops
+pub mod Covering
 mod LinkedFacts
+mod RankedFacts
 mod ListedFacts
+mod SharedFacts

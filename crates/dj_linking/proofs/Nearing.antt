@@ -169,7 +169,7 @@ method_some program name desc class some none = go (method_place (methods_at pro
   go None is = some is
   go (Some member) is = none-some (method_there program (record { class = class; member = member })) (sym (method_told program class name desc member (sym is) ∙ ap (option_map Some) none))
 
-no_method : (program : Program) (name : Name) (desc : Desc) (class : ℕ) → method_place (methods_at program class) name desc ≡ None → method_found program any_method name desc class ≡ None
+pub no_method : (program : Program) (name : Name) (desc : Desc) (class : ℕ) → method_place (methods_at program class) name desc ≡ None → method_found program any_method name desc class ≡ None
 no_method program name desc class none = told_none (method_found program any_method name desc class) (no_method_told program class name desc (sym none))
 
 module _ (program : Program) (order ranks : List ℕ) (bits : List (List ℕ)) (are : AreRanks program order ranks bits) (class : ℕ) (lt : class < length program) (have : HasRow bits class)

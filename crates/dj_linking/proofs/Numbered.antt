@@ -34,7 +34,7 @@ pub method_found_at : (program : Program) (class : ℕ) (name : Name) (desc : De
     → option_map (slice_get (methods_at program class)) place ≡ option_map Some (method_in (methods_at program class) name desc)
 method_found_at program class name desc place is = ap (option_map (slice_get (methods_at program class))) is ∙ method_placed (methods_at program class) name desc
 
-field_found_at : (program : Program) (class : ℕ) (name : Name) (desc : Desc) (place : Option ℕ) → place ≡ field_place (fields_at program class) name desc
+pub field_found_at : (program : Program) (class : ℕ) (name : Name) (desc : Desc) (place : Option ℕ) → place ≡ field_place (fields_at program class) name desc
     → option_map (slice_get (fields_at program class)) place ≡ option_map Some (field_in (fields_at program class) name desc)
 field_found_at program class name desc place is = ap (option_map (slice_get (fields_at program class))) is ∙ field_placed (fields_at program class) name desc
 

@@ -22,14 +22,14 @@ use Rattle.dj_linking.proofs.Walks.{no_numbers_up}
 
 -- ---- numbers of numbers
 
-has_mapped : (f : ℕ → ℕ) (xs : List ℕ) (z : ℕ) → has xs z ≡ true → has (map f xs) (f z) ≡ true
+pub has_mapped : (f : ℕ → ℕ) (xs : List ℕ) (z : ℕ) → has xs z ≡ true → has (map f xs) (f z) ≡ true
 has_mapped f [] z there = absurd (false≢true there)
 has_mapped f (x ∷ xs) z there = elim (has_cases xs x z there) [
   | inl e ↦ has_here (map f xs) (f x) (f z) (ap f e)
   | inr h ↦ has_more (map f xs) (f x) (f z) (has_mapped f xs z h)
 ]
 
-mapped_has : (f : ℕ → ℕ) (xs : List ℕ) (r : ℕ) → has (map f xs) r ≡ true → (z : ℕ) × (has xs z ≡ true) × (f z ≡ r)
+pub mapped_has : (f : ℕ → ℕ) (xs : List ℕ) (r : ℕ) → has (map f xs) r ≡ true → (z : ℕ) × (has xs z ≡ true) × (f z ≡ r)
 mapped_has f [] r there = absurd (false≢true there)
 mapped_has f (x ∷ xs) r there = elim (has_cases (map f xs) (f x) r there) [
   | inl e ↦ (x, has_self xs x, e)
@@ -52,7 +52,7 @@ module _ (program : Program) (order ranks : List ℕ) (rows : List (List ℕ)) (
   next_has k have (Some j) is = ((ranked.each k have).next j is).0
 
   -- the superclasses have bits too
-  all_have : (n : ℕ) (o : Option ℕ) → IfSome o (HasRow rows) → (z : ℕ) → has (numbers_up n program o) z ≡ true → HasRow rows z
+  pub all_have : (n : ℕ) (o : Option ℕ) → IfSome o (HasRow rows) → (z : ℕ) → has (numbers_up n program o) z ≡ true → HasRow rows z
   unfolding numbers_up
   all_have zero o have z there = absurd (false≢true there)
   all_have (suc n) None have z there = absurd (false≢true there)

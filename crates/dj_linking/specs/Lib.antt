@@ -7,3 +7,4 @@ pub mod Nearest
 pub mod Numbers
 pub mod Numbered
 pub mod Ranked
+pub mod Shared

@@ -1,5 +1,6 @@
 -- The nearest of the classes that declare a member: of those above a class, the one of the highest rank.
 use Rattle.std.specs.Prelude.{◌≡◌, ℕ, ◌<◌, ◌≤◌, true, false, List, Option, Some, None, ltb, if◌then◌else◌, get_or}
+use Rattle.dj_linking.specs.Bits.{in_bits}
 use Rattle.dj_directory.specs.declared.rows.MemberRow.{MemberRow}
 use Rattle.dj_linking.specs.declared.nearest.Near.{Near}
 use Rattle.dj_linking.specs.Numbers.{has}
@@ -32,3 +33,14 @@ abbrev pub nearer : Option Near → Option Near → Option Near
 nearer None other = other
 nearer (Some near) None = Some near
 nearer (Some near) (Some other) = if ltb near.rank other.rank then Some other else Some near
+
+-- of the classes above whose ranks are marked, this one has the highest rank
+pub record IsNearMarked (above ranks marks : List ℕ) (near : ℕ) : Type 0 where
+  pub among : has above near ≡ true
+  pub marked : in_bits marks (rank_in ranks near) ≡ true
+  pub highest : (class : ℕ) → has above class ≡ true → in_bits marks (rank_in ranks class) ≡ true → rank_in ranks class ≤ rank_in ranks near
+
+-- the same, or none of those above is marked
+abbrev pub IsNearestMarked : List ℕ → List ℕ → List ℕ → Option ℕ → Type 0
+IsNearestMarked above ranks marks None = (class : ℕ) → has above class ≡ true → in_bits marks (rank_in ranks class) ≡ false
+IsNearestMarked above ranks marks (Some near) = IsNearMarked above ranks marks near

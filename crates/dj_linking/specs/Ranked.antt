@@ -3,11 +3,10 @@ use Rattle.std.specs.Prelude.{◌≡◌, ℕ, ◌+◌, ◌<◌, ◌^◌, List, [
 use Rattle.dj_model.specs.Program.{Program}
 use Rattle.dj_model.specs.Linking.{most_classes}
 use Rattle.dj_classes.specs.Tables.{super_number}
-use Rattle.dj_linking.specs.declared.chains.Chains.{Chains}
 use Rattle.dj_linking.specs.declared.ranked.Ranks.{Ranks}
 use Rattle.dj_linking.specs.Bits.{AreBits, words_for}
-use Rattle.dj_linking.specs.Chained.{AreFieldChains, AreMethodChains, IsShort}
-use Rattle.dj_linking.specs.Numbers.{AreAbove, lists_of, most_above, numbers_up}
+use Rattle.dj_linking.specs.Chained.{IsShort}
+use Rattle.dj_linking.specs.Numbers.{lists_of, most_above, numbers_up}
 
 abbrev pub rank_in : List ℕ → ℕ → ℕ
 rank_in ranks class = get_or ranks class 0
@@ -51,10 +50,3 @@ pub record AreRanks (program : Program) (order ranks : List ℕ) (rows : List (L
 -- the same as the code holds it
 abbrev pub AreRanksOf : Program → Ranks → Type 0
 AreRanksOf program ranks = AreRanks program ranks.classes.items ranks.ranks.items (lists_of ranks.rows.items)
-
--- all that resolution looks in
-pub record AreLists (program : Program) (lists : List (List ℕ)) (method_chains field_chains : Chains) (class_ranks : Ranks) : Type 0 where
-  pub above : AreAbove program lists
-  pub methods : AreMethodChains program method_chains
-  pub fields : AreFieldChains program field_chains
-  pub ranks : AreRanksOf program class_ranks

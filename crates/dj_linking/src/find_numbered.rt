@@ -1,26 +1,27 @@
 //! Members found by the numbers of their names and descriptors.
-ghost use Rattle.std.specs.Prelude.{◌≡◌, ℕ, List, ◌<◌, ◌≤◌, ◌*◌, true, false, Contains, length, Some, IfSome, MatchOption, slice_get, if◌then◌else◌, ◌∷◌};
+ghost use Rattle.std.specs.Prelude.{◌≡◌, ℕ, List, ◌<◌, ◌≤◌, true, false, length, Some, IfSome, MatchOption, slice_get, if◌then◌else◌, ◌∷◌};
 ghost use Rattle.std.specs.Option.{option_map};
 ghost use Rattle.dj_model.specs.Program.{is_interface, flags_of};
 ghost use Rattle.dj_model.specs.Linking.{any_method, is_plain, most_classes, option_list};
 ghost use Rattle.dj_declared.specs.Files.{desc_in};
-ghost use Rattle.dj_declared.specs.Members.{method_flags};
-ghost use Rattle.dj_classes.specs.Tables.{flags_in, super_number, methods_at};
-ghost use Rattle.dj_directory.specs.declared.rows.MemberRow.{MemberRow};
+ghost use Rattle.dj_classes.specs.Tables.{flags_in, super_number};
 ghost use Rattle.dj_linking.specs.Bits.{in_bits};
 ghost use Rattle.dj_linking.specs.Chained.{AreFieldChains, AreMethodChains};
-ghost use Rattle.dj_linking.specs.Marked.{IsCovered, is_plain_at};
+ghost use Rattle.dj_linking.specs.Marked.{IsCovered};
 ghost use Rattle.dj_linking.specs.Numbered.{AreTexts};
 ghost use Rattle.dj_linking.specs.Numbers.{AreAbove, AreBelow, TellsMethod, TellsField, first_some, method_found, field_found, lists_of, numbers_above, numbers_up};
 ghost use Rattle.dj_linking.specs.Ranked.{AreRanksOf, HasRow};
+ghost use Rattle.dj_linking.specs.Shared.{HaveFieldMarks, HavePlainMarks, HaveRankMarks};
 
 use crate::chains::Chains;
+use crate::declarers::{mark_all, mark_plain, method_flags};
 use crate::find::{INTERFACE, MOST_CLASSES, PRIVATE, STATIC};
 use crate::nearest::nearest_of;
 use crate::ranked::{MOST_ROWS, Ranks};
-use crate::words::{may_have_bit, put_bit};
+use crate::shared::{FEW_ROWS, Shared};
+use crate::words::may_have_bit;
 use dj_classes::Place;
-use dj_directory::{Directory, MemberRow};
+use dj_directory::Directory;
 
 // So many classes are looked at one by one before all that declare a member are.
 const SHORT_WALK: u32 = 8;
@@ -29,15 +30,6 @@ const SHORT_WALK: u32 = 8;
 const MARK_WORDS: usize = 128;
 
 // ---- what a table tells of a class
-
-// The access flags of a method (JVMS table 4.6-A).
-fn method_flags(directory: &Directory<'_>, class: u32, member: u32) -> u16
-    requires there { class < length directory.now.program }
-    requires within { member < length (methods_at directory.now.program class) }
-    ensures { Some result ≡ option_map method_flags (slice_get (methods_at directory.now.program class) member) }
-{
-    directory.classes().method_flags(class, member)
-}
 
 // The access flags of a class (JVMS table 4.1-A).
 fn flags_of(directory: &Directory<'_>, class: u32) -> u16
@@ -89,51 +81,7 @@ fn field_in(directory: &Directory<'_>, class: u32, name: u32, desc: u32) -> Opti
     Some(Place { class, member })
 }
 
-// ---- classes that declare a member, as bits
-
-// Whether the method of a row is neither private nor static.
-fn is_plain_row(directory: &Directory<'_>, row: MemberRow) -> bool
-    requires there { row.class < length directory.now.program }
-    requires within { row.place < length (methods_at directory.now.program row.class) }
-    ensures { result ≡ is_plain_at directory.now.program row.class row.place }
-{
-    let flags = method_flags(directory, row.class, row.place);
-    flags & PRIVATE == 0 && flags & STATIC == 0
-}
-
-// Marks a class, where it is to be marked.
-fn mark_if(marks: &mut [u64], class: u32, marked: bool)
-    requires { class < length marks.old * 64 }
-    ensures kept { (z : ℕ) → in_bits marks.old z ≡ true → in_bits marks.new z ≡ true }
-    ensures own { marked ≡ true → in_bits marks.new class ≡ true }
-    ensures count { length marks.new ≡ length marks.old }
-{
-    if marked {
-        put_bit(marks, class);
-    }
-}
-
-// Marks the classes of the rows whose method is neither private nor static.
-fn mark_plain(directory: &Directory<'_>, rows: &[MemberRow], marks: &mut [u64])
-    requires there { (row : MemberRow) → Contains rows.now row → row.class < length directory.now.program }
-    requires within { (row : MemberRow) → Contains rows.now row → row.place < length (methods_at directory.now.program row.class) }
-    requires few { length directory.now.program ≤ length marks.old * 64 }
-    ensures { (row : MemberRow) → Contains rows.now row → is_plain_at directory.now.program row.class row.place ≡ true → in_bits marks.new row.class ≡ true }
-{
-    for row in rows {
-        mark_if(marks, row.class, is_plain_row(directory, *row));
-    }
-}
-
-// Marks the classes of the rows.
-fn mark_all(rows: &[MemberRow], marks: &mut [u64])
-    requires { (row : MemberRow) → Contains rows.now row → row.class < length marks.old * 64 }
-    ensures { (row : MemberRow) → Contains rows.now row → in_bits marks.new row.class ≡ true }
-{
-    for row in rows {
-        mark_if(marks, row.class, true);
-    }
-}
+// ---- classes that are marked
 
 // Whether something may be found in a class: it is marked, where any are.
 fn may_be_in(marks: Option<&[u64]>, class: u32) -> bool
@@ -193,26 +141,48 @@ fn plain_method_in_turn(
     None
 }
 
-// The first method of these classes that is neither private nor static.
-fn plain_method_among(
+// The first method of these classes that is neither private nor static, where few classes declare such a method, or few are looked at.
+fn plain_method_of_few(
     directory: &Directory<'_>,
     classes: &[u32],
     name: u32,
     desc: u32,
 ) -> Option<Place>
-    requires { AreBelow (length directory.now.program) classes.now }
+    requires below { AreBelow (length directory.now.program) classes.now }
+    requires few { length directory.now.program ≤ 8192 }
+    ensures { (n d : List ℕ) → AreTexts directory.now name desc n d → TellsMethod directory.now.program result (first_some (method_found directory.now.program is_plain n (desc_in d)) classes.now) }
+{
+    let rows = directory.methods_of(name, desc);
+    if rows.is_empty() {
+        return None;
+    }
+    if rows.len() > FEW_ROWS {
+        return plain_method_in_turn(directory, None, classes, name, desc);
+    }
+    let mut marks = [0; MARK_WORDS];
+    mark_plain(directory, rows, &mut marks);
+    plain_method_in_turn(directory, Some(marks.as_slice()), classes, name, desc)
+}
+
+// The first method of these classes that is neither private nor static.
+fn plain_method_among(
+    directory: &Directory<'_>,
+    shared: &Shared,
+    classes: &[u32],
+    name: u32,
+    desc: u32,
+) -> Option<Place>
+    requires below { AreBelow (length directory.now.program) classes.now }
+    requires shared { HavePlainMarks directory.now.program shared.now.plain.items }
     ensures { (n d : List ℕ) → AreTexts directory.now name desc n d → TellsMethod directory.now.program result (first_some (method_found directory.now.program is_plain n (desc_in d)) classes.now) }
 {
     if !is_worth_marking(directory, classes) {
         return plain_method_in_turn(directory, None, classes, name, desc);
     }
-    let rows = directory.methods_of(name, desc);
-    if rows.is_empty() {
-        return None;
+    match shared.plain_marks(directory, name, desc) {
+        Some(marks) => plain_method_in_turn(directory, Some(marks), classes, name, desc),
+        None => plain_method_of_few(directory, classes, name, desc),
     }
-    let mut marks = [0; MARK_WORDS];
-    mark_plain(directory, rows, &mut marks);
-    plain_method_in_turn(directory, Some(marks.as_slice()), classes, name, desc)
 }
 
 // The field that a class declares, where it may be there.
@@ -254,21 +224,43 @@ fn field_in_turn(
     None
 }
 
+// The first field of these classes, where few classes declare such a field, or few are looked at.
+fn field_of_few(directory: &Directory<'_>, classes: &[u32], name: u32, desc: u32) -> Option<Place>
+    requires below { AreBelow (length directory.now.program) classes.now }
+    requires few { length directory.now.program ≤ 8192 }
+    ensures { (n d : List ℕ) → AreTexts directory.now name desc n d → TellsField directory.now.program result (first_some (field_found directory.now.program n (desc_in d)) classes.now) }
+{
+    let rows = directory.fields_of(name, desc);
+    if rows.is_empty() {
+        return None;
+    }
+    if rows.len() > FEW_ROWS {
+        return field_in_turn(directory, None, classes, name, desc);
+    }
+    let mut marks = [0; MARK_WORDS];
+    mark_all(rows, &mut marks);
+    field_in_turn(directory, Some(marks.as_slice()), classes, name, desc)
+}
+
 // The first field of these classes.
-fn field_among(directory: &Directory<'_>, classes: &[u32], name: u32, desc: u32) -> Option<Place>
-    requires { AreBelow (length directory.now.program) classes.now }
+fn field_among(
+    directory: &Directory<'_>,
+    shared: &Shared,
+    classes: &[u32],
+    name: u32,
+    desc: u32,
+) -> Option<Place>
+    requires below { AreBelow (length directory.now.program) classes.now }
+    requires shared { HaveFieldMarks directory.now.program shared.now.fields.items }
     ensures { (n d : List ℕ) → AreTexts directory.now name desc n d → TellsField directory.now.program result (first_some (field_found directory.now.program n (desc_in d)) classes.now) }
 {
     if !is_worth_marking(directory, classes) {
         return field_in_turn(directory, None, classes, name, desc);
     }
-    let rows = directory.fields_of(name, desc);
-    if rows.is_empty() {
-        return None;
+    match shared.field_marks(directory, name, desc) {
+        Some(marks) => field_in_turn(directory, Some(marks), classes, name, desc),
+        None => field_of_few(directory, classes, name, desc),
     }
-    let mut marks = [0; MARK_WORDS];
-    mark_all(rows, &mut marks);
-    field_in_turn(directory, Some(marks.as_slice()), classes, name, desc)
 }
 
 // ---- up the classes
@@ -277,32 +269,36 @@ fn field_among(directory: &Directory<'_>, classes: &[u32], name: u32, desc: u32)
 fn plain_method_above(
     directory: &Directory<'_>,
     above: &[Vec<u32>],
+    shared: &Shared,
     class: u32,
     name: u32,
     desc: u32,
 ) -> Option<Place>
     requires there { class < length directory.now.program }
     requires above { AreAbove directory.now.program (lists_of above.now) }
+    requires shared { HavePlainMarks directory.now.program shared.now.plain.items }
     ensures { (n d : List ℕ) → AreTexts directory.now name desc n d → TellsMethod directory.now.program result (first_some (method_found directory.now.program is_plain n (desc_in d)) (numbers_above directory.now.program class)) }
 {
-    plain_method_among(directory, &above[class as usize], name, desc)
+    plain_method_among(directory, shared, &above[class as usize], name, desc)
 }
 
 // The first field of a class and of the interfaces above it.
 fn field_above(
     directory: &Directory<'_>,
     above: &[Vec<u32>],
+    shared: &Shared,
     class: u32,
     name: u32,
     desc: u32,
 ) -> Option<Place>
     requires there { class < length directory.now.program }
     requires above { AreAbove directory.now.program (lists_of above.now) }
+    requires shared { HaveFieldMarks directory.now.program shared.now.fields.items }
     ensures { (n d : List ℕ) → AreTexts directory.now name desc n d → TellsField directory.now.program result (first_some (field_found directory.now.program n (desc_in d)) (class ∷ numbers_above directory.now.program class)) }
 {
     match field_in(directory, class, name, desc) {
         Some(place) => Some(place),
-        None => field_among(directory, &above[class as usize], name, desc),
+        None => field_among(directory, shared, &above[class as usize], name, desc),
     }
 }
 
@@ -355,30 +351,61 @@ fn nearest_method(
     ensures { (n d : List ℕ) → AreTexts directory.now name desc n d → TellsMethod directory.now.program result (first_some (method_found directory.now.program any_method n (desc_in d)) (numbers_up most_classes directory.now.program (Some class))) }
 {
     let rows = directory.methods_of(name, desc);
+    if rows.len() > FEW_ROWS {
+        return method_up_by_class(directory, class, name, desc);
+    }
     let near = nearest_of(directory.classes(), ranks, rows, class)?;
     method_in(directory, near.class, name, desc)
+}
+
+// The same, where many classes declare it: their marks tell the nearest one.
+fn marked_method(
+    directory: &Directory<'_>,
+    ranks: &Ranks,
+    shared: &Shared,
+    class: u32,
+    name: u32,
+    desc: u32,
+) -> Option<Option<Place>>
+    requires there { class < length directory.now.program }
+    requires ranks { AreRanksOf directory.now.program ranks.now }
+    requires known { HasRow (lists_of ranks.now.rows.items) class }
+    requires shared { HaveRankMarks directory.now.program ranks.now.ranks.items shared.now.declared.items }
+    ensures { IfSome result (λ place. (n d : List ℕ) → AreTexts directory.now name desc n d → TellsMethod directory.now.program place (first_some (method_found directory.now.program any_method n (desc_in d)) (numbers_up most_classes directory.now.program (Some class)))) }
+{
+    let marks = shared.declared_marks(directory, ranks, name, desc)?;
+    let near = ranks.nearest_marked(directory.classes(), class, marks)?;
+    let Some(near) = near else {
+        return Some(None);
+    };
+    let place = method_in(directory, near, name, desc)?;
+    Some(Some(place))
 }
 
 // The first method of a class and its superclasses.
 fn method_up(
     directory: &Directory<'_>,
     ranks: &Ranks,
+    shared: &Shared,
     class: u32,
     name: u32,
     desc: u32,
 ) -> Option<Place>
     requires there { class < length directory.now.program }
     requires ranks { AreRanksOf directory.now.program ranks.now }
+    requires shared { HaveRankMarks directory.now.program ranks.now.ranks.items shared.now.declared.items }
     ensures { (n d : List ℕ) → AreTexts directory.now name desc n d → TellsMethod directory.now.program result (first_some (method_found directory.now.program any_method n (desc_in d)) (numbers_up most_classes directory.now.program (Some class))) }
 {
     if let Some(told) = method_near(directory, class, name, desc) {
         return told;
     }
-    if ranks.has_row(directory.classes(), class) {
-        nearest_method(directory, ranks, class, name, desc)
-    } else {
+    if !ranks.has_row(directory.classes(), class) {
         // Its superclasses go round, or there are too many classes for bits.
-        method_up_by_class(directory, class, name, desc)
+        return method_up_by_class(directory, class, name, desc);
+    }
+    match marked_method(directory, ranks, shared, class, name, desc) {
+        Some(told) => told,
+        None => nearest_method(directory, ranks, class, name, desc),
     }
 }
 
@@ -386,19 +413,21 @@ fn method_up(
 fn plain_method_by_class(
     directory: &Directory<'_>,
     above: &[Vec<u32>],
+    shared: &Shared,
     class: u32,
     name: u32,
     desc: u32,
 ) -> Option<Place>
     requires there { class < length directory.now.program }
     requires above { AreAbove directory.now.program (lists_of above.now) }
+    requires shared { HavePlainMarks directory.now.program shared.now.plain.items }
     ensures { (n d : List ℕ) → AreTexts directory.now name desc n d → TellsMethod directory.now.program result
         (first_some (λ k. first_some (method_found directory.now.program is_plain n (desc_in d)) (numbers_above directory.now.program k)) (numbers_up most_classes directory.now.program (Some class))) }
 {
     let mut next = Some(class);
     for _ in 0..MOST_CLASSES {
         let at = next?;
-        if let Some(place) = plain_method_above(directory, above, at, name, desc) {
+        if let Some(place) = plain_method_above(directory, above, shared, at, name, desc) {
             return Some(place);
         }
         next = super_of(directory, at);
@@ -410,6 +439,7 @@ fn plain_method_by_class(
 pub fn plain_method_up(
     directory: &Directory<'_>,
     above: &[Vec<u32>],
+    shared: &Shared,
     methods: &Chains,
     class: u32,
     name: u32,
@@ -418,13 +448,14 @@ pub fn plain_method_up(
     requires there { class < length directory.now.program }
     requires above { AreAbove directory.now.program (lists_of above.now) }
     requires methods { AreMethodChains directory.now.program methods.now }
+    requires shared { HavePlainMarks directory.now.program shared.now.plain.items }
     ensures { (n d : List ℕ) → AreTexts directory.now name desc n d → TellsMethod directory.now.program result
         (first_some (λ k. first_some (method_found directory.now.program is_plain n (desc_in d)) (numbers_above directory.now.program k)) (numbers_up most_classes directory.now.program (Some class))) }
 {
     match methods.list_of(class) {
-        Some(list) => plain_method_among(directory, list, name, desc),
+        Some(list) => plain_method_among(directory, shared, list, name, desc),
         // Its superclasses go round.
-        None => plain_method_by_class(directory, above, class, name, desc),
+        None => plain_method_by_class(directory, above, shared, class, name, desc),
     }
 }
 
@@ -432,19 +463,21 @@ pub fn plain_method_up(
 fn field_by_class(
     directory: &Directory<'_>,
     above: &[Vec<u32>],
+    shared: &Shared,
     class: u32,
     name: u32,
     desc: u32,
 ) -> Option<Place>
     requires there { class < length directory.now.program }
     requires above { AreAbove directory.now.program (lists_of above.now) }
+    requires shared { HaveFieldMarks directory.now.program shared.now.fields.items }
     ensures { (n d : List ℕ) → AreTexts directory.now name desc n d → TellsField directory.now.program result
         (first_some (λ k. first_some (field_found directory.now.program n (desc_in d)) (k ∷ numbers_above directory.now.program k)) (numbers_up most_classes directory.now.program (Some class))) }
 {
     let mut next = Some(class);
     for _ in 0..MOST_CLASSES {
         let at = next?;
-        if let Some(place) = field_above(directory, above, at, name, desc) {
+        if let Some(place) = field_above(directory, above, shared, at, name, desc) {
             return Some(place);
         }
         next = super_of(directory, at);
@@ -456,6 +489,7 @@ fn field_by_class(
 pub fn field_up(
     directory: &Directory<'_>,
     above: &[Vec<u32>],
+    shared: &Shared,
     fields: &Chains,
     class: u32,
     name: u32,
@@ -464,13 +498,14 @@ pub fn field_up(
     requires there { class < length directory.now.program }
     requires above { AreAbove directory.now.program (lists_of above.now) }
     requires fields { AreFieldChains directory.now.program fields.now }
+    requires shared { HaveFieldMarks directory.now.program shared.now.fields.items }
     ensures { (n d : List ℕ) → AreTexts directory.now name desc n d → TellsField directory.now.program result
         (first_some (λ k. first_some (field_found directory.now.program n (desc_in d)) (k ∷ numbers_above directory.now.program k)) (numbers_up most_classes directory.now.program (Some class))) }
 {
     match fields.list_of(class) {
-        Some(list) => field_among(directory, list, name, desc),
+        Some(list) => field_among(directory, shared, list, name, desc),
         // Its superclasses go round.
-        None => field_by_class(directory, above, class, name, desc),
+        None => field_by_class(directory, above, shared, class, name, desc),
     }
 }
 
@@ -478,6 +513,7 @@ pub fn field_up(
 pub fn method_first(
     directory: &Directory<'_>,
     ranks: &Ranks,
+    shared: &Shared,
     object: Option<u32>,
     class: u32,
     name: u32,
@@ -486,11 +522,12 @@ pub fn method_first(
     requires object { IfSome object (λ k. k < length directory.now.program) }
     requires ranks { AreRanksOf directory.now.program ranks.now }
     requires there { class < length directory.now.program }
+    requires shared { HaveRankMarks directory.now.program ranks.now.ranks.items shared.now.declared.items }
     ensures { (n d : List ℕ) → AreTexts directory.now name desc n d → TellsMethod directory.now.program result (first_some (method_found directory.now.program any_method n (desc_in d))
         (if is_interface (flags_of (slice_get directory.now.program class)) then class ∷ option_list object else numbers_up most_classes directory.now.program (Some class))) }
 {
     if flags_of(directory, class) & INTERFACE == 0 {
-        return method_up(directory, ranks, class, name, desc);
+        return method_up(directory, ranks, shared, class, name, desc);
     }
     match method_in(directory, class, name, desc) {
         Some(place) => Some(place),

@@ -23,6 +23,7 @@ use crate::find_numbered;
 use crate::methods::method_chains;
 use crate::ranked::Ranks;
 use crate::select::selected_method;
+use crate::shared::Shared;
 use crate::special::{instance_method_above, is_own_or_superclass, is_superclass};
 use dj_classes::{ClassTable, Place, TableError};
 use dj_directory::{CallTable, Directory};
@@ -48,6 +49,7 @@ pub struct Linker {
     methods: Chains,
     fields: Chains,
     ranks: Ranks,
+    shared: Shared,
     // The number of Object, where it is there.
     object: Option<u32>,
     ghost named: { object ≡ class_number table (object_name (prefix_of base)) },
@@ -58,12 +60,12 @@ impl Model for Linker {
 
     ghost Value = { Linked };
 
-    ghost use Rattle.dj_linking.specs.Ranked.{AreLists};
+    ghost use Rattle.dj_linking.specs.Shared.{AreLists};
     ghost use Rattle.dj_linking.specs.Numbers.{lists_of};
 
     ghost view = { λ linker. record { program = linker.table; prefix = prefix_of linker.base } };
 
-    ghost invariant = { λ linker. AreLists linker.table (lists_of linker.above.items) linker.methods linker.fields linker.ranks };
+    ghost invariant = { λ linker. AreLists linker.table (lists_of linker.above.items) linker.methods linker.fields linker.ranks linker.shared };
 }
 
 // The name of Object.
@@ -86,6 +88,7 @@ impl Linker {
         let methods = method_chains(alloc, &table, &order, &above)?;
         let fields = field_chains(alloc, &table, &order, &above)?;
         let ranks = Ranks::of(alloc, &table, order)?;
+        let shared = Shared::of(alloc, &table, &methods, &fields, &ranks)?;
         let object = table.class_named(object_of(base));
         Ok(Linker {
             table,
@@ -94,6 +97,7 @@ impl Linker {
             methods,
             fields,
             ranks,
+            shared,
             object,
         })
     }
@@ -159,11 +163,20 @@ impl Linker {
         ensures { (n d : List ℕ) → AreTexts directory.now name desc n d → option_map (method_there self.now.program) result ≡ option_map Some (resolved_method self.now class n d) }
     {
         self.table.names_differ();
-        match find_numbered::method_first(directory, &self.ranks, self.object, class, name, desc) {
+        match find_numbered::method_first(
+            directory,
+            &self.ranks,
+            &self.shared,
+            self.object,
+            class,
+            name,
+            desc,
+        ) {
             Some(place) => Some(place),
             None => find_numbered::plain_method_up(
                 directory,
                 &self.above,
+                &self.shared,
                 &self.methods,
                 class,
                 name,
@@ -185,7 +198,15 @@ impl Linker {
         ensures { (n d : List ℕ) → AreTexts directory.now name desc n d → option_map (field_there self.now.program) result ≡ option_map Some (resolved_field self.now class n d) }
     {
         self.table.names_differ();
-        find_numbered::field_up(directory, &self.above, &self.fields, class, name, desc)
+        find_numbered::field_up(
+            directory,
+            &self.above,
+            &self.shared,
+            &self.fields,
+            class,
+            name,
+            desc,
+        )
     }
 
     /// Whether a class is the other one, or has it above it (JVMS 4.10.1.2).

@@ -2,10 +2,11 @@
 ghost use Rattle.std.specs.Prelude.{◌≡◌, ℕ, ◌+◌, ◌<◌, ◌^◌, true, false, length, Some, IfOk, IfSome, MatchOption, OnOk};
 ghost use Rattle.dj_model.specs.Linking.{most_classes};
 ghost use Rattle.dj_linking.specs.Numbers.{AreBelow, has, lists_of, most_above, numbers_up};
+ghost use Rattle.dj_linking.specs.Nearest.{IsNearestMarked};
 ghost use Rattle.dj_linking.specs.Ranked.{AreRanked, AreRanks, AreRanksOf, HasRow, IsRow, IsRowAbove, rank_in};
 
 use crate::empty::empty_rows;
-use crate::words::{has_bit, put_bit};
+use crate::words::{has_bit, highest_common, put_bit};
 use dj_classes::{ClassTable, TableError};
 use std::alloc::Global;
 
@@ -194,5 +195,26 @@ impl Ranks {
             Some(rank) => Some(has_bit(row, rank)),
             None => Some(false),
         }
+    }
+    /// Of the classes whose ranks are marked, the nearest that is the class, which has bits, or one of its superclasses, where it is known.
+    pub fn nearest_marked(
+        &self,
+        table: &ClassTable,
+        class: u32,
+        marks: &[u64],
+    ) -> Option<Option<u32>>
+        requires there { class < length table.now }
+        requires ranks { AreRanksOf table.now self.now }
+        requires known { HasRow (lists_of self.now.rows.items) class }
+        ensures { IfSome result (IsNearestMarked (numbers_up most_classes table.now (Some class)) self.now.ranks.items marks.now) }
+    {
+        let _ = table.class_count();
+        let Some(rank) = highest_common(&self.rows[class as usize], marks) else {
+            return Some(None);
+        };
+        let Some(&near) = self.classes.get(rank as usize) else {
+            return None;
+        };
+        Some(Some(near))
     }
 }

@@ -1,5 +1,5 @@
-ghost use Rattle.std.specs.Prelude.{◌≡◌, ℕ, ◌*◌, ◌<◌, ◌≤◌, true, length, nat_eq, if◌then◌else◌};
-ghost use Rattle.dj_linking.specs.Bits.{in_bits};
+ghost use Rattle.std.specs.Prelude.{◌≡◌, ℕ, ◌+◌, ◌-◌, ◌*◌, ◌<◌, ◌≤◌, ◌^◌, true, length, nat_eq, if◌then◌else◌};
+ghost use Rattle.dj_linking.specs.Bits.{IsHighest, IsHighestIn, in_bits, in_both};
 
 /// Whether the number is among those of the bits.
 pub fn has_bit(words: &[u64], number: u32) -> bool
@@ -40,4 +40,55 @@ pub fn has_bits(words: &[u64], others: &[u64]) -> bool
         }
     }
     true
+}
+
+// Whether the number is among those of both.
+fn is_in_both(words: &[u64], others: &[u64], number: u32) -> bool
+    ensures { result ≡ in_both words.now others.now number }
+{
+    may_have_bit(words, number) && may_have_bit(others, number)
+}
+
+// A number that stands in the word of this place, counted from its highest.
+fn number_at(at: usize, back: u32) -> u32
+    requires few { at < 2 ^ 26 }
+    requires back { back < 64 }
+    ensures { result ≡ at * 64 + (63 - back) }
+{
+    at as u32 * 64 + (63 - back)
+}
+
+// The highest number that stands in the word of this place and is among those of both.
+fn common_in(words: &[u64], others: &[u64], at: usize) -> Option<u32>
+    requires few { length words.now ≤ 2 ^ 26 }
+    requires words { at < length words.now }
+    ensures { IsHighestIn words.now others.now at result }
+{
+    if at >= others.len() {
+        return None;
+    }
+    if words[at] & others[at] == 0 {
+        return None;
+    }
+    for back in 0..64 {
+        let number = number_at(at, back);
+        if is_in_both(words, others, number) {
+            return Some(number);
+        }
+    }
+    None
+}
+
+/// The highest number that is among those of both.
+pub fn highest_common(words: &[u64], others: &[u64]) -> Option<u32>
+    requires { length words.now ≤ 2 ^ 26 }
+    ensures { IsHighest words.now others.now result }
+{
+    let count = words.len();
+    for back in 0..count {
+        if let Some(number) = common_in(words, others, count - 1 - back) {
+            return Some(number);
+        }
+    }
+    None
 }

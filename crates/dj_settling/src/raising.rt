@@ -1,10 +1,8 @@
 ghost use Rattle.std.specs.Prelude.{◌≡◌, ◌++◌, IfOk};
-ghost use Rattle.dj_names.specs.Types.{sandbox_prefix};
 ghost use Rattle.dj_names.specs.Values.{raised_class};
 ghost use Rattle.dj_model.specs.Types.{raised_type};
 ghost use Rattle.dj_model.specs.Sound.{IsSound};
 ghost use Rattle.dj_calls.specs.Known.{AreKnown};
-ghost use Rattle.dj_linking.specs.Linked.{prefix_of};
 ghost use Rattle.dj_types.specs.Typed.{types_of};
 ghost use Rattle.dj_image.specs.Imaged.{program_of, typed_of};
 ghost use Rattle.dj_activations.specs.Activations.{AreActivations};
@@ -13,9 +11,10 @@ ghost use Rattle.dj_settling.specs.Settling.{HasOwn, IsClassOf, Settles, raising
 use crate::settled::Settled;
 use crate::throwing::throw_new;
 use dj_heap::Heap;
-use dj_image::{BaseNames, Image};
+use dj_image::Image;
 use dj_names::{Charge, NoMemory, Raised};
 use dj_stack::Frames;
+use dj_types::raised_name;
 use std::alloc::Global;
 
 /// An exception of an instruction's own, without message and cause, is made and thrown.
@@ -39,12 +38,11 @@ pub fn raise(
 }
 
 // The class of an exception of an instruction's own.
-#[tactic(auto, using(crate::proofs::RaiseLaws::class_told, crate::proofs::RaiseLaws::class_lacks))]
 fn class_of(image: &Image, raised: Raised) -> u32
     requires { HasOwn image.now }
     ensures { IsClassOf image.now (raised_type image.now.prefix raised) result }
 {
-    match image.class_named(name_in(image, raised)) {
+    match image.raised(raised) {
         Some(class) => class,
         None => unreachable!(),
     }
@@ -55,42 +53,5 @@ fn class_of(image: &Image, raised: Raised) -> u32
 pub(crate) fn name_in(image: &Image, raised: Raised) -> &'static [u8]
     ensures { result.now ≡ image.now.prefix ++ raised_class raised }
 {
-    name_of(image.linker().base(), raised)
-}
-
-fn name_of(base: BaseNames, raised: Raised) -> &'static [u8]
-    ensures { result.now ≡ prefix_of base ++ raised_class raised }
-{
-    match base {
-        BaseNames::Plain => plain_name(raised),
-        BaseNames::Sandbox => sandbox_name(raised),
-    }
-}
-
-fn plain_name(raised: Raised) -> &'static [u8]
-    ensures { result.now ≡ raised_class raised }
-{
-    match raised {
-        Raised::Arithmetic => b"java/lang/ArithmeticException",
-        Raised::ArrayIndexOutOfBounds => b"java/lang/ArrayIndexOutOfBoundsException",
-        Raised::ArrayStore => b"java/lang/ArrayStoreException",
-        Raised::ClassCast => b"java/lang/ClassCastException",
-        Raised::NegativeArraySize => b"java/lang/NegativeArraySizeException",
-        Raised::NullPointer => b"java/lang/NullPointerException",
-        Raised::StringIndexOutOfBounds => b"java/lang/StringIndexOutOfBoundsException",
-    }
-}
-
-fn sandbox_name(raised: Raised) -> &'static [u8]
-    ensures { result.now ≡ sandbox_prefix ++ raised_class raised }
-{
-    match raised {
-        Raised::Arithmetic => b"sandbox/java/lang/ArithmeticException",
-        Raised::ArrayIndexOutOfBounds => b"sandbox/java/lang/ArrayIndexOutOfBoundsException",
-        Raised::ArrayStore => b"sandbox/java/lang/ArrayStoreException",
-        Raised::ClassCast => b"sandbox/java/lang/ClassCastException",
-        Raised::NegativeArraySize => b"sandbox/java/lang/NegativeArraySizeException",
-        Raised::NullPointer => b"sandbox/java/lang/NullPointerException",
-        Raised::StringIndexOutOfBounds => b"sandbox/java/lang/StringIndexOutOfBoundsException",
-    }
+    raised_name(image.linker().base(), raised)
 }

@@ -1,2 +1,7 @@
 pub mod Bottom
+pub mod Cells
 mod FrameFacts
+pub mod Halves
+pub mod PartLists
+pub mod Puts
+pub mod Stacks

@@ -1,2 +1,6 @@
+pub mod Cells
 pub mod Frames
+pub mod Held
+pub mod Parts
+pub mod Stacks
 pub mod Views

@@ -1,8 +1,10 @@
-ghost use Rattle.std.specs.Prelude.{◌≡◌, ◌++◌, ◌∷◌, [], ◌<◌, ◌≤◌, length, replicate, None, IfOk, IfErr};
-ghost use Rattle.std.specs.Vec.{vec_capacity};
+ghost use Rattle.std.specs.Prelude.{◌≡◌, ◌∷◌, [], ◌<◌, replicate, None, IfOk, IfErr};
 ghost use Rattle.dj_stack.specs.declared.errors.PushError.TheVariants as PushError;
+ghost use Rattle.dj_stack.specs.Held.{locals_of, values_of, room_of};
 
 use crate::errors::PushError;
+use crate::operands::Operands;
+use crate::variables::Locals;
 use dj_names::Value;
 use std::alloc::Global;
 
@@ -11,13 +13,8 @@ use std::alloc::Global;
 pub struct Frame {
     pub(crate) method: u32,
     pub(crate) number: u32,
-    pub(crate) locals: Vec<Option<Value>>,
-    pub(crate) operands: Vec<Value>,
-    pub(crate) room: u16,
-    pub ghost fits: { length operands.items ≤ room },
-    pub ghost reserved: { room ≤ vec_capacity operands },
-    pub ghost few: { length locals.items < 65536 },
-    pub ghost narrow: { room < 65536 },
+    pub(crate) locals: Locals,
+    pub(crate) operands: Operands,
 }
 
 impl Frame {
@@ -28,41 +25,28 @@ impl Frame {
         locals: u16,
         room: u16,
     ) -> Result<Frame, PushError>
-        ensures method { IfOk result (λ frame. (frame.method ≡ method) × (frame.number ≡ 0) × (frame.room ≡ room)) }
-        ensures locals { IfOk result (λ frame. frame.locals.items ≡ replicate locals None) }
-        ensures operands { IfOk result (λ frame. frame.operands.items ≡ []) }
+        ensures method { IfOk result (λ frame. (frame.method ≡ method) × (frame.number ≡ 0) × (room_of frame.operands ≡ room)) }
+        ensures locals { IfOk result (λ frame. locals_of frame.locals ≡ replicate locals None) }
+        ensures operands { IfOk result (λ frame. values_of frame.operands ≡ []) }
         ensures refused { IfErr result (λ e. e ≡ PushError.Memory) }
     {
-        let locals = vec![in alloc; None; usize::from(locals)]?;
-        let operands = Vec::with_capacity(alloc, usize::from(room))?;
+        let locals = Locals::new(alloc, locals)?;
+        let operands = Operands::with_room(alloc, room)?;
         Ok(Frame {
             method,
             number: 0,
             locals,
             operands,
-            room,
         })
-    }
-
-    /// Pushes an operand, for which there is room.
-    pub(crate) fn push_value(&mut self, value: Value)
-        requires { length self.old.operands.items < self.old.room }
-        ensures operands { self.new.operands.items ≡ self.old.operands.items ++ value ∷ [] }
-        ensures rest { (self.new.method ≡ self.old.method) × (self.new.number ≡ self.old.number) × (self.new.locals ≡ self.old.locals) × (self.new.room ≡ self.old.room) }
-    {
-        match self.operands.push(value) {
-            Ok(()) => {}
-            Err(_) => unreachable!(),
-        }
     }
 
     /// Leaves this operand alone, for which there is room.
     pub(crate) fn unwind(&mut self, value: Value)
-        requires { 0 < self.old.room }
-        ensures operands { self.new.operands.items ≡ value ∷ [] }
-        ensures rest { (self.new.method ≡ self.old.method) × (self.new.number ≡ self.old.number) × (self.new.locals ≡ self.old.locals) × (self.new.room ≡ self.old.room) }
+        requires { 0 < room_of self.old.operands }
+        ensures operands { values_of self.new.operands ≡ value ∷ [] }
+        ensures rest { (self.new.method ≡ self.old.method) × (self.new.number ≡ self.old.number) × (self.new.locals ≡ self.old.locals) × (room_of self.new.operands ≡ room_of self.old.operands) }
     {
         self.operands.clear();
-        self.push_value(value);
+        self.operands.push(value);
     }
 }

@@ -77,7 +77,7 @@ impl Frames {
         ensures rest { SameButOperands self.old self.new }
     {
         match &mut self.top {
-            Some(frame) => frame.push_value(value),
+            Some(frame) => frame.operands.push(value),
             None => unreachable!(),
         }
     }
@@ -89,10 +89,7 @@ impl Frames {
         ensures rest { SameButOperands self.old self.new }
     {
         match &mut self.top {
-            Some(frame) => match frame.operands.pop() {
-                Some(value) => value,
-                None => unreachable!(),
-            },
+            Some(frame) => frame.operands.pop(),
             None => unreachable!(),
         }
     }
@@ -102,7 +99,7 @@ impl Frames {
         ensures { length (top_operands self.now) + result ≡ top_room self.now }
     {
         match &self.top {
-            Some(frame) => frame.room - frame.operands.len() as u16,
+            Some(frame) => frame.operands.spare(),
             None => 0,
         }
     }

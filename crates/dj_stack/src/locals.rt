@@ -11,7 +11,7 @@ impl Frames {
         ensures { slice_get (top_locals self.now) at ≡ Some result }
     {
         match &self.top {
-            Some(frame) => frame.locals[usize::from(at)],
+            Some(frame) => frame.locals.get(at),
             None => unreachable!(),
         }
     }
@@ -23,7 +23,7 @@ impl Frames {
         ensures rest { SameButLocals self.old self.new }
     {
         match &mut self.top {
-            Some(frame) => frame.locals[usize::from(at)] = value,
+            Some(frame) => frame.locals.set(at, value),
             None => unreachable!(),
         }
     }

@@ -29,7 +29,7 @@ impl Frames {
         requires { IsSome (frame_at self.now f) }
         ensures { option_map (λ (frame : StackFrame). length frame.locals) (frame_at self.now f) ≡ Some result }
     {
-        self.frame(f).locals.len() as u16
+        self.frame(f).locals.len()
     }
 
     /// How many operands a frame has.
@@ -37,7 +37,7 @@ impl Frames {
         requires { IsSome (frame_at self.now f) }
         ensures { option_map (λ (frame : StackFrame). length frame.operands) (frame_at self.now f) ≡ Some result }
     {
-        self.frame(f).operands.len() as u16
+        self.frame(f).operands.len()
     }
 
     /// The value of a local variable of a frame, if it has one.
@@ -45,7 +45,7 @@ impl Frames {
         requires { IsSome (local_at self.now f at) }
         ensures { local_at self.now f at ≡ Some result }
     {
-        self.frame(f).locals[usize::from(at)]
+        self.frame(f).locals.get(at)
     }
 
     /// An operand of a frame, counted from 0 at the bottom.
@@ -53,14 +53,13 @@ impl Frames {
         requires { IsSome (operand_at self.now f at) }
         ensures { operand_at self.now f at ≡ Some result }
     {
-        self.frame(f).operands[usize::from(at)]
+        self.frame(f).operands.get(at)
     }
 
     // The frame of this number.
     fn frame(&self, f: u32) -> &Frame
         requires { IsSome (frame_at self.now f) }
         ensures frame { frame_at self.now f ≡ Some (frame_view result.now) }
-        ensures few { length result.now.operands.items < 65536 }
     {
         match &self.top {
             Some(top) => frame_in(top, self.below.as_slice(), f),
@@ -74,7 +73,6 @@ impl Frames {
 fn frame_in<'a>(top: &'a Frame, below: &'a [Frame], f: u32) -> &'a Frame
     requires { IsSome (frame_at (frames_view (Some top.now) below.now) f) }
     ensures frame { frame_at (frames_view (Some top.now) below.now) f ≡ Some (frame_view result.now) }
-    ensures few { length result.now.operands.items < 65536 }
 {
     let f = f as usize;
     if f < below.len() { &below[f] } else { top }

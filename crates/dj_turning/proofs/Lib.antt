@@ -22,3 +22,4 @@ pub mod SoundPrepared
 pub mod SoundRuns
 pub mod BegunLaws
 mod TurningFacts
+mod MemoryFacts

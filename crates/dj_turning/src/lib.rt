@@ -19,5 +19,4 @@ mod uses;
 pub use dj_acting::Begun;
 pub use run::Run;
 pub use tables::Tables;
-pub use turning::turn;
 pub use unnamed::{begin_turn, end_turn};

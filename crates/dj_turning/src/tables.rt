@@ -71,20 +71,6 @@ impl Tables {
     {
         &self.initialisers
     }
-
-    /// The classes of the parameters of native methods.
-    pub fn natives(&self) -> &Natives
-        ensures { result.now ≡ self.now.natives }
-    {
-        &self.natives
-    }
-
-    /// The class Throwable.
-    pub fn throwable(&self) -> u32
-        ensures { result ≡ self.now.throwable }
-    {
-        self.throwable
-    }
 }
 
 // Of an image with the classes that the machine throws.

@@ -4,7 +4,6 @@ ghost use Rattle.dj_host.specs.Hosted.{given_since};
 ghost use Rattle.dj_image.specs.Imaged.{program_of};
 ghost use Rattle.dj_turning.specs.Memory.{NeedsNoMemory};
 ghost use Rattle.dj_turning.specs.Running.{IsKept, IsRunning, state_of, terms_of};
-ghost use Rattle.dj_turning.specs.Turning.{Turns};
 ghost use Rattle.dj_turning.specs.Doing.{TurnsBy, doing_next, stepping};
 
 use crate::acting::act_next;
@@ -13,7 +12,6 @@ use crate::frames::top_of;
 use crate::preparing::prepare;
 use crate::run::Run;
 use crate::tables::Tables;
-use crate::unnamed::take_next;
 use dj_edge::Host;
 use dj_image::Image;
 use dj_initialising::Prepared;
@@ -23,26 +21,6 @@ use dj_settling::Settled;
 use std::alloc::Global;
 
 /// The next instruction of the top frame is done (JVMS 2.6 and 6.5).
-
-#[tactic(auto, using(crate::proofs::Turned::turned))]
-pub fn turn<H: Host>(
-    alloc: Global,
-    image: &Image,
-    tables: &Tables,
-    run: &mut Run,
-    host: &mut H,
-) -> Result<Settled, NoMemory>
-    requires kept { IsKept image.now tables.now }
-    requires running { IsRunning image.now run.old }
-    ensures turns { IfOk result (Turns image.now run.old run.new (given_since (H.given host.old) (H.given host.new))) }
-    ensures gave { H.given host.new ≡ H.given host.old ++ given_since (H.given host.old) (H.given host.new) }
-    ensures quiet { AsksNothing (program_of image.now) → H.given host.new ≡ H.given host.old }
-    ensures frugal { NeedsNoMemory (program_of image.now) image.now.prefix (terms_of run.old) (state_of image.now [] run.old) → IfErr result (λ _. ⊥) }
-{
-    take_next(alloc, image, tables, run, host)
-}
-
-/// The same, as the model's step has it.
 #[inline(never)]
 pub(crate) fn take_step<H: Host>(
     alloc: Global,

@@ -66,30 +66,6 @@ pub fn end_turn<H: Host>(
     }
 }
 
-/// The next instruction of the top frame is done, in both parts.
-#[tactic(auto, using(crate::proofs::HostLaws::still_given))]
-#[inline(always)]
-pub(crate) fn take_next<H: Host>(
-    alloc: Global,
-    image: &Image,
-    tables: &Tables,
-    run: &mut Run,
-    host: &mut H,
-) -> Result<Settled, NoMemory>
-    requires kept { IsKept image.now tables.now }
-    requires running { IsRunning image.now run.old }
-    ensures turns { IfOk result (Turns image.now run.old run.new (given_since (H.given host.old) (H.given host.new))) }
-    ensures gave { H.given host.new ≡ H.given host.old ++ given_since (H.given host.old) (H.given host.new) }
-    ensures quiet { AsksNothing (program_of image.now) → H.given host.new ≡ H.given host.old }
-    ensures frugal { IsFrugalRun image.now run.old → IfErr result (λ _. ⊥) }
-{
-    let begun = begin_turn(image, run);
-    match begun {
-        Begun::Went => Ok(Settled::Went),
-        _ => end_turn(alloc, image, tables, run, host, begun),
-    }
-}
-
 // What follows an instruction that was done.
 fn settle_left(
     alloc: Global,

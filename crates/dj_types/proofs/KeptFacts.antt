@@ -1,6 +1,6 @@
 -- What is kept of arrays beside their types, shapes of types, and how many fields an object has, by plain values: of A, of B below it that lists
 -- the interface I, of I, and of Object, which has a field.
-use Rattle.std.proofs.Common.{◌≡◌, ℕ, zero, suc, ◌+◌, ◌<◌, ◌≤◌, ◌^◌, List, [], ◌∷◌, map, length, get_or, replicate, codes, refl, sym, ap, ◌∙◌, arith, Option, Some, None, Less, Equal, Greater}
+use Rattle.std.proofs.Common.{◌≡◌, ℕ, zero, suc, ◌+◌, ◌<◌, ◌≤◌, ◌^◌, List, [], ◌∷◌, map, length, get_or, replicate, codes, refl, sym, ap, subst, ◌∙◌, arith, Option, Some, None, Less, Equal, Greater}
 use Rattle.std.specs.List.Sorted.{IsStrictlySortedBy}
 use Rattle.std.proofs.lemmas.Bool.{true≢false, false≢true}
 use Rattle.std.proofs.lemmas.List.{length-replicate}
@@ -9,6 +9,7 @@ use Rattle.dj_names.specs.declared.descriptor.Base.TheVariants as bases
 use Rattle.dj_names.specs.declared.descriptor.Of.{Of}
 use Rattle.dj_names.specs.declared.descriptor.Of.TheVariants as ofs
 use Rattle.dj_names.specs.declared.descriptor.Ty.{Ty}
+use Rattle.dj_names.specs.Descriptors.{type_text}
 use Rattle.dj_names.specs.Library.{int}
 use Rattle.dj_names.specs.Types.{Name, class_type, base_array, array_type}
 use Rattle.dj_model.specs.Program.{Program, Class}
@@ -21,12 +22,15 @@ use Rattle.dj_types.specs.declared.shapes.Element.TheVariants as elements
 use Rattle.dj_types.specs.declared.shapes.Shape.{Shape}
 use Rattle.dj_directory.specs.declared.calls.CallTable.{CallTable}
 use Rattle.dj_directory.specs.Calls.{IsCallTable}
-use Rattle.dj_types.specs.Kept.{DoTextsRise, number_among, component_text, number_if, component_in, AreKept, IsTyped}
+use Rattle.dj_types.specs.Kept.{DoTextsRise, number_among, component_text, number_if, component_in, whole_text, all_bases, base_place, whole_place, wholes_of, text_in, AreKept, IsTyped}
+use Rattle.dj_types.specs.declared.own.OwnClasses.{OwnClasses}
+use Rattle.dj_types.specs.Own.{AreOwn}
 use Rattle.dj_types.specs.Members.{field_count_at}
 use Rattle.dj_types.specs.Numbered.{AreMembers}
-use Rattle.dj_types.specs.Shapes.{element_of, shape_type, IsElement, element_in, shape_in}
+use Rattle.dj_types.specs.Shapes.{element_of, shape_type, IsElement, AreElements, element_in, shape_in}
 use Rattle.dj_types.specs.Typed.{Typed, ArePlain, begins_array}
 use Rattle.dj_types.proofs.Facts.{other_name, other_number}
+use Rattle.dj_types.proofs.Wholes.{spelled_by}
 
 -- ---- a program
 
@@ -194,26 +198,27 @@ abbrev kept_components : List (Option ℕ)
 kept_components = None ∷ Some 0 ∷ Some 4 ∷ []
 
 module _ (k : Arrays) where
-  kept : k.texts.items ≡ texts → k.shapes.items ≡ kept_shapes → k.components.items ≡ kept_components → AreKept program types k
-  kept texts_are shapes_are components_are = record {
+  kept : k.wholes.items ≡ wholes_of program → k.shapes.items ≡ kept_shapes → k.components.items ≡ kept_components → AreKept program types k
+  kept wholes_are shapes_are components_are = record {
     are_arrays = record { each = refl; rise = refl };
     few = omega arith;
-    texts = texts_are;
-    shapes = shapes_are;
+    texts = ap (λ (shapes : List Shape). map (text_in k.wholes.items) shapes) shapes_are ∙ spelled_by program k.wholes.items kept_shapes wholes_are (record { each = refl; rise = refl }) (tt, (omega arith, (tt, tt)));
+    shapes = ap (map (shape_type program)) shapes_are;
+    elements = subst (AreElements program) (sym shapes_are) (tt, (omega arith, (tt, tt)));
     components = components_are;
   }
 
-  text_left_out : k.texts.items ≡ codes "[I" ∷ codes "[LA;" ∷ [] → AreKept program types k → ⊥
-  text_left_out is kept = let e : 2 ≡ 3 = ap length (sym is ∙ kept.texts) in omega (arith, e)
-
-  text_of_class : k.texts.items ≡ codes "[I" ∷ codes "A" ∷ codes "[[I" ∷ [] → AreKept program types k → ⊥
-  text_of_class is kept = other_name (codes "A") (codes "[LA;") refl (ap (λ (xs : List Name). get_or xs 1 []) (sym is ∙ kept.texts))
+  wholes_left_out : k.wholes.items ≡ [] → k.shapes.items ≡ kept_shapes → AreKept program types k → ⊥
+  wholes_left_out is shapes_are kept = other_name [] (codes "[I") refl (ap (λ (xs : List Name). get_or xs 0 []) (sym (ap (λ (wholes : List Name). map (text_in wholes) k.shapes.items) is ∙ ap (map (text_in [])) shapes_are) ∙ kept.texts))
 
   shape_of_other : k.shapes.items ≡ shape 1 (elements.Base bases.Int) ∷ shape 1 (elements.Class 1) ∷ shape 2 (elements.Base bases.Int) ∷ [] → AreKept program types k → ⊥
-  shape_of_other is kept = let e : 1 ≡ 0 = ap (λ (xs : List Shape). class_of (get_or xs 1 (shape 0 (elements.Class 9))).of) (sym is ∙ kept.shapes) in omega (arith, e)
+  shape_of_other is kept = other_name (codes "[LB;") (codes "[LA;") refl (ap (λ (ts : List Ty). type_text (get_or ts 1 ints)) (sym (ap (map (shape_type program)) is) ∙ kept.shapes))
 
   dimension_left_out : k.shapes.items ≡ shape 1 (elements.Base bases.Int) ∷ shape 1 (elements.Class 0) ∷ shape 1 (elements.Base bases.Int) ∷ [] → AreKept program types k → ⊥
-  dimension_left_out is kept = let e : 1 ≡ 2 = ap (λ (xs : List Shape). (get_or xs 2 (shape 0 (elements.Class 9))).dims) (sym is ∙ kept.shapes) in omega (arith, e)
+  dimension_left_out is kept = let e : 1 ≡ 2 = ap (λ (ts : List Ty). (get_or ts 2 ints).dims) (sym (ap (map (shape_type program)) is) ∙ kept.shapes) in omega (arith, e)
+
+  class_past_the_last : k.shapes.items ≡ shape 1 (elements.Class 3) ∷ [] → AreKept program types k → ⊥
+  class_past_the_last is kept = let e : 1 ≡ 3 = ap length (sym (ap (map (shape_type program)) is) ∙ kept.shapes) in omega (arith, e)
 
   component_left_out : k.components.items ≡ None ∷ None ∷ Some 4 ∷ [] → AreKept program types k → ⊥
   component_left_out is kept = none-some 0 (ap (λ (xs : List (Option ℕ)). get_or xs 1 None) (sym is ∙ kept.components))
@@ -243,15 +248,25 @@ plain (suc (suc zero)) name at = ap begins_array (sym (same_Some (codes "I") nam
 plain (suc (suc (suc zero))) name at = ap begins_array (sym (same_Some (codes "java/lang/Object") name at))
 plain (suc (suc (suc (suc k)))) name at = absurd (none-some name at)
 
-module _ (k : Arrays) (m : Members) (c : CallTable) where
-  all_kept : AreKept program types k → AreMembers program m → IsCallTable program c → IsTyped program types k m c
-  all_kept kept members calls = record { plain = plain; arrays_are = kept; members_are = members; calls_are = calls }
+module _ (k : Arrays) (m : Members) (c : CallTable) (o : OwnClasses) where
+  all_kept : AreKept program types k → AreMembers program m → IsCallTable program c → AreOwn (record { program = program; prefix = []; arrays = types }) o → IsTyped program [] types k m c o
+  all_kept kept members calls own = record { plain = plain; arrays_are = kept; members_are = members; calls_are = calls; own_are = own }
 
-  bracket_in_name : IsTyped (record a_class { name = codes "[I" } ∷ []) [] k m c → ⊥
+  bracket_in_name : IsTyped (record a_class { name = codes "[I" } ∷ []) [] [] k m c o → ⊥
   bracket_in_name told = true≢false (told.plain 0 (codes "[I") refl)
 
-  arrays_of_none : k.components.items ≡ [] → IsTyped program types k m c → ⊥
+  arrays_of_none : k.components.items ≡ [] → IsTyped program [] types k m c o → ⊥
   arrays_of_none is told = let e : 0 ≡ 3 = ap length (sym is ∙ told.arrays_are.components) in omega (arith, e)
 
-  members_of_none : m.field_sums.items ≡ [] → IsTyped program types k m c → ⊥
+  members_of_none : m.field_sums.items ≡ [] → IsTyped program [] types k m c o → ⊥
   members_of_none is told = let e : 0 ≡ 4 = sym (ap length is) ∙ told.members_are.sums.long in omega (arith, e)
+
+  -- there is no String, no array of chars and no object that stops a run
+  string_of_none : o.string ≡ Some 0 → IsTyped program [] types k m c o → ⊥
+  string_of_none is told = let e : Some 0 ≡ None = sym is ∙ told.own_are.string in absurd cc
+
+  chars_of_none : o.chars ≡ Some 0 → IsTyped program [] types k m c o → ⊥
+  chars_of_none is told = let e : Some 0 ≡ None = sym is ∙ told.own_are.chars in absurd cc
+
+  stop_of_none : o.stop ≡ Some 0 → IsTyped program [] types k m c o → ⊥
+  stop_of_none is told = let e : Some 0 ≡ None = sym is ∙ told.own_are.stop in absurd cc

@@ -2,6 +2,7 @@ pub mod Texts
 pub mod Numbers
 pub mod Rising
 pub mod Told
+pub mod Wholes
 pub mod Starts
 pub mod Placed
 pub mod First
@@ -9,6 +10,7 @@ pub mod Homes
 pub mod Resolved
 pub mod Sums
 pub mod FieldSums
+pub mod OwnLaws
 mod Facts
 mod CountFacts
 mod KeptFacts

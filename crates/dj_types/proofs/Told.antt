@@ -17,7 +17,7 @@ use Rattle.dj_linking.specs.Linked.{class_name}
 use Rattle.dj_types.specs.declared.shapes.Element.TheVariants as elements
 use Rattle.dj_types.specs.declared.shapes.Shape.{Shape}
 use Rattle.dj_types.specs.Typed.{Typed, AreArrays, types_of, type_at, type_number, has_references, text_of_type, component_at, is_known_of, is_array_of}
-use Rattle.dj_types.specs.Shapes.{element_of, element_in, shape_in, shape_type, IsElement}
+use Rattle.dj_types.specs.Shapes.{element_of, element_in, shape_type, IsElement, AreElements}
 use Rattle.dj_types.specs.Kept.{component_in, number_if}
 
 -- ---- types by numbers
@@ -86,7 +86,7 @@ component_of_class typed class count is lt =
 
 -- ---- shapes
 
-element_told : (program : Program) (of : Of) → IsTrue (is_known_of program of) → (element_of program (element_in program of) ≡ of) × IsElement program (element_in program of)
+pub element_told : (program : Program) (of : Of) → IsTrue (is_known_of program of) → (element_of program (element_in program of) ≡ of) × IsElement program (element_in program of)
 element_told program (ofs.Base base) known = (refl, tt)
 element_told program (ofs.Class name) known = by (class_number program name) refl known where
   by : (number : Option ℕ) → class_number program name ≡ number → IsTrue (is_known_of program (ofs.Class name))
@@ -103,19 +103,28 @@ pub record IsShapeAt (typed : Typed) (class : ℕ) (shape : Shape) : Type 0 wher
   pub is : shape_type typed.program shape ≡ type_at typed class
   pub element : IsElement typed.program shape.of
 
-pub shape_of_array : (typed : Typed) (shapes : List Shape) → shapes ≡ map (shape_in typed.program) typed.arrays → AreArrays typed.program typed.arrays
+element_at : (program : Program) (shapes : List Shape) → AreElements program shapes → (k : ℕ) → k < length shapes → (d : Shape) → IsElement program (get_or shapes k d).of
+element_at program [] all k lt d = absurd (omega arith)
+element_at program (s ∷ shapes) all zero lt d = all.0
+element_at program (s ∷ shapes) all (suc k) lt d = element_at program shapes all.1 k (omega arith) d
+
+shape_at : (program : Program) (shapes : List Shape) (k : ℕ) → k < length shapes → (d : Shape) → slice_get (map (shape_type program) shapes) k ≡ Some (shape_type program (get_or shapes k d))
+shape_at program [] k lt d = absurd (omega arith)
+shape_at program (s ∷ shapes) zero lt d = refl
+shape_at program (s ∷ shapes) (suc k) lt d = shape_at program shapes k (omega arith) d
+
+pub shape_of_array : (typed : Typed) (shapes : List Shape) → map (shape_type typed.program) shapes ≡ typed.arrays → AreElements typed.program shapes
     → (class count k : ℕ) → count ≡ length typed.program → class < length (types_of typed) → count ≤ class → k ≡ class - count
     → (told : Shape) → told ≡ get_or shapes k told → IsShapeAt typed class told
-shape_of_array typed shapes are arrays class count k is lt le at told read =
+shape_of_array typed shapes are elements class count k is lt le at told read =
     let array = array_there typed class count k is lt le at in
-    let found = kept_of (shape_in typed.program) typed.arrays shapes are k array.within told read in
-    let ty : Ty = found.0 in
-    let known = and_parts (nat_le 1 ty.dims) (nat_le ty.dims 255 && is_known_of typed.program ty.of) (known_at typed.program typed.arrays arrays.each k ty found.1) in
-    let element = element_told typed.program ty.of ((and_parts (nat_le ty.dims 255) (is_known_of typed.program ty.of) known.1).1) in
-    subst (IsShapeAt typed class) (sym found.2) (record {
-      is = ap (λ (of : Of). record { dims = ty.dims; of = of }) element.0 ∙ sym (type_there typed class k ty array found.1);
-      element = element.1;
-    })
+    let within : k < length shapes = omega (arith, array.within, ap length are, length-map shapes (shape_type typed.program)) in
+    let there : slice_get typed.arrays k ≡ Some (shape_type typed.program told) =
+    ap (λ (types : List Ty). slice_get types k) (sym are) ∙ shape_at typed.program shapes k within told ∙ ap (λ (s : Shape). Some (shape_type typed.program s)) (sym read) in
+    record {
+      is = sym (type_there typed class k (shape_type typed.program told) array there);
+      element = subst (λ (s : Shape). IsElement typed.program s.of) (sym read) (element_at typed.program shapes elements k within told);
+    }
 
 pub shape_of_class : (typed : Typed) (class count : ℕ) → count ≡ length typed.program → (count ≤ class → ⊥) → IsShapeAt typed class (record { dims = 0; of = elements.Class class })
 shape_of_class typed class count is lt = record {

@@ -1,20 +1,30 @@
 -- What is kept of the arrays beside their types.
-use Rattle.std.specs.Prelude.{◌≡◌, ℕ, ◌+◌, ◌^◌, ◌<◌, List, ◌++◌, map, length, Option, Some, None, if◌then◌else◌}
+use Rattle.std.specs.Prelude.{◌≡◌, ℕ, ◌+◌, ◌-◌, ◌^◌, ◌<◌, List, [], ◌∷◌, ◌++◌, map, drop, length, get_or, Option, Some, None, if◌then◌else◌}
 use Rattle.std.specs.Ordering.{nat_cmp}
 use Rattle.std.specs.Cmp.Lexicographic.{slice_cmp}
 use Rattle.std.specs.List.Sorted.{IsStrictlySortedBy}
+use Rattle.dj_names.specs.declared.descriptor.Base.{Base}
+use Rattle.dj_names.specs.declared.descriptor.Base.TheVariants as bases
+use Rattle.dj_names.specs.declared.descriptor.Of.{Of}
+use Rattle.dj_names.specs.declared.descriptor.Of.TheVariants as ofs
 use Rattle.dj_names.specs.declared.descriptor.Ty.{Ty}
 use Rattle.dj_names.specs.Types.{Name, component_type}
 use Rattle.dj_names.specs.Descriptors.{type_text}
-use Rattle.dj_model.specs.Program.{Program}
+use Rattle.dj_model.specs.Types.{Prefix}
+use Rattle.dj_model.specs.Program.{Program, Class}
 use Rattle.dj_classes.specs.Tables.{name_of}
 use Rattle.dj_directory.specs.declared.calls.CallTable.{CallTable}
 use Rattle.dj_directory.specs.Calls.{IsCallTable}
 use Rattle.dj_types.specs.declared.arrays.Arrays.{Arrays}
 use Rattle.dj_types.specs.declared.members.Members.{Members}
 use Rattle.dj_types.specs.Typed.{ArePlain, AreArrays, has_references, place_of_text, text_of_type}
-use Rattle.dj_types.specs.Shapes.{shape_in}
+use Rattle.dj_types.specs.declared.shapes.Element.{Element}
+use Rattle.dj_types.specs.declared.shapes.Element.TheVariants as elements
+use Rattle.dj_types.specs.declared.shapes.Shape.{Shape}
+use Rattle.dj_types.specs.Shapes.{AreElements, shape_type}
 use Rattle.dj_types.specs.Numbered.{AreMembers}
+use Rattle.dj_types.specs.declared.own.OwnClasses.{OwnClasses}
+use Rattle.dj_types.specs.Own.{AreOwn}
 
 -- each text is below those after it
 abbrev pub DoTextsRise : List Name → Type 0
@@ -35,17 +45,62 @@ number_if program texts (Some text) = number_among program texts text
 abbrev pub component_in : Program → List Name → Ty → Option ℕ
 component_in program texts ty = number_if program texts (component_text ty)
 
--- one of each for each array
+-- ---- descriptors of arrays, each the end of one that other arrays of the same share
+
+-- under the most dimensions
+unfoldable pub whole_text : Of → Name
+whole_text of = type_text (record { dims = 255; of = of })
+
+abbrev pub all_bases : List Base
+all_bases = bases.Boolean ∷ bases.Byte ∷ bases.Char ∷ bases.Short ∷ bases.Int ∷ bases.Long ∷ bases.Float ∷ bases.Double ∷ []
+
+abbrev pub whole_of_base : Base → Name
+whole_of_base base = whole_text (ofs.Base base)
+
+abbrev pub whole_of_class : Class → Name
+whole_of_class c = whole_text (ofs.Class (name_of c))
+
+-- those of base types, and then those of classes
+abbrev pub wholes_of : Program → List Name
+wholes_of program = map whole_of_base all_bases ++ map whole_of_class program
+
+abbrev pub base_place : Base → ℕ
+base_place bases.Boolean = 0
+base_place bases.Byte = 1
+base_place bases.Char = 2
+base_place bases.Short = 3
+base_place bases.Int = 4
+base_place bases.Long = 5
+base_place bases.Float = 6
+base_place bases.Double = 7
+
+abbrev pub whole_place : Element → ℕ
+whole_place (elements.Base base) = base_place base
+whole_place (elements.Class class) = 8 + class
+
+abbrev pub text_in : List Name → Shape → Name
+text_in wholes shape = drop (255 - shape.dims) (get_or wholes (whole_place shape.of) [])
+
+-- ---- one of each for each array
+
+abbrev pub texts_kept : Arrays → List Name
+texts_kept arrays = map (text_in arrays.wholes.items) arrays.shapes.items
+
+abbrev pub types_kept : Program → Arrays → List Ty
+types_kept program arrays = map (shape_type program) arrays.shapes.items
+
 pub record AreKept (program : Program) (types : List Ty) (arrays : Arrays) : Type 0 where
   pub are_arrays : AreArrays program types
   pub few : length program + length types < 2 ^ 32
-  pub texts : arrays.texts.items ≡ map type_text types
-  pub shapes : arrays.shapes.items ≡ map (shape_in program) types
+  pub texts : texts_kept arrays ≡ map type_text types
+  pub shapes : types_kept program arrays ≡ types
+  pub elements : AreElements program arrays.shapes.items
   pub components : arrays.components.items ≡ map (component_in program (map type_text types)) types
 
 -- what is kept beside the classes and the types of the arrays
-pub record IsTyped (program : Program) (types : List Ty) (arrays : Arrays) (members : Members) (calls : CallTable) : Type 0 where
+pub record IsTyped (program : Program) (prefix : Prefix) (types : List Ty) (arrays : Arrays) (members : Members) (calls : CallTable) (own : OwnClasses) : Type 0 where
   pub plain : ArePlain program
   pub arrays_are : AreKept program types arrays
   pub members_are : AreMembers program members
   pub calls_are : IsCallTable program calls
+  pub own_are : AreOwn (record { program = program; prefix = prefix; arrays = types }) own

@@ -4,3 +4,4 @@ pub mod Shapes
 pub mod Numbered
 pub mod Kept
 pub mod Named
+pub mod Own

@@ -1,5 +1,6 @@
 -- Types in which classes are told by their numbers.
-use Rattle.std.specs.Prelude.{◌<◌, length, unwrap_or}
+use Rattle.std.specs.Prelude.{◌<◌, List, length, unwrap_or}
+use Rattle.std.specs.List.{AllByRecursion}
 use Rattle.dj_names.specs.declared.descriptor.Of.{Of}
 use Rattle.dj_names.specs.declared.descriptor.Of.TheVariants as ofs
 use Rattle.dj_names.specs.declared.descriptor.Ty.{Ty}
@@ -23,6 +24,10 @@ shape_type program shape = record { dims = shape.dims; of = element_of program s
 abbrev pub IsElement : Program → Element → Type 0
 IsElement program (elements.Base base) = Unit {0}
 IsElement program (elements.Class class) = class < length program
+
+-- the class of each one's elements is there
+abbrev pub AreElements : Program → List Shape → Type 0
+AreElements program shapes = AllByRecursion (λ (shape : Shape). IsElement program shape.of) shapes
 
 -- ---- a shape of a type
 

@@ -6,6 +6,7 @@ mod error;
 mod heights;
 mod members;
 mod named;
+mod own;
 mod shapes;
 mod types;
 
@@ -13,4 +14,6 @@ pub use dj_classes::Place;
 pub use dj_linking::{BaseNames, Linker};
 pub use error::TypesError;
 pub use named::MemberName;
+pub use own::raised_name;
+pub use shapes::{Element, Shape, shape_of};
 pub use types::{FieldId, MemberOf, MethodId, Types};

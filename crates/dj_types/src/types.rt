@@ -1,25 +1,25 @@
-ghost use Rattle.std.specs.Prelude.{◌≡◌, ◌+◌, ◌^◌, ◌<◌, length, Some, None, IfOk, IfSome, slice_get};
+ghost use Rattle.std.specs.Prelude.{◌≡◌, ◌+◌, ◌^◌, ◌<◌, length, map, Some, None, IfOk, IfSome, slice_get};
 ghost use Rattle.std.specs.Option.{option_map};
 ghost use Rattle.dj_model.specs.Linking.{member_class, place_of};
-ghost use Rattle.dj_model.specs.Types.{string_name};
 ghost use Rattle.dj_declared.specs.Files.{desc_in};
 ghost use Rattle.dj_declared.specs.Members.{IsDescriptor};
 ghost use Rattle.dj_classes.specs.Tables.{class_number, methods_at, fields_at, method_there, field_there};
-ghost use Rattle.dj_linking.specs.Linked.{prefix_of};
 ghost use Rattle.dj_types.specs.Typed.{texts_of, types_of, type_at, text_number, flags_at, super_at, interfaces_at, component_at, is_subtype_at, string_at, chars_at, stop_at, ArePlain, AreArrays};
-ghost use Rattle.dj_types.specs.Shapes.{IsElement, shape_type};
+ghost use Rattle.dj_types.specs.Own.{raised_at};
+ghost use Rattle.dj_types.specs.Shapes.{IsElement, AreElements, shape_type};
 ghost use Rattle.dj_types.specs.Named.{IsDirectoryOf, IsNumbered, IsNumberedBy, IsNamedMethod, IsNamedField};
 ghost use Rattle.dj_types.specs.Members.{all_methods, all_fields, field_count_at, resolved_method, resolved_field, selected, special_of, found_method_number, found_field_number, IsMethodThere, IsFieldThere, IsNthMethod, IsNthField, IsMethodPlace, IsFieldPlace, native_at, number_of_method, number_of_field, methods_before, fields_before};
 
-use crate::arrays::{Arrays, check_names, number_in};
+use crate::arrays::{Arrays, check_names, number_in, text_in};
 use crate::error::TypesError;
 use crate::members::{Members, count_at, is_descriptor, place_at};
 use crate::named::{MemberName, field_in, method_in};
+use crate::own::OwnClasses;
 use crate::shapes::{Element, Shape, is_subtype};
 use dj_classes::Place;
 use dj_directory::{CallTable, Directory};
-use dj_linking::{BaseNames, Linker, resolve_field_of, resolve_method_of};
-use dj_names::{NativeId, Ty};
+use dj_linking::{Linker, resolve_field_of, resolve_method_of};
+use dj_names::{NativeId, Raised};
 use std::alloc::Global;
 use std::marker::Model;
 
@@ -51,10 +51,10 @@ pub struct MemberOf<'i> {
 #[derive(Drop)]
 pub struct Types {
     linker: Linker,
-    arrays: Vec<Ty>,
     kept: Arrays,
     members: Members,
     calls: CallTable,
+    own: OwnClasses,
 }
 
 impl Model for Types {
@@ -62,42 +62,34 @@ impl Model for Types {
 
     ghost Value = { Typed };
 
-    ghost use Rattle.dj_types.specs.Kept.{IsTyped};
+    ghost use Rattle.dj_types.specs.Kept.{IsTyped, types_kept};
 
-    ghost view = { λ types. record { program = types.linker.program; prefix = types.linker.prefix; arrays = types.arrays.items } };
+    ghost view = { λ types. record { program = types.linker.program; prefix = types.linker.prefix; arrays = types_kept types.linker.program types.kept } };
 
-    ghost invariant = { λ types. IsTyped types.linker.program types.arrays.items types.kept types.members types.calls };
-}
-
-// The name of String.
-fn string_of(base: BaseNames) -> &'static [u8]
-    ensures { result.now ≡ string_name (prefix_of base) }
-{
-    match base {
-        BaseNames::Plain => b"java/lang/String",
-        BaseNames::Sandbox => b"sandbox/java/lang/String",
-    }
+    ghost invariant = { λ types. IsTyped types.linker.program types.linker.prefix (types_kept types.linker.program types.kept) types.kept types.members types.calls types.own };
 }
 
 impl Types {
     /// Numbers the arrays after the classes.
-    pub fn of(alloc: Global, linker: Linker, arrays: Vec<Ty>) -> Result<Types, TypesError>
-        requires arrays { AreArrays linker.program arrays.items }
+    pub fn of(alloc: Global, linker: Linker, arrays: Vec<Shape>) -> Result<Types, TypesError>
+        requires arrays { AreArrays linker.program (map (shape_type linker.program) arrays.items) }
+        requires elements { AreElements linker.program arrays.items }
         requires few { length linker.program + length arrays.items < 2 ^ 32 }
         requires few_methods { length (all_methods linker.program) < 2 ^ 32 }
         requires few_fields { length (all_fields linker.program) < 2 ^ 32 }
-        ensures { IfOk result (λ types. types ≡ record { program = linker.program; prefix = linker.prefix; arrays = arrays.items }) }
+        ensures { IfOk result (λ types. types ≡ record { program = linker.program; prefix = linker.prefix; arrays = map (shape_type linker.program) arrays.items }) }
     {
         check_names(linker.classes())?;
-        let kept = Arrays::of(alloc, linker.classes(), &arrays)?;
+        let kept = Arrays::of(alloc, linker.classes(), arrays)?;
         let members = Members::of(alloc, linker.classes())?;
         let calls = CallTable::of(alloc, linker.classes())?;
+        let own = OwnClasses::of(&linker, &kept);
         Ok(Types {
             linker,
-            arrays,
             kept,
             members,
             calls,
+            own,
         })
     }
 
@@ -112,28 +104,33 @@ impl Types {
     pub fn are_arrays(&self)
         ensures { AreArrays self.now.program self.now.arrays }
     {
-        let _ = &self.arrays;
+        let _ = &self.kept;
     }
 
     /// A law: no class has a name that begins as the descriptor of an array does.
     pub fn are_plain(&self)
         ensures { ArePlain self.now.program }
     {
-        let _ = &self.arrays;
+        let _ = &self.kept;
     }
 
     /// The number of classes and arrays.
     pub fn class_count(&self) -> u32
         ensures { result ≡ length (types_of self.now) }
     {
-        self.linker.classes().class_count() + self.arrays.len() as u32
+        self.linker.classes().class_count() + self.kept.shapes.len() as u32
     }
 
     /// The number of the class of this name, or of the array of this descriptor.
     pub fn class_named(&self, name: &[u8]) -> Option<u32>
         ensures { result ≡ text_number self.now name.now }
     {
-        number_in(self.linker.classes(), &self.kept.texts, name)
+        number_in(
+            self.linker.classes(),
+            &self.kept.wholes,
+            &self.kept.shapes,
+            name,
+        )
     }
 
     /// The name of a class, or the descriptor of an array.
@@ -143,7 +140,7 @@ impl Types {
     {
         let table = self.linker.classes();
         match class.checked_sub(table.class_count()) {
-            Some(array) => self.kept.texts[array as usize].as_slice(),
+            Some(array) => text_in(&self.kept.wholes, self.kept.shapes[array as usize]),
             None => table.name_of(class),
         }
     }
@@ -224,26 +221,28 @@ impl Types {
     pub fn string(&self) -> Option<u32>
         ensures { result ≡ string_at self.now }
     {
-        self.linker
-            .classes()
-            .class_named(string_of(self.linker.base()))
+        self.own.string
     }
 
     /// The arrays of chars.
     pub fn chars(&self) -> Option<u32>
         ensures { result ≡ chars_at self.now }
     {
-        self.class_named(b"[C")
+        self.own.chars
     }
 
     /// The class of the object that stops a run, where it is there.
     pub fn stop(&self) -> Option<u32>
         ensures { result ≡ stop_at self.now }
     {
-        match self.linker.base() {
-            BaseNames::Plain => None,
-            BaseNames::Sandbox => self.linker.classes().class_named(b"djvm/Stop"),
-        }
+        self.own.stop
+    }
+
+    /// The class of an exception of an instruction's own.
+    pub fn raised(&self, raised: Raised) -> Option<u32>
+        ensures { result ≡ raised_at self.now raised }
+    {
+        self.own.raised(raised)
     }
 
     // The class whose members those of a class or an array are, where it is there.

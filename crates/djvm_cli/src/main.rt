@@ -7,6 +7,7 @@ mod cut;
 mod djvm;
 mod laws;
 mod load;
+mod notes;
 mod out_sink;
 mod system;
 #[cfg(test)]
@@ -15,12 +16,14 @@ mod tests;
 use clock_host::ClockHost;
 use dj_edge::FolderFiles;
 use dj_running::PlainEngine;
+use notes::Notes;
 use out_sink::OutSink;
 use std::alloc::AllocError;
 use std::env;
 use std::io::ErrorKind;
 use std::process::ExitCode;
-use std::rt::Env;
+use std::rc::Rc;
+use std::rt::{Clock, Env, Files};
 use system::SystemFiles;
 
 /// The words of the command line without the program's name, or none where one of them is not UTF-8.
@@ -38,21 +41,33 @@ fn words_of<R: Env + AllocGlobal>(rt: &R) -> Result<Vec<String>, AllocError> {
     }
 }
 
+/// Does the job of the command line and answers the status.
+fn run<R: Print + Eprint + Files + Env + Clock + AllocGlobal + Clone + Drop>(
+    rt: R,
+    notes: &Rc<Notes<R>>,
+) -> Result<u8, AllocError> {
+    let alloc = rt.alloc();
+    let words = words_of(&rt)?;
+    let mut files = FolderFiles::new(alloc, SystemFiles::new(rt.clone()?, notes.clone()?));
+    let mut host = ClockHost::new(rt.clone()?);
+    let mut sink = OutSink::new(rt, notes.clone()?);
+    let mut engine = PlainEngine::new(alloc);
+    let status = djvm::djvm(alloc, &words, &mut files, &mut host, &mut sink, &mut engine);
+    Ok(status)
+}
+
 fn main(rt: HostRuntime) -> ExitCode {
-    let Ok(words) = words_of(&rt) else {
-        return ExitCode::from(67);
+    let alloc = rt.alloc();
+    let status = match Rc::new(alloc, Notes::new(alloc, rt)) {
+        Ok(notes) => {
+            let status = run(rt, &notes).unwrap_or(67);
+            notes.end(status);
+            status
+        }
+        Err(failed) => {
+            failed.value.end(67);
+            67
+        }
     };
-    let mut files = FolderFiles::new(rt.alloc(), SystemFiles::new(&rt));
-    let mut host = ClockHost::new(&rt);
-    let mut sink = OutSink::new(&rt);
-    let mut engine = PlainEngine::new(rt.alloc());
-    let status = djvm::djvm(
-        rt.alloc(),
-        &words,
-        &mut files,
-        &mut host,
-        &mut sink,
-        &mut engine,
-    );
     ExitCode::from(status)
 }

@@ -1,25 +1,52 @@
-//! The folders and the files of the system.
+//! The folders and the files of the system, of which what fails is told on standard error.
 ghost use Rattle.std.specs.Prelude.{◌≡◌, ◌↔◌, None};
 ghost use Rattle.std.specs.IoError.{error_kind};
 
+use crate::notes::Notes;
 use dj_edge::{Entry, EntryKind, Folders, ListError, OpensFiles, ReadError, read_error};
 use std::alloc::Global;
 use std::fs::{OpenFile, ReadDir};
-use std::io::ErrorKind;
+use std::io::{ErrorKind, Read};
+use std::rc::Rc;
 use std::rt::Files as System;
 use std::{fs, io};
 
-/// The folders and the files of the system, which does not tell what they have. Links are followed.
+/// An open file of the system, of which a read that fails is told.
 #[derive(Drop)]
-pub struct SystemFiles<R: System + AllocGlobal + Clone + Drop> {
+pub struct NotedFile<R: System + Eprint + Drop> {
+    notes: Rc<Notes<R>>,
+    path: String,
+    file: R::File,
+}
+
+impl<R: System + Eprint + Drop> Read for NotedFile<R> {
+    fn read(&mut self, buf: &mut [u8]) -> io::Result<usize> {
+        let read = self.file.read(buf);
+        if let Err(error) = &read {
+            if error.kind() != ErrorKind::Interrupted {
+                self.notes.tell_path(self.path.as_str(), error);
+            }
+        }
+        read
+    }
+}
+
+/// The folders and the files of the system, which does not tell what they have. Links are followed. What fails is told.
+#[derive(Drop)]
+pub struct SystemFiles<R: System + Eprint + AllocGlobal + Clone + Drop> {
     rt: R,
+    notes: Rc<Notes<R>>,
     open: Option<ReadDir<R>>,
 }
 
-impl<R: System + AllocGlobal + Clone + Drop> SystemFiles<R> {
+impl<R: System + Eprint + AllocGlobal + Clone + Drop> SystemFiles<R> {
     /// The folders and files of the system, of which no folder is open.
-    pub fn new(rt: R) -> SystemFiles<R> {
-        SystemFiles { rt, open: None }
+    pub fn new(rt: R, notes: Rc<Notes<R>>) -> SystemFiles<R> {
+        SystemFiles {
+            rt,
+            notes,
+            open: None,
+        }
     }
 }
 
@@ -34,14 +61,15 @@ fn list_error(error: io::Error) -> ListError
     }
 }
 
+/// A path of its own.
+fn owned(alloc: Global, path: &str) -> Result<String, ListError> {
+    String::from_str(alloc, path).map_err(|_| ListError::Memory)
+}
+
 /// What stands at the path.
-fn entry_at<R: System + AllocGlobal>(
-    rt: &R,
-    alloc: Global,
-    path: &str,
-) -> Result<Entry, ListError> {
-    let path = String::from_str(alloc, path).map_err(|_| ListError::Memory)?;
-    let found = fs::metadata(rt, path.as_str()).map_err(list_error)?;
+fn entry_at<R: System>(rt: &R, alloc: Global, path: &str) -> io::Result<Entry> {
+    let path = String::from_str(alloc, path)?;
+    let found = fs::metadata(rt, path.as_str())?;
     let kind = if found.is_dir() {
         EntryKind::Folder
     } else if found.is_file() {
@@ -52,41 +80,70 @@ fn entry_at<R: System + AllocGlobal>(
     Ok(Entry { path, kind })
 }
 
-impl<R: System + AllocGlobal + Clone + Drop> Folders for SystemFiles<R> {
+impl<R: System + Eprint + AllocGlobal + Clone + Drop> Folders for SystemFiles<R> {
     ghost tree = { λ _. None };
 
     ghost left = { λ _. None };
 
     fn open(&mut self, folder: &str) -> Result<(), ListError> {
-        let open = fs::read_dir(&self.rt, folder).map_err(list_error)?;
-        self.open = Some(open);
-        Ok(())
+        let path = owned(self.rt.alloc(), folder)?;
+        match fs::read_dir(&self.rt, folder) {
+            Ok(open) => {
+                self.notes.see_folder(path);
+                self.open = Some(open);
+                Ok(())
+            }
+            Err(error) => {
+                self.notes.tell_path(folder, &error);
+                Err(list_error(error))
+            }
+        }
     }
 
     fn next(&mut self, alloc: Global) -> Result<Option<Entry>, ListError> {
-        match self.open.as_mut().and_then(|open| open.next()) {
-            Some(met) => {
-                let met = met.map_err(list_error)?;
-                let entry = entry_at(&self.rt, alloc, met.path().as_str())?;
+        let met = match self.open.as_mut().and_then(|open| open.next()) {
+            None => return Ok(None),
+            Some(Ok(met)) => met,
+            Some(Err(error)) => {
+                self.notes.tell_folder(&error);
+                return Err(list_error(error));
+            }
+        };
+        match entry_at(&self.rt, alloc, met.path().as_str()) {
+            Ok(entry) => {
+                self.notes.see_entry(&entry);
                 Ok(Some(entry))
             }
-            None => Ok(None),
+            Err(error) => {
+                self.notes.tell_path(met.path().as_str(), &error);
+                Err(list_error(error))
+            }
         }
     }
 }
 
-impl<R: System + AllocGlobal + Clone + Drop> OpensFiles for SystemFiles<R> {
-    type File = R::File;
+impl<R: System + Eprint + AllocGlobal + Clone + Drop> OpensFiles for SystemFiles<R> {
+    type File = NotedFile<R>;
 
     ghost contents = { λ _. None };
 
-    fn open_file(&mut self, path: &str) -> Result<(R::File, u64), ReadError> {
+    fn open_file(&mut self, path: &str) -> Result<(NotedFile<R>, u64), ReadError> {
+        let notes = self.notes.clone().map_err(|_| ReadError::Memory)?;
+        let own = String::from_str(self.rt.alloc(), path).map_err(|_| ReadError::Memory)?;
         match fs::open(&self.rt, path) {
             Ok(file) => {
                 let expected = file.metadata().map_or(0, |told| told.len());
+                let file = NotedFile {
+                    notes,
+                    path: own,
+                    file,
+                };
                 Ok((file, expected))
             }
-            Err(error) => Err(read_error(error)),
+            Err(error) => {
+                self.notes.tell_path(path, &error);
+                Err(read_error(error))
+            }
         }
     }
 }
@@ -99,7 +156,7 @@ mod tests {
     use std::test::Fail;
     use std::{env, process};
 
-    fn lists_and_reads<A: Abort, R: System + AllocGlobal + Clone + Drop>(
+    fn lists_and_reads<A: Abort, R: System + Eprint + AllocGlobal + Clone + Drop>(
         rt: &A,
         alloc: Global,
         files: &mut FolderFiles<SystemFiles<R>>,
@@ -114,7 +171,7 @@ mod tests {
         Ok(())
     }
 
-    fn fails<A: Abort, R: System + AllocGlobal + Clone + Drop>(
+    fn fails<A: Abort, R: System + Eprint + AllocGlobal + Clone + Drop>(
         rt: &A,
         alloc: Global,
         files: &mut FolderFiles<SystemFiles<R>>,
@@ -133,7 +190,8 @@ mod tests {
         let path = format!(in alloc; "{folder}/A.class")?;
         fs::create_dir_all(&rt, folder.as_str())?;
         fs::write(&rt, path.as_str(), "four")?;
-        let mut files = FolderFiles::new(alloc, SystemFiles::new(&rt));
+        let notes = Rc::new(alloc, Notes::new(alloc, rt)).ok().ok_or("memory")?;
+        let mut files = FolderFiles::new(alloc, SystemFiles::new(rt, notes));
         lists_and_reads(&rt, alloc, &mut files, folder.as_str(), path.as_str())?;
         fs::remove_file(&rt, path.as_str())?;
         fails(&rt, alloc, &mut files, path.as_str());

@@ -51,6 +51,32 @@ const LOOP: &[u8] =
     rify\x01\0\x06([B)[B\x01\0\x04Code\x01\0\x0dStackMapTable\0\x21\0\x02\0\x04\0\0\0\0\0\x01\0\x09\0\x05\
     \0\x06\0\x01\0\x07\0\0\0\x18\0\x09\0\x09\0\0\0\x03\xa7\0\0\0\0\0\x01\0\x08\0\0\0\x03\0\x01\0\0\0";
 
+// The class A that throws null.
+const THROW: &[u8] =
+    b"\xca\xfe\xba\xbe\0\0\0\x34\0\x08\x01\0\x01A\x07\0\x01\x01\0\x10java/lang/Object\x07\0\x03\x01\0\
+    \x06verify\x01\0\x06([B)[B\x01\0\x04Code\0\x21\0\x02\0\x04\0\0\0\0\0\x01\0\x09\0\x05\0\x06\0\
+    \x01\0\x07\0\0\0\x0e\0\x01\0\x01\0\0\0\x02\x01\xbf\0\0\0\0\0\0";
+
+// The class A whose method calls itself for ever.
+const CALL: &[u8] =
+    b"\xca\xfe\xba\xbe\0\0\0\x34\0\x0a\x01\0\x01A\x07\0\x01\x01\0\x10java/lang/Object\x07\0\x03\x01\0\
+    \x06verify\x01\0\x06([B)[B\x01\0\x04Code\x0c\0\x05\0\x06\x0a\0\x02\0\x08\0\x21\0\x02\0\x04\0\0\
+    \0\0\0\x01\0\x09\0\x05\0\x06\0\x01\0\x07\0\0\0\x11\0\x01\0\x01\0\0\0\x05\x2a\xb8\0\x09\xb0\0\0\
+    \0\0\0\0";
+
+// The class A whose initialiser throws null.
+const BEGIN: &[u8] =
+    b"\xca\xfe\xba\xbe\0\0\0\x34\0\x0a\x01\0\x01A\x07\0\x01\x01\0\x10java/lang/Object\x07\0\x03\x01\0\
+    \x06verify\x01\0\x06([B)[B\x01\0\x04Code\x01\0\x08<clinit>\x01\0\x03()V\0\x21\0\x02\0\x04\0\0\0\
+    \0\0\x02\0\x09\0\x05\0\x06\0\x01\0\x07\0\0\0\x0e\0\x01\0\x01\0\0\0\x02\x2a\xb0\0\0\0\0\0\x08\0\
+    \x08\0\x09\0\x01\0\x07\0\0\0\x0e\0\x01\0\0\0\0\0\x02\x01\xbf\0\0\0\0\0\0";
+
+// The class A that returns an object.
+const OBJECT: &[u8] =
+    b"\xca\xfe\xba\xbe\0\0\0\x34\0\x08\x01\0\x01A\x07\0\x01\x01\0\x10java/lang/Object\x07\0\x03\x01\0\
+    \x06verify\x01\0\x06([B)[B\x01\0\x04Code\0\x21\0\x02\0\x04\0\0\0\0\0\x01\0\x09\0\x05\0\x06\0\
+    \x01\0\x07\0\0\0\x10\0\x01\0\x01\0\0\0\x04\xbb\0\x04\xb0\0\0\0\0\0\0";
+
 // The text of the class A, and one that lacks the class's name.
 const TEXT: &[u8] =
     b".class 21 A\n.super java/lang/Object\n.method 9 verify ([B)[B\n.stack 1\n.locals 1\n\
@@ -59,7 +85,7 @@ const TEXT: &[u8] =
 const NO_NAME: &[u8] = b".class 21\n";
 
 // A file that was cut and one with two violations in the folder c, a good one in each other folder, inputs, and two texts.
-const FILES: [(&str, &[u8]); 12] = [
+const FILES: [(&str, &[u8]); 16] = [
     ("c/B.class", NATIVE),
     ("c/A.class", CUT),
     ("d/A.class", A),
@@ -67,6 +93,10 @@ const FILES: [(&str, &[u8]); 12] = [
     ("heap/A.class", HEAP),
     ("loop/A.class", LOOP),
     ("sum/A.class", SUM),
+    ("throw/A.class", THROW),
+    ("call/A.class", CALL),
+    ("begin/A.class", BEGIN),
+    ("object/A.class", OBJECT),
     ("in", b"\x0a\x0b"),
     ("empty", b""),
     ("three", b"\x01\x02\x03"),
@@ -118,10 +148,11 @@ const ENDS: [Row; 19] = [
     (REFUSED, Order::Given, NONE, 999, 68, b"ASM SYNTAX 1 10\n"),
 ];
 
-// Of a raw run: the words, the host's word for hashes, how many bytes the sink takes, the status and what is written, the words that the host
-// gave, and how many steps the engine's runs made.
+// Of a raw run: the words, the call of the store that fails, the host's word for hashes, how many bytes the sink takes, the status and what is
+// written, the words that the host gave, and how many steps the engine's runs made.
 type RawRow = (
     &'static [&'static str],
+    u64,
     i32,
     u64,
     u8,
@@ -138,20 +169,57 @@ const FILLS: &[&str] = &["raw", "heap", "A", "empty"];
 
 const LOOPS: &[&str] = &["raw", "loop", "A", "empty", "--steps", "5"];
 
+const THROWS: &[&str] = &["raw", "throw", "A", "empty"];
+
+const CALLS: &[&str] = &["raw", "call", "A", "empty"];
+
+const BEGINS: &[&str] = &["raw", "begin", "A", "empty"];
+
+const OBJECTS: &[&str] = &["raw", "object", "A", "empty"];
+
 const RUNS_REJECTED: &[&str] = &["raw", "c", "A", "empty"];
 
 const RUNS_LACKING: &[&str] = &["raw", "hash", "A", "none"];
 
-const RAW_ENDS: [RawRow; 9] = [
-    (HASHES, 7, 999, 0, b"OK 1 07\nsteps 16\n", &[7], &[16]),
-    (HASHES, 8, 999, 0, b"OK 1 08\nsteps 16\n", &[8], &[16]),
-    (HASHES, 7, 3, 66, b"OK ", &[7], &[16]),
-    (SUMS, 7, 999, 0, b"OK 1 06\nsteps 51\n", &[], &[51]),
-    (FILLS, 7, 999, 9, b"HEAP 16 67108880\nsteps 2\n", &[], &[2]),
-    (LOOPS, 7, 999, 8, b"STEPS 5\nsteps 5\n", &[], &[5]),
-    (RUNS_REJECTED, 7, 999, 2, REJECTED, &[], &[]),
-    (RUNS_LACKING, 7, 999, 65, b"ABSENT none\n", &[], &[]),
-    (VERIFY, 7, 999, 0, RETURNED, &[], &[]),
+const NULL_THROWN: &[u8] = b"EXCEPTION java/lang/NullPointerException null\nsteps 2\n";
+
+const NOT_BEGUN: &[u8] = b"INIT A java/lang/NullPointerException null\nsteps 2\n";
+
+const RAW_ENDS: [RawRow; 16] = [
+    (HASHES, NONE, 7, 999, 0, b"OK 1 07\nsteps 16\n", &[7], &[16]),
+    (HASHES, NONE, 8, 999, 0, b"OK 1 08\nsteps 16\n", &[8], &[16]),
+    (HASHES, NONE, 7, 3, 66, b"OK ", &[7], &[16]),
+    (HASHES, 0, 7, 999, 65, b"", &[], &[]),
+    (HASHES, 1, 7, 999, 65, b"", &[], &[]),
+    (HASHES, 2, 7, 999, 65, b"", &[], &[]),
+    (SUMS, NONE, 7, 999, 0, b"OK 1 06\nsteps 51\n", &[], &[51]),
+    (THROWS, NONE, 7, 999, 1, NULL_THROWN, &[], &[2]),
+    (
+        CALLS,
+        NONE,
+        7,
+        999,
+        4,
+        b"DEPTH\nsteps 2048\n",
+        &[],
+        &[2_048],
+    ),
+    (BEGINS, NONE, 7, 999, 5, NOT_BEGUN, &[], &[2]),
+    (OBJECTS, NONE, 7, 999, 6, b"LINK\nsteps 2\n", &[], &[2]),
+    (
+        FILLS,
+        NONE,
+        7,
+        999,
+        9,
+        b"HEAP 16 67108880\nsteps 2\n",
+        &[],
+        &[2],
+    ),
+    (LOOPS, NONE, 7, 999, 8, b"STEPS 5\nsteps 5\n", &[], &[5]),
+    (RUNS_REJECTED, NONE, 7, 999, 2, REJECTED, &[], &[]),
+    (RUNS_LACKING, NONE, 7, 999, 65, b"ABSENT none\n", &[], &[]),
+    (VERIFY, NONE, 7, 999, 0, RETURNED, &[], &[]),
 ];
 
 // Nobody counts the charges of a raw run.
@@ -268,13 +336,13 @@ fn ends_raw(alloc: Global, row: &RawRow) -> Result<bool, AllocError> {
     if !paths_differ(&held) {
         return Ok(false);
     }
-    let mut files = MemFiles::new(alloc, held, Order::Given, vec![in alloc; NONE]?);
-    let mut host = ToldHost::new(alloc, row.1);
-    let mut sink = MemSink::new(alloc, 1, row.2);
+    let mut files = MemFiles::new(alloc, held, Order::Given, vec![in alloc; row.1]?);
+    let mut host = ToldHost::new(alloc, row.2);
+    let mut sink = MemSink::new(alloc, 1, row.3);
     let mut engine = PlainEngine::new(alloc);
     let status = djvm(alloc, &words, &mut files, &mut host, &mut sink, &mut engine);
-    let told = status == row.3 && sink.bytes() == row.4;
-    Ok(told && host.gave(row.5) && made(&engine, row.6))
+    let told = status == row.4 && sink.bytes() == row.5;
+    Ok(told && host.gave(row.6) && made(&engine, row.7))
 }
 
 // Where there is ample memory a job ends with its report: a body that is always out of memory is refused, and so is one that is

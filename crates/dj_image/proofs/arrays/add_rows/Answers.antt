@@ -1,28 +1,26 @@
-use Rattle.std.proofs.Common.{refl, inl, inr, arith}
-use Rattle.dj_image.specs.Rows.{type_lent, has_row}
-use Rattle.dj_image.specs.declared.lent_type.LentType.{LentType}
-use Rattle.dj_image.proofs.RowFacts.{descends_on, descended, stays, had}
+use Rattle.std.proofs.Common.{◌≡◌, ◌≤◌, ap, sym, ◌∙◌, arith, List}
+use Rattle.dj_names.specs.declared.descriptor.Ty.{Ty}
+use Rattle.dj_names.specs.Types.{Name}
+use Rattle.dj_image.specs.Rows.{type_lent, most_at}
+use Rattle.dj_image.proofs.RowFacts.{keyed_now, rows_stay, rows_more, at_most}
 use Rattle.dj_image.proofs.arrays.add_rows.Goals as goal
 
-pub returns-then-not-branch-clause-rows : goal.returns-then-not-branch-clause-rows
-returns-then-not-branch-clause-rows c = λ wholes are.
-    let at : LentType = record { dims = c.loop-dims.dims; of = c.args.whole.of } in
-    let has = had (has_row c.loop-dims.rows (type_lent at)) c.in_ok-add_row.field-0 c.in_ok-add_row.ensures.new c.if-not-branch.true in
-    stays _ (type_lent at) c.loop-dims.rows c.add_row.new.rows
-    (descended wholes (type_lent c.args.whole) (type_lent at) c.loop-dims.rows c.loop-dims.dims refl (c.loop-dims.invariant.3 wholes are) (inr has) c.loop-dims.invariant.0)
-    has c.in_ok-add_row.ensures.now c.in_ok-add_row.ensures.keyed
+pub returns-then-dims-most_dims-clause-rows : goal.returns-then-dims-most_dims-clause-rows
+returns-then-dims-most_dims-clause-rows c = λ wholes are.
+    let most : most_at c.args.rows.now c.as_slice.result.now ≡ most_at c.args.rows.now c.in_ok-text.text.items = ap (λ (text : Name). most_at c.args.rows.now text) c.as_slice.ensures.value in
+    rows_stay wholes (type_lent c.args.whole) c.args.rows.now c.min-dims.result c.in_ok-text.text.items c.in_ok-text.ensures c.min-dims.ensures (omega (arith, c.if-dims-most_dims.true, c.most_dims.ensures, most)) are
 
-pub loop-dims-preserved : goal.loop-dims-preserved
-loop-dims-preserved c = (
-  c.in_ok-add_row.ensures.keyed,
-  omega (arith, c.loop-dims.invariant.1),
-  omega (arith, c.loop-dims.invariant.2),
-  λ wholes are.
-      let at : LentType = record { dims = c.loop-dims.dims; of = c.args.whole.of } in
-      descends_on wholes (type_lent c.args.whole) (type_lent at) c.loop-dims.rows c.add_row.new.rows c.loop-dims.dims c.loop-dims-test.true c.loop-dims.invariant.1 c.loop-dims.invariant.2 refl (c.loop-dims.invariant.3 wholes are) c.in_ok-add_row.ensures.now,
-)
+pub returns-clause-keyed : goal.returns-clause-keyed
+returns-clause-keyed c =
+    keyed_now c.args.rows.now c.insert.new.self c.in_ok-text.text (record { dims = c.min-dims.result; of = c.in_ok-of.of }) (type_lent c.args.whole).of c.requires
+    (omega (arith, c.if-dims-most_dims.false)) (at_most c.min-dims.result c.args.whole.dims c.min-dims.ensures) c.in_ok-text.ensures c.in_ok-of.ensures c.in_ok-insert.ensures.entries
 
 pub returns-clause-rows : goal.returns-clause-rows
 returns-clause-rows c = λ wholes are.
-    let at : LentType = record { dims = c.loop-dims.dims; of = c.args.whole.of } in
-    descended wholes (type_lent c.args.whole) (type_lent at) c.loop-dims.rows c.loop-dims.dims refl (c.loop-dims.invariant.3 wholes are) (inl (omega (arith, c.loop-dims-test.false))) c.loop-dims.invariant.0
+    let top : Ty = record { dims = c.min-dims.result; of = c.in_ok-of.of } in
+    let most : most_at c.args.rows.now c.as_slice.result.now ≡ most_at c.args.rows.now c.in_ok-text.text.items = ap (λ (text : Name). most_at c.args.rows.now text) c.as_slice.ensures.value in
+    let keyed =
+    keyed_now c.args.rows.now c.insert.new.self c.in_ok-text.text top (type_lent c.args.whole).of c.requires
+    (omega (arith, c.if-dims-most_dims.false)) (at_most c.min-dims.result c.args.whole.dims c.min-dims.ensures) c.in_ok-text.ensures c.in_ok-of.ensures c.in_ok-insert.ensures.entries in
+    rows_more wholes (type_lent c.args.whole) c.args.rows.now c.insert.new.self c.in_ok-text.text top c.in_ok-text.ensures c.min-dims.ensures
+    (λ le. omega (arith, le, c.if-dims-most_dims.false, c.most_dims.ensures, most)) c.in_ok-insert.ensures.updates.1 c.in_ok-insert.ensures.entries keyed are

@@ -1,5 +1,6 @@
-use Rattle.std.proofs.Common.{◌≡◌, ◌↔◌, Contains, List, IsTrue, sym, ap, subst, arith}
+use Rattle.std.proofs.Common.{◌≡◌, ◌↔◌, Contains, List, map, IsTrue, sym, ap, subst, arith}
 use Rattle.std.specs.Prelude.{is_some}
+use Rattle.dj_types.specs.Shapes.{shape_type}
 use Rattle.dj_types.specs.Typed.{Typed, AreArrays, chars_at}
 use Rattle.dj_names.specs.declared.descriptor.Ty.{Ty}
 use Rattle.dj_image.specs.declared.parts.ClassParts.{ClassParts}
@@ -37,7 +38,7 @@ image_from-requires-clause-string c = subst (λ (t : Typed). HasString t.program
 pub image_from-requires-clause-chars : goal.image_from-requires-clause-chars
 image_from-requires-clause-chars c =
     let program = c.args.linker.program in
-    let arrays = c.in_ok-arrays.arrays.items in
+    let arrays = map (shape_type program) c.in_ok-arrays.arrays.items in
     let rows : (ty : Ty) → Contains arrays ty ↔ IsRow (wholes_of program c.args.parts.items) ty =
     λ ty. subst (λ (ps : List ClassParts). Contains arrays ty ↔ IsRow (wholes_of program ps) ty) c.deref.ensures.value (c.in_ok-arrays.ensures.numbered ty) in
     subst (λ (t : Typed). IsTrue (is_some (chars_at t))) (sym c.in_ok-types.ensures) (chars_numbered program c.args.linker.prefix c.args.parts.items arrays rows)
@@ -45,7 +46,7 @@ image_from-requires-clause-chars c =
 pub image_from-requires-clause-closed : goal.image_from-requires-clause-closed
 image_from-requires-clause-closed c =
     let program = c.args.linker.program in
-    let arrays = c.in_ok-arrays.arrays.items in
+    let arrays = map (shape_type program) c.in_ok-arrays.arrays.items in
     let rows : (ty : Ty) → Contains arrays ty ↔ IsRow (wholes_of program c.args.parts.items) ty =
     λ ty. subst (λ (ps : List ClassParts). Contains arrays ty ↔ IsRow (wholes_of program ps) ty) c.deref.ensures.value (c.in_ok-arrays.ensures.numbered ty) in
     subst (λ (t : Typed). AreClosed t.arrays) (sym c.in_ok-types.ensures) (rows_closed (wholes_of program c.args.parts.items) arrays rows)
@@ -53,7 +54,7 @@ image_from-requires-clause-closed c =
 pub image_from-requires-clause-numbered : goal.image_from-requires-clause-numbered
 image_from-requires-clause-numbered c =
     let program = c.args.linker.program in
-    let arrays = c.in_ok-arrays.arrays.items in
+    let arrays = map (shape_type program) c.in_ok-arrays.arrays.items in
     let texts = c.in_ok-texts.texts.items in
     let rows : (ty : Ty) → Contains arrays ty ↔ IsRow (wholes_of program c.args.parts.items) ty =
     λ ty. subst (λ (ps : List ClassParts). Contains arrays ty ↔ IsRow (wholes_of program ps) ty) c.deref.ensures.value (c.in_ok-arrays.ensures.numbered ty) in
@@ -74,7 +75,7 @@ returns-clause-prefix c =
 pub returns-clause-numbered : goal.returns-clause-numbered
 returns-clause-numbered c =
     let program = c.args.linker.program in
-    let arrays = c.in_ok-arrays.arrays.items in
+    let arrays = map (shape_type program) c.in_ok-arrays.arrays.items in
     let texts = c.in_ok-texts.texts.items in
     let rows : (ty : Ty) → Contains arrays ty ↔ IsRow (wholes_of program c.args.parts.items) ty =
     λ ty. subst (λ (ps : List ClassParts). Contains arrays ty ↔ IsRow (wholes_of program ps) ty) c.deref.ensures.value (c.in_ok-arrays.ensures.numbered ty) in

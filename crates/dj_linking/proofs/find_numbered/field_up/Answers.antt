@@ -10,8 +10,8 @@ use Rattle.dj_linking.proofs.find_numbered.field_up.Goals as goal
 pub list_of-requires : goal.list_of-requires
 list_of-requires c = omega (arith, c.requires.fields.count, c.requires.there)
 
-pub field_among-requires : goal.field_among-requires
-field_among-requires c =
+pub field_among-requires-clause-below : goal.field_among-requires-clause-below
+field_among-requires-clause-below c =
     subst (AreBelow (length c.args.directory.now.program))
     (sym (list_told c.args.directory.now.program (field_row c.args.directory.now.program) (lists_of c.args.fields.now.lists.items) c.args.fields.now.places.items c.args.class c.in-Some.list.now c.requires.fields c.in-Some.ensures))
     (rows_below c.args.directory.now.program (field_row c.args.directory.now.program) (length c.args.directory.now.program) c.args.class c.requires.there (field_row_below c.args.directory.now.program))

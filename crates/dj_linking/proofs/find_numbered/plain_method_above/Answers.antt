@@ -8,8 +8,8 @@ use Rattle.dj_linking.proofs.Marks.{above_is, once_below}
 use Rattle.dj_linking.proofs.Searches.{told_above}
 use Rattle.dj_linking.proofs.find_numbered.plain_method_above.Goals as goal
 
-pub plain_method_among-requires : goal.plain_method_among-requires
-plain_method_among-requires c =
+pub plain_method_among-requires-clause-below : goal.plain_method_among-requires-clause-below
+plain_method_among-requires-clause-below c =
     subst (λ (xs : List ℕ). AreBelow (length c.args.directory.now.program) xs)
     (sym (c.deref.ensures.value ∙ above_is c.args.directory.now.program c.args.above.now c.args.class c.index-above-class.result c.requires.above c.requires.there c.index-above-class.is))
     (once_below c.args.directory.now.program c.args.class)

@@ -11,8 +11,8 @@ use Rattle.dj_linking.proofs.find_numbered.plain_method_up.Goals as goal
 pub list_of-requires : goal.list_of-requires
 list_of-requires c = omega (arith, c.requires.methods.count, c.requires.there)
 
-pub plain_method_among-requires : goal.plain_method_among-requires
-plain_method_among-requires c =
+pub plain_method_among-requires-clause-below : goal.plain_method_among-requires-clause-below
+plain_method_among-requires-clause-below c =
     subst (AreBelow (length c.args.directory.now.program))
     (sym (list_told c.args.directory.now.program (once_above c.args.directory.now.program) (lists_of c.args.methods.now.lists.items) c.args.methods.now.places.items c.args.class c.in-Some.list.now c.requires.methods c.in-Some.ensures))
     (rows_below c.args.directory.now.program (once_above c.args.directory.now.program) (length c.args.directory.now.program) c.args.class c.requires.there (λ k lt. once_below c.args.directory.now.program k))

@@ -4,6 +4,7 @@ use Rattle.dj_declared.specs.Members.{IsDescriptor}
 use Rattle.dj_directory.specs.declared.rows.MemberRow.{MemberRow}
 use Rattle.dj_directory.specs.Numberings.{DeclareFields, Numbering, number_of}
 use Rattle.dj_directory.specs.Rows.{AreRowsWith}
+use Rattle.dj_directory.proofs.FirstLaws.{classes_differ}
 use Rattle.dj_directory.proofs.PlaceLaws.{field_there, fields_declared}
 use Rattle.dj_directory.proofs.directory.Directory.fields_of.Goals as goal
 
@@ -18,3 +19,8 @@ returns-clause-declare c =
     subst (λ (numbering : Numbering). (n d : List ℕ) → number_of numbering n ≡ Some c.args.name → number_of numbering d ≡ Some c.args.desc → IsDescriptor d → DeclareFields numbering.program n (desc_in d) c.rows_with.result.now) c.self.view_is
     (fields_declared c.self.inside.table.now c.self.inside.numbers c.self.inside.methods.items c.self.inside.fields.items c.self.inside.first_methods.items c.self.inside.first_fields.items c.self.invariant c.args.name c.args.desc c.rows_with.result.now c.class_count.ensures.few
     (subst (λ (rows : List MemberRow). AreRowsWith rows c.args.name c.args.desc c.rows_with.result.now) c.deref.ensures.value c.rows_with.ensures))
+
+pub returns-clause-once : goal.returns-clause-once
+returns-clause-once c =
+    classes_differ c.self.inside.fields.items c.self.inside.first_fields.items c.rows_with.result.now c.args.name c.args.desc c.self.invariant.first_fields_are
+    (subst (λ (rows : List MemberRow). AreRowsWith rows c.args.name c.args.desc c.rows_with.result.now) c.deref.ensures.value c.rows_with.ensures)

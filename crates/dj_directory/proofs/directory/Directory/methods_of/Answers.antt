@@ -5,6 +5,7 @@ use Rattle.dj_classes.specs.Tables.{methods_at}
 use Rattle.dj_directory.specs.declared.rows.MemberRow.{MemberRow}
 use Rattle.dj_directory.specs.Numberings.{DeclareMethods, Numbering, number_of}
 use Rattle.dj_directory.specs.Rows.{AreRowsWith}
+use Rattle.dj_directory.proofs.FirstLaws.{classes_differ}
 use Rattle.dj_directory.proofs.PlaceLaws.{method_at, method_there, methods_declared}
 use Rattle.dj_directory.proofs.directory.Directory.methods_of.Goals as goal
 
@@ -25,3 +26,8 @@ returns-clause-within c =
     subst (λ (d : Numbering). (row : MemberRow) → Contains c.rows_with.result.now row → row.place < length (methods_at d.program row.class)) c.self.view_is
     (λ row there. method_at c.self.inside.table.now c.self.inside.numbers c.self.inside.methods.items c.self.inside.fields.items c.self.inside.first_methods.items c.self.inside.first_fields.items c.self.invariant row
     (c.self.invariant.first_methods_are.within row ((subst (λ (rows : List MemberRow). AreRowsWith rows c.args.name c.args.desc c.rows_with.result.now) c.deref.ensures.value c.rows_with.ensures).each row there).0))
+
+pub returns-clause-once : goal.returns-clause-once
+returns-clause-once c =
+    classes_differ c.self.inside.methods.items c.self.inside.first_methods.items c.rows_with.result.now c.args.name c.args.desc c.self.invariant.first_methods_are
+    (subst (λ (rows : List MemberRow). AreRowsWith rows c.args.name c.args.desc c.rows_with.result.now) c.deref.ensures.value c.rows_with.ensures)

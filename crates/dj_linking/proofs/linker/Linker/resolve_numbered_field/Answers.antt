@@ -7,6 +7,7 @@ use Rattle.dj_classes.specs.Tables.{field_there}
 use Rattle.dj_linking.specs.Linked.{Linked, prefix_of, resolved_field}
 use Rattle.dj_linking.specs.Chained.{AreFieldChains}
 use Rattle.dj_linking.specs.Numbers.{AreAbove, lists_of}
+use Rattle.dj_linking.specs.Shared.{HaveFieldMarks}
 use Rattle.dj_linking.proofs.Numbered.{FieldTells}
 use Rattle.dj_linking.proofs.Resolution.{field_resolved}
 use Rattle.dj_linking.proofs.linker.Linker.resolve_numbered_field.Goals as goal
@@ -18,6 +19,10 @@ pub field_up-requires-clause-above : goal.field_up-requires-clause-above
 field_up-requires-clause-above c =
     subst (λ (p : Program). AreAbove p (lists_of c.deref.result.now)) (sym (c.requires.same ∙ ap (λ (linked : Linked). linked.program) (sym c.self.view_is)))
     (subst (λ (lists : List (Vec ℕ)). AreAbove c.self.inside.table (lists_of lists)) (sym c.deref.ensures.value) c.self.invariant.above)
+
+pub field_up-requires-clause-shared : goal.field_up-requires-clause-shared
+field_up-requires-clause-shared c =
+    subst (λ (p : Program). HaveFieldMarks p c.self.inside.shared.fields.items) (sym (c.requires.same ∙ ap (λ (linked : Linked). linked.program) (sym c.self.view_is))) c.self.invariant.shared.fields
 
 pub field_up-requires-clause-fields : goal.field_up-requires-clause-fields
 field_up-requires-clause-fields c =

@@ -9,6 +9,7 @@ use Rattle.dj_linking.specs.Linked.{Linked, prefix_of, resolved_method}
 use Rattle.dj_linking.specs.Chained.{AreMethodChains}
 use Rattle.dj_linking.specs.Numbers.{AreAbove, lists_of}
 use Rattle.dj_linking.specs.Ranked.{AreRanksOf}
+use Rattle.dj_linking.specs.Shared.{HavePlainMarks, HaveRankMarks}
 use Rattle.dj_linking.proofs.Numbered.{FirstTells, AboveTells}
 use Rattle.dj_linking.proofs.Resolution.{method_here, method_above, object_within}
 use Rattle.dj_linking.proofs.linker.Linker.resolve_numbered_method.Goals as goal
@@ -24,6 +25,14 @@ method_first-requires-clause-there c = subst (λ (p : Program). c.args.class < l
 pub method_first-requires-clause-ranks : goal.method_first-requires-clause-ranks
 method_first-requires-clause-ranks c =
     subst (λ (p : Program). AreRanksOf p c.self.inside.ranks) (sym (c.requires.same ∙ ap (λ (linked : Linked). linked.program) (sym c.self.view_is))) c.self.invariant.ranks
+
+pub method_first-requires-clause-shared : goal.method_first-requires-clause-shared
+method_first-requires-clause-shared c =
+    subst (λ (p : Program). HaveRankMarks p c.self.inside.ranks.ranks.items c.self.inside.shared.declared.items) (sym (c.requires.same ∙ ap (λ (linked : Linked). linked.program) (sym c.self.view_is))) c.self.invariant.shared.declared
+
+pub plain_method_up-requires-clause-shared : goal.plain_method_up-requires-clause-shared
+plain_method_up-requires-clause-shared c =
+    subst (λ (p : Program). HavePlainMarks p c.self.inside.shared.plain.items) (sym (c.requires.same ∙ ap (λ (linked : Linked). linked.program) (sym c.self.view_is))) c.self.invariant.shared.plain
 
 pub plain_method_up-requires-clause-there : goal.plain_method_up-requires-clause-there
 plain_method_up-requires-clause-there c = subst (λ (p : Program). c.args.class < length p) (sym c.requires.same) c.requires.there

@@ -1,0 +1,253 @@
+-- Members that many classes declare: what marks tell of them.
+use Rattle.std.proofs.Common.{◌≡◌, ℕ, ◌+◌, ◌<◌, ◌≤◌, Bool, true, false, List, [], ◌∷◌, Contains, length, if◌then◌else◌, get_or, Option, Some, None, IfSome, refl, sym, ◌∙◌, ap, subst, inl, inr, arith, slice_get}
+use Rattle.std.specs.Borrow.{Bor}
+use Rattle.std.specs.Global.{Vec}
+use Rattle.std.specs.Option.{option_map}
+use Rattle.std.proofs.lemmas.Bool.{cases_lt, and_parts, false≢true}
+use Rattle.std.proofs.lemmas.List.{get_or_default}
+use Rattle.std.proofs.lemmas.Option.{none-some, same_Some, slice_get-map}
+use Rattle.dj_names.specs.declared.descriptor.Desc.{Desc}
+use Rattle.dj_names.specs.Types.{Name, same_desc, same_name}
+use Rattle.dj_model.specs.Program.{Program, Method, Field, field_in, is_named, method_in}
+use Rattle.dj_model.specs.Linking.{any_method, is_plain, most_classes, FoundMethod}
+use Rattle.dj_model.proofs.MappedNames.{either}
+use Rattle.dj_declared.specs.Files.{desc_in}
+use Rattle.dj_declared.specs.Members.{IsDescriptor, field_place, method_place}
+use Rattle.dj_declared.proofs.DescTests.{desc_in_is, is_descriptor, same_desc_is, same_name_is}
+use Rattle.dj_classes.specs.Tables.{fields_at, methods_at}
+use Rattle.dj_directory.specs.declared.rows.MemberRow.{MemberRow}
+use Rattle.dj_directory.specs.Rows.{IsRow, Named, field_named, fields_named, method_named, methods_named}
+use Rattle.dj_directory.specs.Numberings.{DeclareFields, DeclareMethods, Numbering, number_of}
+use Rattle.dj_linking.specs.declared.shared.MarkedMember.{MarkedMember}
+use Rattle.dj_linking.specs.Bits.{IsTop, in_bits, in_both}
+use Rattle.dj_linking.specs.Marked.{IsCovered, is_plain_at}
+use Rattle.dj_linking.specs.Nearest.{IsNearestMarked}
+use Rattle.dj_linking.specs.Numbered.{AreTexts}
+use Rattle.dj_linking.specs.Numbers.{field_found, first_some, has, method_found, numbers_up}
+use Rattle.dj_linking.specs.Ranked.{AreRanks, HasRow, rank_in}
+use Rattle.dj_linking.specs.Shared.{HasTexts, IsFieldMarked, IsFieldNumbered, IsMethodNumbered, IsPlainMarked, IsRankCovered, IsRankMarked}
+use Rattle.dj_linking.proofs.Chained.{up_within}
+use Rattle.dj_linking.proofs.Marking.{fields_covered, methods_covered}
+use Rattle.dj_linking.proofs.Nearing.{first_near, no_method, none_found}
+use Rattle.dj_linking.proofs.Numbered.{field_found_at, method_found_at}
+use Rattle.dj_linking.proofs.Ranking.{all_have, has_mapped, mapped_has}
+use Rattle.dj_linking.proofs.Tops.{both, first_of, second_if, second_of}
+
+-- ---- the ranks of classes as marks
+
+-- the ranks of the classes of the first rows, so many, where there are bits for them
+abbrev pub AreRanksMarked : List ℕ → List MemberRow → ℕ → ℕ → List ℕ → Type 0
+AreRanksMarked ranks rows bound count marks = (k : ℕ) (row : MemberRow) → k < count → get_or rows k row ≡ row → rank_in ranks row.class < bound → in_bits marks (rank_in ranks row.class) ≡ true
+
+pub one_more_rank : (ranks : List ℕ) (rows : List MemberRow) (bound i : ℕ) (row : MemberRow) (marks more : List ℕ) → i < length rows → get_or rows i row ≡ row → AreRanksMarked ranks rows bound i marks
+    → ((z : ℕ) → in_bits marks z ≡ true → in_bits more z ≡ true) → (rank_in ranks row.class < bound → in_bits more (rank_in ranks row.class) ≡ true) → AreRanksMarked ranks rows bound (i + 1) more
+one_more_rank ranks rows bound i row marks more within own before kept here k other lt at few = elim (cases_lt k i) [
+  | inl less ↦ kept (rank_in ranks other.class) (before k other less at few)
+  | inr after ↦
+      (let last : k ≡ i = omega (arith, lt, after) in
+      let same : row ≡ other = sym own ∙ get_or_default rows i row other within ∙ ap (λ (j : ℕ). get_or rows j other) (sym last) ∙ at in
+      subst (λ (r : MemberRow). in_bits more (rank_in ranks r.class) ≡ true) same (here (subst (λ (r : MemberRow). rank_in ranks r.class < bound) (sym same) few)))
+]
+
+pub all_ranks : (ranks : List ℕ) (rows : List MemberRow) (bound i : ℕ) (marks : List ℕ) → length rows ≤ i → AreRanksMarked ranks rows bound i marks → (row : MemberRow) → Contains rows row → rank_in ranks row.class < bound
+    → in_bits marks (rank_in ranks row.class) ≡ true
+all_ranks ranks rows bound i marks past are row there few = are there.0 row (let lt = there.1 in omega (arith, lt, past)) there.2 few
+
+ranks_covered : (program : Program) (ranks : List ℕ) (name : Name) (desc : Desc) (rows : List MemberRow) (bound : ℕ) (marks : List ℕ) → DeclareMethods program name desc rows → length program ≤ bound
+    → ((row : MemberRow) → Contains rows row → rank_in ranks row.class < bound → in_bits marks (rank_in ranks row.class) ≡ true) → IsRankCovered (method_found program any_method name desc) ranks (length program) marks
+ranks_covered program ranks name desc rows bound marks declare few marked class lt low unset =
+    no_method program name desc class (declare.all class lt (λ row there same.
+    false≢true (sym unset ∙ ap (λ (k : ℕ). in_bits marks (rank_in ranks k)) (sym same) ∙ marked row there (let e = ap (rank_in ranks) same in omega (arith, e, low, few)))))
+
+-- ---- the numbers of the texts of a member
+
+method_names : (methods : List Method) (name : Name) (desc : Desc) (m : Method) → method_in methods name desc ≡ Some m → (m.name ≡ name) × (m.desc ≡ desc)
+method_names [] name desc m found = absurd (none-some m found)
+method_names (x ∷ methods) name desc m found = by (is_named name desc x.name x.desc) refl (method_names methods name desc m) found where
+  by : (b : Bool) → is_named name desc x.name x.desc ≡ b → (method_in methods name desc ≡ Some m → (m.name ≡ name) × (m.desc ≡ desc)) → (if b then Some x else method_in methods name desc) ≡ Some m → (m.name ≡ name) × (m.desc ≡ desc)
+  by true named rest found =
+      let parts = and_parts (same_name x.name name) (same_desc x.desc desc) named in
+      let same : x ≡ m = same_Some x m found in
+      (ap (λ (k : Method). k.name) (sym same) ∙ same_name_is x.name name parts.0, ap (λ (k : Method). k.desc) (sym same) ∙ same_desc_is x.desc desc parts.1)
+  by false named rest found = rest found
+
+field_names : (fields : List Field) (name : Name) (desc : Desc) (f : Field) → field_in fields name desc ≡ Some f → (f.name ≡ name) × (f.desc ≡ desc)
+field_names [] name desc f found = absurd (none-some f found)
+field_names (x ∷ fields) name desc f found = by (is_named name desc x.name x.desc) refl (field_names fields name desc f) found where
+  by : (b : Bool) → is_named name desc x.name x.desc ≡ b → (field_in fields name desc ≡ Some f → (f.name ≡ name) × (f.desc ≡ desc)) → (if b then Some x else field_in fields name desc) ≡ Some f → (f.name ≡ name) × (f.desc ≡ desc)
+  by true named rest found =
+      let parts = and_parts (same_name x.name name) (same_desc x.desc desc) named in
+      let same : x ≡ f = same_Some x f found in
+      (ap (λ (k : Field). k.name) (sym same) ∙ same_name_is x.name name parts.0, ap (λ (k : Field). k.desc) (sym same) ∙ same_desc_is x.desc desc parts.1)
+  by false named rest found = rest found
+
+-- the method at a place, of a name and a descriptor
+record IsMethod (methods : List Method) (member : ℕ) (name : Name) (desc : Desc) : Type 0 where
+  method : Method
+  there : slice_get methods member ≡ Some method
+  names : (method.name ≡ name) × (method.desc ≡ desc)
+
+method_at : (program : Program) (class member : ℕ) (name : Name) (desc : Desc) → method_place (methods_at program class) name desc ≡ Some member → IsMethod (methods_at program class) member name desc
+method_at program class member name desc placed = by (method_in (methods_at program class) name desc) refl (method_found_at program class name desc (Some member) (sym placed)) where
+  by : (o : Option Method) → method_in (methods_at program class) name desc ≡ o → Some (slice_get (methods_at program class) member) ≡ option_map Some o → IsMethod (methods_at program class) member name desc
+  by None is told = absurd (none-some (slice_get (methods_at program class) member) (sym told))
+  by (Some m) is told = record { method = m; there = same_Some (slice_get (methods_at program class) member) (Some m) told; names = method_names (methods_at program class) name desc m is }
+
+record IsField (fields : List Field) (member : ℕ) (name : Name) (desc : Desc) : Type 0 where
+  field : Field
+  there : slice_get fields member ≡ Some field
+  names : (field.name ≡ name) × (field.desc ≡ desc)
+
+field_at : (program : Program) (class member : ℕ) (name : Name) (desc : Desc) → field_place (fields_at program class) name desc ≡ Some member → IsField (fields_at program class) member name desc
+field_at program class member name desc placed = by (field_in (fields_at program class) name desc) refl (field_found_at program class name desc (Some member) (sym placed)) where
+  by : (o : Option Field) → field_in (fields_at program class) name desc ≡ o → Some (slice_get (fields_at program class) member) ≡ option_map Some o → IsField (fields_at program class) member name desc
+  by None is told = absurd (none-some (slice_get (fields_at program class) member) (sym told))
+  by (Some f) is told = record { field = f; there = same_Some (slice_get (fields_at program class) member) (Some f) told; names = field_names (fields_at program class) name desc f is }
+
+pub method_of_row : (directory : Numbering) (row : MemberRow) → row.class < length directory.program → IsRow (number_of directory) (methods_named directory.program) row → IsMethodNumbered directory row.class row.place row.name row.desc
+method_of_row directory row lt is = record {
+  there = lt;
+  named = λ n d placed.
+      (let found : IsMethod (methods_at directory.program row.class) row.place n d = method_at directory.program row.class row.place n d placed in
+      let same : (found.method.name, found.method.desc) ≡ (is.name, is.desc) =
+      same_Some (found.method.name, found.method.desc) (is.name, is.desc) (sym (ap (option_map method_named) found.there) ∙ sym (slice_get-map method_named (methods_at directory.program row.class) row.place) ∙ is.there) in
+      let name : is.name ≡ n = sym (ap (λ (x : Named). x.0) same) ∙ found.names.0 in
+      let desc : is.desc ≡ d = sym (ap (λ (x : Named). x.1) same) ∙ found.names.1 in
+      record {
+        text = is.text;
+        are = record { name_is = ap (number_of directory) (sym name) ∙ is.name_is; desc_is = is.desc_is; described = is_descriptor is.text is.desc is.spelled };
+        spelled = desc_in_is is.text is.desc is.spelled ∙ desc;
+      });
+}
+
+pub field_of_row : (directory : Numbering) (row : MemberRow) → row.class < length directory.program → IsRow (number_of directory) (fields_named directory.program) row → IsFieldNumbered directory row.class row.place row.name row.desc
+field_of_row directory row lt is = record {
+  there = lt;
+  named = λ n d placed.
+      (let found : IsField (fields_at directory.program row.class) row.place n d = field_at directory.program row.class row.place n d placed in
+      let same : (found.field.name, found.field.desc) ≡ (is.name, is.desc) =
+      same_Some (found.field.name, found.field.desc) (is.name, is.desc) (sym (ap (option_map field_named) found.there) ∙ sym (slice_get-map field_named (fields_at directory.program row.class) row.place) ∙ is.there) in
+      let name : is.name ≡ n = sym (ap (λ (x : Named). x.0) same) ∙ found.names.0 in
+      let desc : is.desc ≡ d = sym (ap (λ (x : Named). x.1) same) ∙ found.names.1 in
+      record {
+        text = is.text;
+        are = record { name_is = ap (number_of directory) (sym name) ∙ is.name_is; desc_is = is.desc_is; described = is_descriptor is.text is.desc is.spelled };
+        spelled = desc_in_is is.text is.desc is.spelled ∙ desc;
+      });
+}
+
+-- ---- the marks of one member
+
+module _ (directory : Numbering) (class member name desc : ℕ) (words : Vec ℕ) (marks : List ℕ) (is : words.items ≡ marks) where
+  pub plain_marked : (rows : List MemberRow) → IsMethodNumbered directory class member name desc
+      → ((n d : List ℕ) → number_of directory n ≡ Some name → number_of directory d ≡ Some desc → IsDescriptor d → DeclareMethods directory.program n (desc_in d) rows)
+      → ((row : MemberRow) → Contains rows row → is_plain_at directory.program row.class row.place ≡ true → in_bits marks row.class ≡ true)
+      → IsPlainMarked directory.program (record { name = name; desc = desc; class = class; member = member; words = words })
+  plain_marked rows numbered declare marked = record {
+    there = numbered.there;
+    covered = λ n e placed. (let texts : HasTexts directory name desc n e = numbered.named n e placed in
+        subst (λ (ws : List ℕ). IsCovered (method_found directory.program is_plain n e) (length directory.program) ws) (sym is)
+        (subst (λ (k : Desc). IsCovered (method_found directory.program is_plain n k) (length directory.program) marks) texts.spelled
+        (methods_covered directory.program n (desc_in texts.text) rows marks (declare n texts.text texts.are.name_is texts.are.desc_is texts.are.described) marked)));
+  }
+
+  pub rank_marked : (ranks : List ℕ) (rows : List MemberRow) (bound : ℕ) → length directory.program ≤ bound → IsMethodNumbered directory class member name desc
+      → ((n d : List ℕ) → number_of directory n ≡ Some name → number_of directory d ≡ Some desc → IsDescriptor d → DeclareMethods directory.program n (desc_in d) rows)
+      → ((row : MemberRow) → Contains rows row → rank_in ranks row.class < bound → in_bits marks (rank_in ranks row.class) ≡ true)
+      → IsRankMarked directory.program ranks (record { name = name; desc = desc; class = class; member = member; words = words })
+  rank_marked ranks rows bound few numbered declare marked = record {
+    there = numbered.there;
+    covered = λ n e placed. (let texts : HasTexts directory name desc n e = numbered.named n e placed in
+        subst (λ (ws : List ℕ). IsRankCovered (method_found directory.program any_method n e) ranks (length directory.program) ws) (sym is)
+        (subst (λ (k : Desc). IsRankCovered (method_found directory.program any_method n k) ranks (length directory.program) marks) texts.spelled
+        (ranks_covered directory.program ranks n (desc_in texts.text) rows bound marks (declare n texts.text texts.are.name_is texts.are.desc_is texts.are.described) few marked)));
+  }
+
+  pub field_marked : (rows : List MemberRow) → IsFieldNumbered directory class member name desc
+      → ((n d : List ℕ) → number_of directory n ≡ Some name → number_of directory d ≡ Some desc → IsDescriptor d → DeclareFields directory.program n (desc_in d) rows)
+      → ((row : MemberRow) → Contains rows row → in_bits marks row.class ≡ true)
+      → IsFieldMarked directory.program (record { name = name; desc = desc; class = class; member = member; words = words })
+  field_marked rows numbered declare marked = record {
+    there = numbered.there;
+    covered = λ n e placed. (let texts : HasTexts directory name desc n e = numbered.named n e placed in
+        subst (λ (ws : List ℕ). IsCovered (field_found directory.program n e) (length directory.program) ws) (sym is)
+        (subst (λ (k : Desc). IsCovered (field_found directory.program n k) (length directory.program) marks) texts.spelled
+        (fields_covered directory.program n (desc_in texts.text) rows marks (declare n texts.text texts.are.name_is texts.are.desc_is texts.are.described) marked)));
+  }
+
+-- ---- what is told of a member that is looked up
+
+module _ (directory : Numbering) (marked : MarkedMember) (name desc : ℕ) where
+  abbrev pub OwnMethod : Type 0
+  OwnMethod = (n d : List ℕ) → AreTexts directory name desc n d → method_place (methods_at directory.program marked.class) n (desc_in d) ≡ Some marked.member
+
+  abbrev pub OwnField : Type 0
+  OwnField = (n d : List ℕ) → AreTexts directory name desc n d → field_place (fields_at directory.program marked.class) n (desc_in d) ≡ Some marked.member
+
+  pub plain_told : (result : Option (Bor (List ℕ))) → IsPlainMarked directory.program marked → IfSome result (λ words. words.now ≡ marked.words.items) → IfSome result (λ _. OwnMethod)
+      → (n d : List ℕ) → AreTexts directory name desc n d → IfSome result (λ words. IsCovered (method_found directory.program is_plain n (desc_in d)) (length directory.program) words.now)
+  plain_told None are is own n d h = tt
+  plain_told (Some words) are is own n d h =
+      subst (λ (ws : List ℕ). IsCovered (method_found directory.program is_plain n (desc_in d)) (length directory.program) ws) (sym is) (are.covered n (desc_in d) (own n d h))
+
+  pub rank_told : (ranks : List ℕ) (result : Option (Bor (List ℕ))) → IsRankMarked directory.program ranks marked → IfSome result (λ words. words.now ≡ marked.words.items) → IfSome result (λ _. OwnMethod)
+      → (n d : List ℕ) → AreTexts directory name desc n d → IfSome result (λ words. IsRankCovered (method_found directory.program any_method n (desc_in d)) ranks (length directory.program) words.now)
+  rank_told ranks None are is own n d h = tt
+  rank_told ranks (Some words) are is own n d h =
+      subst (λ (ws : List ℕ). IsRankCovered (method_found directory.program any_method n (desc_in d)) ranks (length directory.program) ws) (sym is) (are.covered n (desc_in d) (own n d h))
+
+  pub field_told : (result : Option (Bor (List ℕ))) → IsFieldMarked directory.program marked → IfSome result (λ words. words.now ≡ marked.words.items) → IfSome result (λ _. OwnField)
+      → (n d : List ℕ) → AreTexts directory name desc n d → IfSome result (λ words. IsCovered (field_found directory.program n (desc_in d)) (length directory.program) words.now)
+  field_told None are is own n d h = tt
+  field_told (Some words) are is own n d h =
+      subst (λ (ws : List ℕ). IsCovered (field_found directory.program n (desc_in d)) (length directory.program) ws) (sym is) (are.covered n (desc_in d) (own n d h))
+
+-- ---- the nearest class
+
+module _ (program : Program) (order ranks : List ℕ) (rows : List (List ℕ)) (are : AreRanks program order ranks rows) (class : ℕ) (lt : class < length program) (have : HasRow rows class) where
+  abbrev up : List ℕ
+  up = numbers_up most_classes program (Some class)
+
+  has_too : (z : ℕ) → has (numbers_up most_classes program (Some class)) z ≡ true → HasRow rows z
+  has_too z there = all_have program order ranks rows are.levels are.ranked most_classes (Some class) have z there
+
+  -- the ranks of the superclasses are among the bits
+  row_has : (row : List ℕ) → row ≡ get_or rows class [] → (z : ℕ) → has (numbers_up most_classes program (Some class)) z ≡ true → in_bits row (rank_in ranks z) ≡ true
+  row_has row is z there =
+      ap (λ (ws : List ℕ). in_bits ws (rank_in ranks z)) is
+      ∙ (are.ranked.each class have).row.bits (rank_in ranks z)
+      ∙ has_mapped (rank_in ranks) (numbers_up most_classes program (Some class)) z there
+
+  pub none_near : (row marks : List ℕ) → row ≡ get_or rows class [] → ((z : ℕ) → in_both row marks z ≡ false) → IsNearestMarked (numbers_up most_classes program (Some class)) ranks marks None
+  none_near row marks is none z there = second_if (in_bits row (rank_in ranks z)) (in_bits marks (rank_in ranks z)) (row_has row is z there) (none (rank_in ranks z))
+
+  pub near_at : (row marks : List ℕ) (rank near : ℕ) → row ≡ get_or rows class [] → IsTop row marks rank → near ≡ get_or order rank 0 → IsNearestMarked (numbers_up most_classes program (Some class)) ranks marks (Some near)
+  near_at row marks rank near is top at =
+      let own : in_bits row rank ≡ true = first_of (in_bits row rank) (in_bits marks rank) top.own in
+      let one : (z : ℕ) × (has (numbers_up most_classes program (Some class)) z ≡ true) × (rank_in ranks z ≡ rank) =
+      mapped_has (rank_in ranks) (numbers_up most_classes program (Some class)) rank (sym ((are.ranked.each class have).row.bits rank) ∙ ap (λ (ws : List ℕ). in_bits ws rank) (sym is) ∙ own) in
+      let same : near ≡ one.0 = at ∙ ap (λ (r : ℕ). get_or order r 0) (sym one.2) ∙ (are.ranked.each one.0 (has_too one.0 one.1)).placed in
+      let rank_is : rank_in ranks near ≡ rank = ap (rank_in ranks) same ∙ one.2 in
+      record {
+        among = ap (has (numbers_up most_classes program (Some class))) same ∙ one.1;
+        marked = ap (in_bits marks) rank_is ∙ second_of (in_bits row rank) (in_bits marks rank) top.own;
+        highest = λ z there set.
+            (let le = top.highest (rank_in ranks z) (both (in_bits row (rank_in ranks z)) (in_bits marks (rank_in ranks z)) (row_has row is z there) set) in
+            omega (arith, le, rank_is));
+      }
+
+  module _ (name : Name) (desc : Desc) (marks : List ℕ) (covered : IsRankCovered (method_found program any_method name desc) ranks (length program) marks) where
+    unset_none : (z : ℕ) → has (numbers_up most_classes program (Some class)) z ≡ true → in_bits marks (rank_in ranks z) ≡ false → method_found program any_method name desc z ≡ None
+    unset_none z there unset = covered z (up_within most_classes program (Some class) lt z there) (are.ranked.each z (has_too z there)).bound unset
+
+    pub none_marked : IsNearestMarked (numbers_up most_classes program (Some class)) ranks marks None → first_some (method_found program any_method name desc) (numbers_up most_classes program (Some class)) ≡ None
+    none_marked none = none_found (method_found program any_method name desc) (numbers_up most_classes program (Some class)) (λ z there. unset_none z there (none z there))
+
+    pub near_marked : (near : ℕ) → IsNearestMarked (numbers_up most_classes program (Some class)) ranks marks (Some near) → (method_found program any_method name desc near ≡ None → ⊥)
+        → first_some (method_found program any_method name desc) (numbers_up most_classes program (Some class)) ≡ method_found program any_method name desc near
+    near_marked near is some =
+        first_near FoundMethod (method_found program any_method name desc) program (HasRow rows) (rank_in ranks) (λ k j known next. (are.ranked.each k known).next j next) most_classes (Some class) near have is.among some
+        (λ z there own. elim (either (in_bits marks (rank_in ranks z))) [
+          | inl set ↦ is.highest z there set
+          | inr unset ↦ absurd (own (unset_none z there unset))
+        ])

@@ -1,0 +1,6 @@
+use Rattle.dj_linking.specs.Shared.{HaveFieldMarks}
+use Rattle.dj_linking.proofs.sharing.fields_of.Given as goal
+
+-- those so far
+abbrev pub invariant-loop-at : goal.invariant-loop-at
+invariant-loop-at l = HaveFieldMarks l.directory.program l.marked.items

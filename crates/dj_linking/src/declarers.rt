@@ -1,0 +1,92 @@
+//! Classes that declare a member, as bits.
+ghost use Rattle.std.specs.Prelude.{◌≡◌, ℕ, ◌<◌, ◌≤◌, ◌*◌, true, Contains, length, Some, slice_get};
+ghost use Rattle.std.specs.Option.{option_map};
+ghost use Rattle.dj_declared.specs.Members.{method_flags};
+ghost use Rattle.dj_classes.specs.Tables.{methods_at};
+ghost use Rattle.dj_directory.specs.declared.rows.MemberRow.{MemberRow};
+ghost use Rattle.dj_linking.specs.Bits.{in_bits};
+ghost use Rattle.dj_linking.specs.Marked.{is_plain_at};
+ghost use Rattle.dj_linking.specs.Ranked.{rank_in};
+
+use crate::find::{PRIVATE, STATIC};
+use crate::words::put_bit;
+use dj_directory::{Directory, MemberRow};
+
+/// The access flags of a method (JVMS table 4.6-A).
+pub fn method_flags(directory: &Directory<'_>, class: u32, member: u32) -> u16
+    requires there { class < length directory.now.program }
+    requires within { member < length (methods_at directory.now.program class) }
+    ensures { Some result ≡ option_map method_flags (slice_get (methods_at directory.now.program class) member) }
+{
+    directory.classes().method_flags(class, member)
+}
+
+// Whether the method of a row is neither private nor static.
+fn is_plain_row(directory: &Directory<'_>, row: MemberRow) -> bool
+    requires there { row.class < length directory.now.program }
+    requires within { row.place < length (methods_at directory.now.program row.class) }
+    ensures { result ≡ is_plain_at directory.now.program row.class row.place }
+{
+    let flags = method_flags(directory, row.class, row.place);
+    flags & PRIVATE == 0 && flags & STATIC == 0
+}
+
+// Marks a class, where it is to be marked.
+fn mark_if(marks: &mut [u64], class: u32, marked: bool)
+    requires { class < length marks.old * 64 }
+    ensures kept { (z : ℕ) → in_bits marks.old z ≡ true → in_bits marks.new z ≡ true }
+    ensures own { marked ≡ true → in_bits marks.new class ≡ true }
+    ensures count { length marks.new ≡ length marks.old }
+{
+    if marked {
+        put_bit(marks, class);
+    }
+}
+
+/// Marks the classes of the rows whose method is neither private nor static.
+pub fn mark_plain(directory: &Directory<'_>, rows: &[MemberRow], marks: &mut [u64])
+    requires there { (row : MemberRow) → Contains rows.now row → row.class < length directory.now.program }
+    requires within { (row : MemberRow) → Contains rows.now row → row.place < length (methods_at directory.now.program row.class) }
+    requires few { length directory.now.program ≤ length marks.old * 64 }
+    ensures count { length marks.new ≡ length marks.old }
+    ensures marked { (row : MemberRow) → Contains rows.now row → is_plain_at directory.now.program row.class row.place ≡ true → in_bits marks.new row.class ≡ true }
+{
+    for row in rows {
+        mark_if(marks, row.class, is_plain_row(directory, *row));
+    }
+}
+
+/// Marks the classes of the rows.
+pub fn mark_all(rows: &[MemberRow], marks: &mut [u64])
+    requires { (row : MemberRow) → Contains rows.now row → row.class < length marks.old * 64 }
+    ensures count { length marks.new ≡ length marks.old }
+    ensures marked { (row : MemberRow) → Contains rows.now row → in_bits marks.new row.class ≡ true }
+{
+    for row in rows {
+        mark_if(marks, row.class, true);
+    }
+}
+
+// Marks the rank of a class, where there is a bit for it.
+fn mark_rank(ranks: &[u32], marks: &mut [u64], class: u32)
+    requires { class < length ranks.now }
+    ensures kept { (z : ℕ) → in_bits marks.old z ≡ true → in_bits marks.new z ≡ true }
+    ensures own { rank_in ranks.now class < length marks.old * 64 → in_bits marks.new (rank_in ranks.now class) ≡ true }
+    ensures count { length marks.new ≡ length marks.old }
+{
+    let rank = ranks[class as usize];
+    if rank as usize / 64 < marks.len() {
+        put_bit(marks, rank);
+    }
+}
+
+/// Marks the ranks of the classes of the rows, where there are bits for them.
+pub fn mark_ranks(ranks: &[u32], rows: &[MemberRow], marks: &mut [u64])
+    requires { (row : MemberRow) → Contains rows.now row → row.class < length ranks.now }
+    ensures marked { (row : MemberRow) → Contains rows.now row → rank_in ranks.now row.class < length marks.old * 64 → in_bits marks.new (rank_in ranks.now row.class) ≡ true }
+    ensures count { length marks.new ≡ length marks.old }
+{
+    for row in rows {
+        mark_rank(ranks, marks, row.class);
+    }
+}

@@ -1,0 +1,13 @@
+use Rattle.std.proofs.Common.{◌≡◌, List, map, sym, ap, ◌∙◌, subst}
+use Rattle.dj_names.specs.Types.{Name}
+use Rattle.dj_names.specs.Descriptors.{type_text}
+use Rattle.dj_types.specs.declared.shapes.Shape.{Shape}
+use Rattle.dj_types.specs.Kept.{DoTextsRise, text_in, types_kept}
+use Rattle.dj_types.proofs.Rising.{texts_rise}
+use Rattle.dj_types.proofs.own.number_of.Goals as goal
+
+pub number_in-requires-clause-rise : goal.number_in-requires-clause-rise
+number_in-requires-clause-rise c =
+    let lent : map (text_in c.deref.result.now) c.deref-2.result.now ≡ map type_text (types_kept c.args.linker.now.program c.args.kept.now) =
+    ap (λ (wholes : List Name). map (text_in wholes) c.deref-2.result.now) c.deref.ensures.value ∙ ap (λ (shapes : List Shape). map (text_in c.args.kept.now.wholes.items) shapes) c.deref-2.ensures.value ∙ c.requires.texts in
+    subst DoTextsRise (sym lent) (texts_rise (types_kept c.args.linker.now.program c.args.kept.now) c.requires.are_arrays.rise)

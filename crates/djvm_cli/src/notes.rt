@@ -1,0 +1,169 @@
+//! What stands on standard error beside a report: one line at most, why there is none or what the user may have meant.
+
+use dj_edge::{Entry, EntryKind};
+use std::alloc::Global;
+use std::cell::{Cell, RefCell};
+use std::fmt::Display;
+
+/// The words of the jobs.
+const USAGE: &str =
+    "usage: djvm check FOLDER | djvm verify FOLDER ENTRY INPUT [--alloc N] [--invoke N] [--jump N] [--throw N] | djvm raw FOLDER ENTRY INPUT [--steps N] | djvm assemble FILE";
+
+const VERSION: &str = "djvm 0.1.0";
+
+/// How each line of a report ends that says of a path that it breaks the rule NAME. Each path has one such line at most.
+const NAME_END: &[u8] = b" NAME\n";
+
+/// How many lines of a report name the rule NAME.
+#[derive(Clone, Copy)]
+struct NameLines {
+    count: u64,
+    // How many bytes of such an end stand at the end of what was seen.
+    matched: usize,
+}
+
+impl NameLines {
+    /// One more byte of the report.
+    fn see(&mut self, byte: u8) {
+        self.matched = if NAME_END.get(self.matched) == Some(&byte) {
+            self.matched.saturating_add(1)
+        } else if byte == b' ' {
+            1
+        } else {
+            0
+        };
+        if self.matched == NAME_END.len() {
+            self.count = self.count.saturating_add(1);
+            self.matched = 0;
+        }
+    }
+}
+
+/// What is told on standard error of one job, and what was seen of the job so far.
+#[derive(Drop)]
+pub struct Notes<R: Eprint + Drop> {
+    rt: R,
+    // Whether the line was written.
+    is_told: Cell<bool>,
+    // The folder that was opened last.
+    folder: RefCell<String>,
+    // How many class files were met, or none where no folder was opened.
+    class_files: Cell<Option<u64>>,
+    name_lines: Cell<NameLines>,
+}
+
+impl<R: Eprint + Drop> Notes<R> {
+    /// The notes of a job that didn't begin.
+    pub fn new(alloc: Global, rt: R) -> Notes<R> {
+        Notes {
+            rt,
+            is_told: Cell::new(false),
+            folder: RefCell::new(String::new(alloc)),
+            class_files: Cell::new(None),
+            name_lines: Cell::new(NameLines {
+                count: 0,
+                matched: 0,
+            }),
+        }
+    }
+
+    /// A folder was opened.
+    pub fn see_folder(&self, folder: String) {
+        if self.class_files.get().is_none() {
+            self.class_files.set(Some(0));
+        }
+        let _ = self.folder.try_replace(folder);
+    }
+
+    /// An entry was met in the folder that is open.
+    pub fn see_entry(&self, entry: &Entry) {
+        if !entry.path.as_bytes().ends_with(b".class") {
+            return;
+        }
+        match entry.kind {
+            EntryKind::Folder => {}
+            EntryKind::File => {
+                let before = self.class_files.get().unwrap_or(0);
+                self.class_files.set(Some(before.saturating_add(1)));
+            }
+            EntryKind::Other => self.tell_path(
+                entry.path.as_str(),
+                &"it has a class file's name and is no file",
+            ),
+        }
+    }
+
+    /// These bytes of the report were written.
+    pub fn see_written(&self, bytes: &[u8]) {
+        let mut lines = self.name_lines.get();
+        for byte in bytes {
+            lines.see(*byte);
+        }
+        self.name_lines.set(lines);
+    }
+
+    /// Whether the line wasn't written yet, which is to be done now.
+    fn is_first(&self) -> bool {
+        !self.is_told.replace(true)
+    }
+
+    /// Tells that what stands under the path can't be read, and why.
+    pub fn tell_path<D: Display>(&self, path: &str, cause: &D) {
+        if self.is_first() {
+            let _ = eprintln!(self.rt; "djvm: {path:?}: {cause}");
+        }
+    }
+
+    /// Tells that the folder that was opened last can't be read, and why.
+    pub fn tell_folder<D: Display>(&self, cause: &D) {
+        if let Ok(folder) = self.folder.try_borrow() {
+            self.tell_path(folder.as_str(), cause);
+        }
+    }
+
+    /// Tells why standard output can't be written.
+    pub fn tell_output<D: Display>(&self, cause: &D) {
+        if self.is_first() {
+            let _ = eprintln!(self.rt; "djvm: standard output: {cause}");
+        }
+    }
+
+    /// Tells this of the job.
+    fn tell(&self, line: &str) {
+        if self.is_first() {
+            let _ = eprintln!(self.rt; "djvm: {line}");
+        }
+    }
+
+    /// Tells where the folder that was given may be the wrong one.
+    fn tell_wrong_folder(&self) {
+        match self.class_files.get() {
+            None => {}
+            Some(0) => self.tell(
+                "the folder has no class file: give the folder that javac -d wrote",
+            ),
+            Some(count) => {
+                if self.name_lines.get().count == count {
+                    self.tell("no path is that of its class: give the folder that javac -d wrote");
+                }
+            }
+        }
+    }
+
+    /// The job ended with this status.
+    pub fn end(&self, status: u8) {
+        match status {
+            0 | 2 => self.tell_wrong_folder(),
+            64 => {
+                if self.is_first() {
+                    let _ = eprintln!(self.rt; "{VERSION}; {USAGE}");
+                }
+            }
+            // A walk ends so where no folder and no file failed.
+            65 => self.tell_folder(&"it has a folder of level 65 or the 1048577th entry"),
+            66 => self.tell_output(&"it takes no more bytes"),
+            67 => self.tell("there was not enough memory"),
+            _ => {}
+        }
+    }
+}

@@ -1,0 +1,198 @@
+"""The cases of the line on standard error beside a report, word for word."""
+
+import contextlib
+import functools
+import os
+import resource
+import sys
+
+sys.dont_write_bytecode = True
+
+import harness
+from class_files import class_file, native
+from harness import Outcome
+from special_base import accepted, closed_pipe, full, link, one, rejected, special, usage, write
+
+LAUNCHER = os.path.join(os.path.dirname(os.path.dirname(os.path.abspath(__file__))), "djvm")
+VERIFY = ("verify", "c", "A", "in")
+
+
+def told(status, line, stdout=b""):
+    return Outcome(status, stdout, b"djvm: " + line + b"\n")
+
+
+def with_note(outcome, note):
+    return Outcome(outcome.status, outcome.stdout, note)
+
+
+# Words of no job: the usage and the version. Those that ask for help or for the version are such words too.
+
+
+@special("--help", wanted=with_note(usage, harness.USAGE))
+def note_on_help():
+    pass
+
+
+@special("--version", wanted=with_note(usage, harness.USAGE))
+def note_on_the_version():
+    pass
+
+
+@special("check", "c", "d", wanted=with_note(usage, harness.USAGE))
+def note_on_a_word_too_many():
+    write("c/A.class", one)
+
+
+# What can't be read: its path, and why.
+
+
+@special("check", "c", wanted=told(65, b'"c/": No such file or directory (os error 2)'))
+def note_on_an_absent_folder():
+    pass
+
+
+@special("check", "c\nd", wanted=told(65, rb'"c\nd/": No such file or directory (os error 2)'))
+def note_on_a_name_of_two_lines():
+    pass
+
+
+@special("check", "c", wanted=told(65, b'"c/": Not a directory (os error 20)'))
+def note_on_a_file_for_a_folder():
+    write("c")
+
+
+@special(wanted=told(65, b'"c/a": Permission denied (os error 13)'), as_nobody=True)
+def note_on_an_unreadable_folder():
+    write("c/A.class", one)
+    os.mkdir("c/a", 0)
+
+
+@special(wanted=told(65, b'"c/B.class": Permission denied (os error 13)'), as_nobody=True)
+def note_on_an_unreadable_file():
+    write("c/A.class", one)
+    write("c/B.class", class_file("B"))
+    os.chmod("c/B.class", 0)
+
+
+@special(wanted=told(65, b'"c/X.class": No such file or directory (os error 2)'))
+def note_on_a_link_to_nothing():
+    write("c/A.class", one)
+    link("c/X.class", "none")
+
+
+@special(wanted=told(65, b"\"c/X.class\": it has a class file's name and is no file"))
+def note_on_a_pipe():
+    write("c/A.class", one)
+    os.mkfifo("c/X.class")
+
+
+@special(wanted=told(65, b'"c%s": it has a folder of level 65 or the 1048577th entry' % (b"/d" * 64)))
+def note_on_65_levels():
+    write("c" + "/d" * 65 + "/A.class", one)
+
+
+@special(*VERIFY, wanted=told(65, b'"in": No such file or directory (os error 2)'))
+def note_on_an_absent_input():
+    write("c/A.class", one)
+
+
+@special(*VERIFY, wanted=told(65, b'"in": Is a directory (os error 21)'))
+def note_on_a_folder_for_an_input():
+    write("c/A.class", one)
+    os.mkdir("in")
+
+
+@special("assemble", "t", wanted=told(65, b'"t": No such file or directory (os error 2)'))
+def note_on_an_absent_text():
+    pass
+
+
+# A folder that is the wrong one.
+
+
+@special(wanted=with_note(accepted(0), harness.NO_CLASS_FILE))
+def note_on_no_class_file():
+    write("c/A.java")
+
+
+@special(*VERIFY, wanted=with_note(rejected(b"A.class - - 20 ENTRY"), harness.NO_CLASS_FILE))
+def note_on_a_run_of_no_class_file():
+    os.mkdir("c")
+    write("in")
+
+
+def write_below(folder):
+    write(folder + "/A.class", one)
+    write(folder + "/B.class", class_file("B", [native("n")]))
+
+
+BELOW = (b"d/A.class - - 3 NAME", b"d/B.class - - 3 NAME", b"d/B.class n()V - 7 NATIVE")
+
+
+@special(wanted=with_note(rejected(*BELOW), harness.NO_RIGHT_PATH))
+def note_on_a_folder_above():
+    write_below("c/d")
+
+
+@special(wanted=with_note(rejected(*BELOW), b""))
+def no_note_where_a_path_is_right():
+    write_below("c/d")
+    write("c/C.class", class_file("C"))
+
+
+@special(wanted=with_note(rejected(b"B.class n()V - 7 NATIVE"), b""))
+def no_note_on_other_rules():
+    write_below("c")
+
+
+@special(wanted=with_note(accepted(1), b""))
+def no_note_on_what_is_accepted():
+    write("c/A.class", one)
+
+
+# A standard output that takes no more: why. One that isn't waited for ends so too.
+
+
+@contextlib.contextmanager
+def full_pipe():
+    """A pipe that is full, and that nobody reads."""
+    reads, writes = os.pipe()
+    os.set_blocking(writes, False)
+    with contextlib.suppress(BlockingIOError):
+        while True:
+            os.write(writes, bytes(65536))
+    try:
+        yield writes
+    finally:
+        os.close(reads)
+        os.close(writes)
+
+
+OUTPUTS = {
+    "full device": (full, b"No space left on device (os error 28)"),
+    "closed pipe": (closed_pipe, b"Broken pipe (os error 32)"),
+    "full pipe": (full_pipe, b"Resource temporarily unavailable (os error 11)"),
+}
+
+for name, (output, cause) in OUTPUTS.items():
+    make = functools.partial(write, "c/A.class", one)
+    make.__name__ = "note_on_a_" + name.replace(" ", "_")
+    special(wanted=told(66, b"standard output: " + cause), stdout=output)(make)
+
+
+# ./djvm ignores the signal that the system sends past a limit on the size of files, so there the status is 66 too.
+
+
+def past_a_limit(results):
+    with harness.scratch() as folder:
+        write(os.path.join(folder, "c", "A.class"), one[:-1])
+        with open(os.path.join(folder, "output"), "w+b") as output:
+            outcome = harness.run(LAUNCHER, ["check", "c"], folder, stdout=output, before=takes_11_bytes)
+            output.seek(0)
+            outcome.stdout = output.read()
+    wanted = told(66, b"standard output: File too large (os error 27)", b"REJECTED 1\n")
+    results.add("tests/special: ./djvm past a limit on the size of files", ["check", "c"], harness.difference(wanted, outcome))
+
+
+def takes_11_bytes():
+    resource.setrlimit(resource.RLIMIT_FSIZE, (11, 11))
