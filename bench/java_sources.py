@@ -10,7 +10,7 @@ WORDS = "account amount balance broker check contract issue ledger limit node or
 TYPES = ["int", "long", "String", "boolean", "byte[]", "char", "String[]", "StringBuilder", "Object[]", "int[][]"]
 LEAST, MOST = 2048, 40960
 
-# Roughly so many bytes of a class file come of a class without these methods, of a field, and of a method.
+# Roughly how many bytes of a class file come of a class without these methods, of a field, and of a method.
 EMPTY, FIELD, METHOD = 800, 35, 300
 
 HEAD = """package %s;
@@ -137,7 +137,7 @@ def source(draw, package, name, other):
 
 
 def compile_classes(draw, count, batches, sources, classes):
-    """Makes so many class files in the folder `classes`; their paths in an order in which each prefix is a mixture, and names no class after it."""
+    """Makes this many class files in the folder `classes`; their paths in an order in which each prefix is a mixture, and names no class after it."""
     paths = []
     for batch in range(batches):
         package = "real.p%02d" % batch

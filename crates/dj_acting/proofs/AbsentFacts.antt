@@ -10,16 +10,17 @@ use Rattle.dj_names.specs.declared.run.Outcome.TheVariants as outcomes
 use Rattle.dj_names.specs.declared.run.Raised.TheVariants as raises
 use Rattle.dj_names.specs.declared.run.Value.{Value}
 use Rattle.dj_names.specs.declared.run.Value.TheVariants as values
-use Rattle.dj_names.specs.Heaps.{Object, Heap, heap_map, object_at, object_map}
-use Rattle.dj_names.specs.Types.{Name, base_array, class_type, same_name}
-use Rattle.dj_model.specs.Types.{Prefix, throwable_name}
-use Rattle.dj_model.specs.Instructions as model
-use Rattle.dj_model.specs.Program.{Program}
-use Rattle.dj_model.specs.Linking.{is_subtype}
-use Rattle.dj_model.specs.State.{Part, Next, Raise, Goes, Catch, End, Effect, goes, pushes}
-use Rattle.dj_model.specs.Members.{check_cast, instance_number, instance_of, throw_top}
-use Rattle.dj_model.specs.Performing.{class_in, class_at_number, is_instance}
-use Rattle.dj_model.specs.Effects.{effect}
+use Rattle.dj_names.specs.trusted.Heaps.{Object, Heap, object_at}
+use Rattle.dj_names.specs.Heaps.{heap_map, object_map}
+use Rattle.dj_names.specs.trusted.Types.{Name, base_array, class_type, same_name}
+use Rattle.dj_model.specs.trusted.Types.{Prefix, throwable_name}
+use Rattle.dj_model.specs.trusted.Instructions as model
+use Rattle.dj_model.specs.trusted.Program.{Program}
+use Rattle.dj_model.specs.trusted.Linking.{is_subtype}
+use Rattle.dj_model.specs.trusted.State.{Part, Next, Raise, Goes, Catch, End, Effect, goes, pushes}
+use Rattle.dj_model.specs.trusted.Members.{check_cast, instance_number, instance_of, throw_top}
+use Rattle.dj_model.specs.trusted.Performing.{class_in, class_at_number, is_instance}
+use Rattle.dj_model.specs.trusted.Effects.{effect}
 use Rattle.dj_model.proofs.MappedHeaps.{object_at_mapped}
 use Rattle.dj_declared.proofs.DescTests.{same_name_is}
 use Rattle.dj_heap.specs.Heaps.{LimitedHeap}

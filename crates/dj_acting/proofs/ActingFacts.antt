@@ -1,4 +1,4 @@
--- What is told of instructions, at plain values.
+-- What is said of instructions, at plain values.
 use Rattle.std.proofs.Common.{◌≡◌, ℤ, pos, List, [], ◌∷◌, map, Some, None, refl, arith, codes}
 use Rattle.std.proofs.lemmas.Bool.{false≢true}
 use Rattle.dj_names.specs.declared.descriptor.Base.TheVariants as bases
@@ -7,12 +7,12 @@ use Rattle.dj_names.specs.declared.descriptor.Kind.TheVariants as kinds
 use Rattle.dj_names.specs.declared.run.Value.{Value}
 use Rattle.dj_names.specs.declared.run.Value.TheVariants as values
 use Rattle.dj_names.specs.declared.run.Element.TheVariants as elements
-use Rattle.dj_names.specs.Types.{array_type, base_type, class_type}
-use Rattle.dj_model.specs.Types.{Member}
-use Rattle.dj_model.specs.Instructions as model
-use Rattle.dj_model.specs.Instructions.{Instruction}
-use Rattle.dj_model.specs.Values.{on_values}
-use Rattle.dj_model.specs.Effects.{effect}
+use Rattle.dj_names.specs.trusted.Types.{array_type, base_type, class_type}
+use Rattle.dj_model.specs.trusted.Types.{Member}
+use Rattle.dj_model.specs.trusted.Instructions as model
+use Rattle.dj_model.specs.trusted.Instructions.{Instruction}
+use Rattle.dj_model.specs.trusted.Values.{on_values}
+use Rattle.dj_model.specs.trusted.Effects.{effect}
 use Rattle.dj_heap.specs.Heaps.{LimitedHeap}
 use Rattle.dj_stack.specs.Frames.{StackFrame}
 use Rattle.dj_effects.specs.declared.actions.Movement.TheVariants as moves
@@ -61,7 +61,7 @@ pushed = record {
 no_call : (i : Instruction) (before after : Machine) → Acts image i before after acts.Call → ⊥
 no_call i before after a = a.are
 
--- and what is no call isn't told as one
+-- and what is no call isn't reported as one
 push_no_call : IsActed image (model.Push (int (pos 3))) (machine (frames []) kept) (machine (frames []) kept) acts.Call → ⊥
 push_no_call told = let is = told.0 in absurd cc
 

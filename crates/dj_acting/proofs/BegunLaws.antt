@@ -1,8 +1,8 @@
--- What is told of an instruction that is done at once.
+-- What holds of an instruction that is done at once.
 use Rattle.std.proofs.Common.{◌≡◌, ◌+◌, ◌<◌, ℕ, Bool, List, length, Option, Some, None, sym, ap, subst, ◌∙◌, arith}
 use Rattle.dj_names.specs.declared.descriptor.Ty.{Ty}
-use Rattle.dj_model.specs.Instructions.{Instruction, Access}
-use Rattle.dj_model.specs.Arrays as arrays
+use Rattle.dj_model.specs.trusted.Instructions.{Instruction, Access}
+use Rattle.dj_model.specs.trusted.Arrays as arrays
 use Rattle.dj_heap.specs.Heaps.{LimitedHeap}
 use Rattle.dj_stack.specs.Frames.{StackFrame, SameButNumber, top_number}
 use Rattle.dj_effects.specs.DoesOnHeap.{DoesOnHeap}

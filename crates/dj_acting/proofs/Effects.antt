@@ -9,19 +9,21 @@ use Rattle.dj_names.specs.declared.run.Value.{Value}
 use Rattle.dj_names.specs.declared.run.Value.TheVariants as values
 use Rattle.dj_names.specs.declared.run.Element.{Element}
 use Rattle.dj_names.specs.declared.run.Element.TheVariants as elements
-use Rattle.dj_names.specs.Heaps.{Object, Instance, Heap, heap_map, object_at}
-use Rattle.dj_names.specs.Types.{Name, class_type, field_kind}
+use Rattle.dj_names.specs.trusted.Heaps.{Object, Instance, Heap, object_at}
+use Rattle.dj_names.specs.Heaps.{heap_map}
+use Rattle.dj_names.specs.trusted.Types.{Name, class_type, field_kind}
 use Rattle.dj_edge.specs.declared.host.HostAnswer.{HostAnswer}
-use Rattle.dj_model.specs.Types.{Member, string_name, throwable_name}
-use Rattle.dj_model.specs.Instructions as model
-use Rattle.dj_model.specs.Instructions.{Instruction, Access}
-use Rattle.dj_model.specs.Linking.{FoundField, most_classes, is_among, chain, member_class, resolve_field, field_count, place_of, place_of_static, is_subtype}
-use Rattle.dj_model.specs.State.{Terms, Part, Account}
-use Rattle.dj_model.specs.Values.{on_values}
-use Rattle.dj_model.specs.Arrays.{OnHeap, on_heap_map, Found, Null, NoArray, IsArray, array_at, only, store_in, load_element, store_element, array_length, make_array}
-use Rattle.dj_model.specs.Performing.{takes}
-use Rattle.dj_model.specs.Effects as effects
-use Rattle.dj_model.specs.Effects.{effect, heap_effect}
+use Rattle.dj_model.specs.trusted.Types.{Member, string_name, throwable_name}
+use Rattle.dj_model.specs.trusted.Instructions as model
+use Rattle.dj_model.specs.trusted.Instructions.{Instruction, Access}
+use Rattle.dj_model.specs.trusted.Linking.{FoundField, most_classes, is_among, chain, member_class, resolve_field, field_count, place_of, place_of_static, is_subtype}
+use Rattle.dj_model.specs.trusted.State.{Terms, Part, Account}
+use Rattle.dj_model.specs.trusted.Values.{on_values}
+use Rattle.dj_model.specs.trusted.Arrays.{OnHeap, Found, Null, NoArray, IsArray, array_at, only, store_in, load_element, store_element, array_length, make_array}
+use Rattle.dj_model.specs.Arrays.{on_heap_map}
+use Rattle.dj_model.specs.trusted.Performing.{takes}
+use Rattle.dj_model.specs.trusted.Effects as effects
+use Rattle.dj_model.specs.trusted.Effects.{effect, heap_effect}
 use Rattle.dj_model.proofs.MappedHeaps.{load_mapped, store_mapped, length_mapped, make_array_mapped}
 use Rattle.dj_stack.specs.Frames.{top_operands}
 use Rattle.dj_effects.specs.Actions.{action_view, is_other}
@@ -207,7 +209,7 @@ throw_is imaged m there k at terms own account answers =
 
 -- ---- on fields
 
--- which instances have a field is told by the names of their classes
+-- the names of instances' classes decide which of them have a field
 instances_tell : (imaged : Imaged) (m : Machine) → IsHeap imaged m.store.heap → (name : Name) (r class : ℕ) (fields : List ℕ) → object_at m.store.heap.heap.objects r ≡ Some (Instance class fields)
     → has_of (program_of imaged) (types_of (typed_of imaged)) name most_classes class ≡ is_among (chain (program_of imaged) (member_class imaged.prefix (types imaged class))) name
 instances_tell imaged m is name r class fields there =

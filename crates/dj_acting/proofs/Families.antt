@@ -1,16 +1,16 @@
--- What a family tells of the heap is what the instruction does.
+-- What a family does to the heap is what the instruction does.
 use Rattle.std.proofs.Common.{◌≡◌, ◌<◌, ℕ, List, length, Option, Some, sym, ap, subst, ◌∙◌}
 use Rattle.std.specs.Prelude.{unwrap_or}
 use Rattle.std.specs.Option.{option_map}
 use Rattle.dj_names.specs.declared.run.Value.{Value}
-use Rattle.dj_names.specs.Heaps.{Heap}
-use Rattle.dj_names.specs.Types.{Name, class_type}
+use Rattle.dj_names.specs.trusted.Heaps.{Heap}
+use Rattle.dj_names.specs.trusted.Types.{Name, class_type}
 use Rattle.dj_natives.specs.Numbered.{type_at}
-use Rattle.dj_model.specs.Types.{throwable_name}
-use Rattle.dj_model.specs.Instructions as model
-use Rattle.dj_model.specs.Instructions.{Instruction}
-use Rattle.dj_model.specs.Arrays.{OnHeap}
-use Rattle.dj_model.specs.Linking.{field_count}
+use Rattle.dj_model.specs.trusted.Types.{throwable_name}
+use Rattle.dj_model.specs.trusted.Instructions as model
+use Rattle.dj_model.specs.trusted.Instructions.{Instruction}
+use Rattle.dj_model.specs.trusted.Arrays.{OnHeap}
+use Rattle.dj_model.specs.trusted.Linking.{field_count}
 use Rattle.dj_heap.specs.Heaps.{LimitedHeap}
 use Rattle.dj_stack.specs.Frames.{StackFrame, SameButOperands, top_operands}
 use Rattle.dj_effects.specs.DoesOnHeap.{DoesOnHeap}

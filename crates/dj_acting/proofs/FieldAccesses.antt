@@ -5,13 +5,13 @@ use Rattle.std.specs.Option.{option_map}
 use Rattle.std.proofs.lemmas.Option.{same_Some}
 use Rattle.dj_names.specs.declared.descriptor.Desc.{Desc}
 use Rattle.dj_names.specs.declared.descriptor.Kind.{Kind}
-use Rattle.dj_names.specs.Descriptors.{Describes}
-use Rattle.dj_names.specs.Types.{Name, field_kind}
-use Rattle.dj_model.specs.Types.{Member}
-use Rattle.dj_model.specs.Instructions as model
-use Rattle.dj_model.specs.Program.{Program, class_at}
-use Rattle.dj_model.specs.Linking.{FoundField, chain, fields_in, own_place, place_of, superclasses}
-use Rattle.dj_model.specs.Effects.{effect}
+use Rattle.dj_names.specs.trusted.Descriptors.{Describes}
+use Rattle.dj_names.specs.trusted.Types.{Name, field_kind}
+use Rattle.dj_model.specs.trusted.Types.{Member}
+use Rattle.dj_model.specs.trusted.Instructions as model
+use Rattle.dj_model.specs.trusted.Program.{Program, class_at}
+use Rattle.dj_model.specs.trusted.Linking.{FoundField, chain, fields_in, own_place, place_of, superclasses}
+use Rattle.dj_model.specs.trusted.Effects.{effect}
 use Rattle.dj_heap.specs.Heaps.{LimitedHeap}
 use Rattle.dj_stack.specs.Frames.{StackFrame}
 use Rattle.dj_effects.specs.DoesOnHeap.{DoesOnHeap}
@@ -70,7 +70,7 @@ module _ (imaged : Imaged) (member : Member) (found : FoundField) (n : ℕ) (is 
     place_is : access.place ≡ place_of (program_of imaged) found
     place_is = to.place ∙ (ap (place_of (program_of imaged)) same ∙ place_alike (program_of imaged) is.other found is.class is.name is.desc)
 
-    -- which classes have the field is told by the name of the one that declares it
+    -- the name of the class that declares the field decides which classes have it
     named : name_at (program_of imaged) access.declaring ≡ Some found.class
     named = to.class ∙ ap Some (ap (λ (f : FoundField). f.class) same ∙ is.class)
 

@@ -8,15 +8,15 @@ use Rattle.std.proofs.lemmas.Option.{same_Some}
 use Rattle.dj_names.specs.declared.descriptor.Desc.{Desc}
 use Rattle.dj_names.specs.declared.descriptor.Ty.{Ty}
 use Rattle.dj_names.specs.declared.run.Value.TheVariants as values
-use Rattle.dj_names.specs.Types.{Name, same_name, same_desc}
+use Rattle.dj_names.specs.trusted.Types.{Name, same_name, same_desc}
 use Rattle.dj_ops.specs.declared.instruction.Instr.{Instr}
 use Rattle.dj_ops.specs.declared.instruction.Instr.TheVariants as instrs
-use Rattle.dj_model.specs.Types.{Member}
-use Rattle.dj_model.specs.Instructions as model
-use Rattle.dj_model.specs.Instructions.{Instruction, Named, Nothing, AnInt, ALong, AText, AClass, AField, AMethod, AnInterfaceMethod, Another, NewArray}
-use Rattle.dj_model.specs.Opcodes.{instruction_of, member}
-use Rattle.dj_model.specs.Program.{Program, Class, Field, class_at, field_in, field_of, is_named}
-use Rattle.dj_model.specs.Linking.{FoundField, first_field, field_or, field_order, most_classes, member_class, resolve_field}
+use Rattle.dj_model.specs.trusted.Types.{Member}
+use Rattle.dj_model.specs.trusted.Instructions as model
+use Rattle.dj_model.specs.trusted.Instructions.{Instruction, Named, Nothing, AnInt, ALong, AText, AClass, AField, AMethod, AnInterfaceMethod, Another, NewArray}
+use Rattle.dj_model.specs.trusted.Opcodes.{instruction_of, member}
+use Rattle.dj_model.specs.trusted.Program.{Program, Class, Field, class_at, field_in, field_of, is_named}
+use Rattle.dj_model.specs.trusted.Linking.{FoundField, first_field, field_or, field_order, most_classes, member_class, resolve_field}
 use Rattle.dj_declared.proofs.DescTests.{same_name_is, same_desc_is}
 use Rattle.dj_types.specs.Typed.{type_number}
 use Rattle.dj_types.specs.Members.{all_fields, field_number, found_field_number}

@@ -7,23 +7,23 @@ use Rattle.std.proofs.lemmas.Option.{none-some, same_Some}
 use Rattle.dj_names.specs.declared.descriptor.Kind.{Kind}
 use Rattle.dj_names.specs.declared.run.Value.{Value}
 use Rattle.dj_names.specs.declared.run.Value.TheVariants as values
-use Rattle.dj_names.specs.Heaps.{field_value}
-use Rattle.dj_names.specs.Types.{field_kind}
-use Rattle.dj_names.specs.Values.{value_kind}
-use Rattle.dj_model.specs.Types.{Member}
-use Rattle.dj_model.specs.Program.{Program, Code}
-use Rattle.dj_model.specs.Instructions as model
-use Rattle.dj_model.specs.Instructions.{Instruction}
-use Rattle.dj_model.specs.Kinds.{Kinds, Signature, depth}
-use Rattle.dj_model.specs.Linking.{FoundField, place_of_static, resolve_field}
-use Rattle.dj_model.specs.Members.{get_static}
-use Rattle.dj_model.specs.Numbers.{is_long, is_of_kind}
+use Rattle.dj_names.specs.trusted.Heaps.{field_value}
+use Rattle.dj_names.specs.trusted.Types.{field_kind}
+use Rattle.dj_names.specs.trusted.Values.{value_kind}
+use Rattle.dj_model.specs.trusted.Types.{Member}
+use Rattle.dj_model.specs.trusted.Program.{Program, Code}
+use Rattle.dj_model.specs.trusted.Instructions as model
+use Rattle.dj_model.specs.trusted.Instructions.{Instruction}
+use Rattle.dj_model.specs.trusted.Kinds.{Kinds, Signature, depth}
+use Rattle.dj_model.specs.trusted.Linking.{FoundField, place_of_static, resolve_field}
+use Rattle.dj_model.specs.trusted.Members.{get_static}
+use Rattle.dj_model.specs.trusted.Numbers.{is_long, is_of_kind}
 use Rattle.dj_model.specs.Standing.{IsSoundFlow}
-use Rattle.dj_model.specs.State.{Part, Next, To, Raise, Back, Flow, Goes, Catch, Stop, Call, End, Effect, pushes}
-use Rattle.dj_model.specs.Values as model_values
-use Rattle.dj_model.specs.Values.{Values, Cut, local_at, moved, on_values, pushed}
-use Rattle.dj_model.specs.Effects as effects
-use Rattle.dj_model.specs.Effects.{values_effect}
+use Rattle.dj_model.specs.trusted.State.{Part, Next, To, Raise, Back, Flow, Goes, Catch, Stop, Call, End, Effect, pushes}
+use Rattle.dj_model.specs.trusted.Values as model_values
+use Rattle.dj_model.specs.trusted.Values.{Values, Cut, local_at, moved, on_values, pushed}
+use Rattle.dj_model.specs.trusted.Effects as effects
+use Rattle.dj_model.specs.trusted.Effects.{values_effect}
 use Rattle.dj_stack.specs.Frames.{top_locals, top_operands, top_room}
 use Rattle.dj_effects.specs.Actions.{action_view, move_view}
 use Rattle.dj_effects.specs.declared.actions.Movement.{Movement}
@@ -102,7 +102,7 @@ values_room : (room : ℕ) (p : Part) (o : Option Values) (e : Effect) → optio
 values_room room p None e is fits = none-some e is
 values_room room p (Some v) e is fits = subst (HasRoomIn room) (sym (same_Some (values_effect p v) e is)) fits
 
--- so many slots are cut off, and none is lost
+-- this many slots are cut off, and none is lost
 abbrev IsCut : ℕ → List Value → Option (Cut Value) → Type 0
 IsCut count operands None = ⊤
 IsCut count operands (Some cut) = (slots_of cut.top ≡ count) × (cut.top ++ cut.rest ≡ operands)

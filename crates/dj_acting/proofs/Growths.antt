@@ -1,4 +1,4 @@
--- An action grows the operands by no more than is told of it.
+-- An action grows the operands by at most its stated growth.
 use Rattle.std.proofs.Common.{◌≡◌, ◌+◌, ◌≤◌, ◌&&◌, ℕ, Bool, true, false, ℤ, List, [], ◌∷◌, ◌++◌, length, Option, Some, None, Result, Ok, Err, if◌then◌else◌, arith}
 use Rattle.std.proofs.lemmas.List.{length-append}
 use Rattle.std.specs.Prelude.{⊤, nat_lt}
@@ -6,12 +6,12 @@ use Rattle.dj_names.specs.declared.descriptor.Kind.{Kind}
 use Rattle.dj_names.specs.declared.run.Raised.{Raised}
 use Rattle.dj_names.specs.declared.run.Value.{Value}
 use Rattle.dj_names.specs.declared.run.Value.TheVariants as values
-use Rattle.dj_names.specs.Heaps.{number_value, value_number}
-use Rattle.dj_model.specs.Instructions as model
-use Rattle.dj_model.specs.Numbers.{is_of_kind, is_long, left_kind, right_kind, given_kind, compute, taken_kind, converted_kind, convert}
-use Rattle.dj_model.specs.State.{Next}
-use Rattle.dj_model.specs.Values as model_values
-use Rattle.dj_model.specs.Values.{Values, Cut, on_values, left, pushed, local_at, stored, last_slot, moved}
+use Rattle.dj_names.specs.trusted.Heaps.{number_value, value_number}
+use Rattle.dj_model.specs.trusted.Instructions as model
+use Rattle.dj_model.specs.trusted.Numbers.{is_of_kind, is_long, left_kind, right_kind, given_kind, compute, taken_kind, converted_kind, convert}
+use Rattle.dj_model.specs.trusted.State.{Next}
+use Rattle.dj_model.specs.trusted.Values as model_values
+use Rattle.dj_model.specs.trusted.Values.{Values, Cut, on_values, left, pushed, local_at, stored, last_slot, moved}
 use Rattle.dj_stack.specs.Frames.{StackFrame, top_locals, top_operands, top_room}
 use Rattle.dj_effects.specs.declared.actions.Slots.TheVariants as slots
 use Rattle.dj_effects.specs.declared.actions.Movement.{Movement}
@@ -20,13 +20,13 @@ use Rattle.dj_effects.specs.declared.actions.PlainAction.{PlainAction}
 use Rattle.dj_effects.specs.declared.actions.PlainAction.TheVariants as actions
 use Rattle.dj_effects.specs.Actions.{action_view, binary_view, move_view, test_view, unary_view}
 use Rattle.dj_effects.specs.Does.{FitsIn}
-use Rattle.dj_model.specs.Opcodes.{table_pairs, lookup_pairs}
+use Rattle.dj_model.specs.trusted.Opcodes.{table_pairs, lookup_pairs}
 use Rattle.dj_acting.specs.Acting.{HasRoom}
 use Rattle.dj_acting.specs.Growing.{growth, move_growth}
 
 -- ---- operands that move
 
--- so many at most are cut off, and none is lost
+-- this many at most are cut off, and none is lost
 abbrev IsCut : ℕ → ℕ → Option (Cut Value) → Type 0
 IsCut most count None = ⊤
 IsCut most count (Some cut) = (length cut.top ≤ most) × (length cut.top + length cut.rest ≡ count)

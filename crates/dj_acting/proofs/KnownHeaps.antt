@@ -11,14 +11,14 @@ use Rattle.dj_names.specs.declared.run.Element.TheVariants as elements
 use Rattle.dj_names.specs.declared.run.Outcome.TheVariants as outcomes
 use Rattle.dj_names.specs.declared.run.Value.{Value}
 use Rattle.dj_names.specs.declared.run.Value.TheVariants as values
-use Rattle.dj_names.specs.Heaps.{Object, Instance, Array, Text, Heap, array_size, class_of, field_bits, kept, next_number, object_at, object_size, text_size, value_number, with_element, with_new, with_object}
+use Rattle.dj_names.specs.trusted.Heaps.{Object, Instance, Array, Text, Heap, array_size, class_of, field_bits, kept, next_number, object_at, object_size, text_size, value_number, with_element, with_new, with_object}
 use Rattle.dj_natives.specs.Numbered.{type_at, holds_references}
-use Rattle.dj_model.specs.Instructions as model
-use Rattle.dj_model.specs.Instructions.{Access}
-use Rattle.dj_model.specs.Numbers.{is_of_kind}
-use Rattle.dj_model.specs.State.{Next}
-use Rattle.dj_model.specs.Arrays as arrays
-use Rattle.dj_model.specs.Arrays.{Found, Null, NoArray, IsArray, OnHeap, access_kind, array_at, array_in, flows, is_taken, only, passes_limit, reaches, with_value}
+use Rattle.dj_model.specs.trusted.Instructions as model
+use Rattle.dj_model.specs.trusted.Instructions.{Access}
+use Rattle.dj_model.specs.trusted.Numbers.{is_of_kind}
+use Rattle.dj_model.specs.trusted.State.{Next}
+use Rattle.dj_model.specs.trusted.Arrays as arrays
+use Rattle.dj_model.specs.trusted.Arrays.{Found, Null, NoArray, IsArray, OnHeap, access_kind, array_at, array_in, flows, is_taken, only, passes_limit, reaches, with_value}
 use Rattle.dj_heap.specs.Heaps.{LimitedHeap}
 use Rattle.dj_stack.specs.Frames.{StackFrame, top_operands}
 use Rattle.dj_effects.specs.DoesOnHeap.{DoesOnHeap}
@@ -43,7 +43,7 @@ known_at types h known r object at =
     subst (IsKnown types) (get_or_from_slice_get h.heap.objects (r - 1) object object there)
     (All-get_or (IsKnown types) h.heap.objects (r - 1) object (slice_get_within h.heap.objects (r - 1) object there) known)
 
--- ---- what is told of the classes of objects
+-- ---- what is known of the classes of objects
 
 pub classes_numbered : (types : List Ty) (h : LimitedHeap) → AreKnown types h → AreNumbered (length types) h.heap
 classes_numbered types h known =

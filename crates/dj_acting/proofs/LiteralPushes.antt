@@ -1,8 +1,8 @@
 -- Numbers that instructions name are pushed.
 use Rattle.std.proofs.Common.{◌≡◌, ◌+◌, ◌≤◌, List, length, Option, Some, None, sym, subst, arith}
 use Rattle.dj_names.specs.declared.run.Value.{Value}
-use Rattle.dj_model.specs.Instructions.{Nop, Push}
-use Rattle.dj_model.specs.Values.{on_values}
+use Rattle.dj_model.specs.trusted.Instructions.{Nop, Push}
+use Rattle.dj_model.specs.trusted.Values.{on_values}
 use Rattle.dj_stack.specs.Frames.{StackFrame, top_operands, top_room}
 use Rattle.dj_effects.specs.Does.{Does, Fits}
 use Rattle.dj_effects.specs.declared.way.Way.{Way}

@@ -7,26 +7,27 @@ use Rattle.std.proofs.lemmas.Option.{none-some, same_Some, slice_get-map, slice_
 use Rattle.dj_names.specs.declared.run.Value.{Value}
 use Rattle.dj_names.specs.declared.run.Value.TheVariants as values
 use Rattle.dj_ops.specs.declared.instruction.Instr.{Instr}
-use Rattle.dj_names.specs.Types.{class_type}
+use Rattle.dj_names.specs.trusted.Types.{class_type}
 use Rattle.dj_natives.specs.Numbered.{ArePlain}
-use Rattle.dj_pool.specs.Pool.{Constant}
-use Rattle.dj_model.specs.Types.{throwable_name}
-use Rattle.dj_model.specs.Instructions as model
-use Rattle.dj_model.specs.Instructions.{Instruction, Named, Nothing, NewArray, calls}
-use Rattle.dj_model.specs.Opcodes.{instruction_of}
-use Rattle.dj_model.specs.Program.{Code}
+use Rattle.dj_pool.specs.trusted.Pool.{Constant}
+use Rattle.dj_model.specs.trusted.Types.{throwable_name}
+use Rattle.dj_model.specs.trusted.Instructions as model
+use Rattle.dj_model.specs.trusted.Instructions.{Instruction, Named, Nothing, NewArray}
+use Rattle.dj_model.specs.Instructions.{calls}
+use Rattle.dj_model.specs.trusted.Opcodes.{instruction_of}
+use Rattle.dj_model.specs.trusted.Program.{Code}
 use Rattle.dj_model.specs.Sound.{is_linked}
-use Rattle.dj_model.specs.State.{instruction_in}
+use Rattle.dj_model.specs.trusted.State.{instruction_in}
 use Rattle.dj_stack.specs.Frames.{StackFrame}
 use Rattle.dj_heap.specs.Heaps.{LimitedHeap}
 use Rattle.dj_effects.specs.Does.{Does}
 use Rattle.dj_effects.specs.declared.way.Way.{Way}
 use Rattle.dj_members.specs.Literals.{LiteralTable}
 use Rattle.dj_calls.specs.Known.{AreKnown}
-use Rattle.dj_check.specs.Instructions.{index_of}
-use Rattle.dj_program.specs.Codes.{code_in}
-use Rattle.dj_program.specs.Naming.{named_if}
-use Rattle.dj_program.specs.Naming as naming
+use Rattle.dj_check.specs.trusted.Instructions.{index_of}
+use Rattle.dj_program.specs.trusted.Codes.{code_in}
+use Rattle.dj_program.specs.trusted.Naming.{named_if}
+use Rattle.dj_program.specs.trusted.Naming as naming
 use Rattle.dj_program.specs.declared.code.MethodCode.{MethodCode}
 use Rattle.dj_types.specs.Typed.{types_of}
 use Rattle.dj_types.specs.Members.{all_fields}

@@ -5,13 +5,13 @@ use Rattle.std.proofs.lemmas.Option.{same_Some, slice_get_within}
 use Rattle.dj_names.specs.declared.run.Value.{Value}
 use Rattle.dj_names.specs.declared.run.Value.TheVariants as values
 use Rattle.dj_names.specs.declared.run.Outcome.TheVariants as outcomes
-use Rattle.dj_names.specs.Heaps.{Heap, Text, next_number, text_size, with_new}
-use Rattle.dj_names.specs.Types.{class_type}
+use Rattle.dj_names.specs.trusted.Heaps.{Heap, Text, next_number, text_size, with_new}
+use Rattle.dj_names.specs.trusted.Types.{class_type}
 use Rattle.dj_natives.specs.Numbered.{type_at}
-use Rattle.dj_model.specs.Types.{string_name}
-use Rattle.dj_model.specs.Instructions as model
-use Rattle.dj_model.specs.State.{Next}
-use Rattle.dj_model.specs.Arrays.{passes_limit}
+use Rattle.dj_model.specs.trusted.Types.{string_name}
+use Rattle.dj_model.specs.trusted.Instructions as model
+use Rattle.dj_model.specs.trusted.State.{Next}
+use Rattle.dj_model.specs.trusted.Arrays.{passes_limit}
 use Rattle.dj_heap.specs.Heaps.{LimitedHeap}
 use Rattle.dj_stack.specs.Frames.{StackFrame, top_operands}
 use Rattle.dj_effects.specs.declared.way.Flow.{Flow}

@@ -13,30 +13,30 @@ use Rattle.dj_names.specs.declared.descriptor.Of.{Of}
 use Rattle.dj_names.specs.declared.descriptor.Of.TheVariants as ofs
 use Rattle.dj_names.specs.declared.descriptor.Ty.{Ty}
 use Rattle.dj_names.specs.declared.run.Element.TheVariants as elements
-use Rattle.dj_names.specs.Descriptors.{type_text}
-use Rattle.dj_names.specs.DescReading.{desc_read}
-use Rattle.dj_names.specs.Types.{Name, array_type, class_type, same_desc, same_name}
+use Rattle.dj_names.specs.trusted.Descriptors.{type_text}
+use Rattle.dj_names.specs.trusted.DescReading.{desc_read}
+use Rattle.dj_names.specs.trusted.Types.{Name, array_type, class_type, same_desc, same_name}
 use Rattle.dj_names.proofs.DescLaws.{desc_takes}
 use Rattle.dj_ops.specs.declared.instruction.Instr.{Instr}
 use Rattle.dj_ops.specs.declared.instruction.Instr.TheVariants as instrs
-use Rattle.dj_pool.specs.Pool as pools
-use Rattle.dj_pool.specs.Pool.{Constant, constant_at}
-use Rattle.dj_model.specs.Types.{Member, Prefix, initialiser_name, no_parameters}
-use Rattle.dj_model.specs.Instructions as model
-use Rattle.dj_model.specs.Instructions.{Instruction, Named, Nothing, AnInt, ALong, AText, AClass, AField, AMethod, AnInterfaceMethod, Another}
-use Rattle.dj_model.specs.Opcodes.{instruction_of, member}
-use Rattle.dj_model.specs.Program.{Program, Class, Field, Code, class_at, code_of, field_in, field_of, is_named}
-use Rattle.dj_model.specs.Linking.{FoundField, first_field, field_or, field_order, member_class, most_classes, resolve_field}
+use Rattle.dj_pool.specs.trusted.Pool as pools
+use Rattle.dj_pool.specs.trusted.Pool.{Constant, constant_at}
+use Rattle.dj_model.specs.trusted.Types.{Member, Prefix, initialiser_name, no_parameters}
+use Rattle.dj_model.specs.trusted.Instructions as model
+use Rattle.dj_model.specs.trusted.Instructions.{Instruction, Named, Nothing, AnInt, ALong, AText, AClass, AField, AMethod, AnInterfaceMethod, Another}
+use Rattle.dj_model.specs.trusted.Opcodes.{instruction_of, member}
+use Rattle.dj_model.specs.trusted.Program.{Program, Class, Field, Code, class_at, code_of, field_in, field_of, is_named}
+use Rattle.dj_model.specs.trusted.Linking.{FoundField, first_field, field_or, field_order, member_class, most_classes, resolve_field}
 use Rattle.dj_model.specs.Sound.{IsSound, is_class_of, is_field_found, is_linked}
-use Rattle.dj_model.specs.State.{instruction_in}
+use Rattle.dj_model.specs.trusted.State.{instruction_in}
 use Rattle.dj_model.proofs.MappedNames.{either}
 use Rattle.dj_model.proofs.SoundFrames.{contained, method_is}
-use Rattle.dj_declared.specs.Files.{desc_in, field_type, name_in, type_in}
+use Rattle.dj_declared.specs.trusted.Files.{desc_in, field_type, name_in, type_in}
 use Rattle.dj_declared.proofs.DescTests.{same_desc_is, same_desc_itself, same_name_is, same_name_itself}
-use Rattle.dj_check.specs.Instructions.{index_of}
+use Rattle.dj_check.specs.trusted.Instructions.{index_of}
 use Rattle.dj_classes.specs.Tables.{class_number, name_of}
 use Rattle.dj_classes.proofs.Numbered.{class_at-number}
-use Rattle.dj_program.specs.Naming.{member_in, named_at, named_by, named_if, named_or_another}
+use Rattle.dj_program.specs.trusted.Naming.{member_in, named_at, named_by, named_if, named_or_another}
 use Rattle.dj_types.specs.Typed.{Typed, is_known_of, place_of_text, type_number}
 use Rattle.dj_types.specs.Members.{all_fields, field_number, fields_in, found_field_number}
 use Rattle.dj_types.proofs.Numbers.{number_of_class}

@@ -3,12 +3,12 @@ use Rattle.std.proofs.Common.{◌≡◌, ◌+◌, ◌<◌, ◌≤◌, ℕ, Bool,
 use Rattle.dj_names.specs.declared.run.Element.{Element}
 use Rattle.dj_names.specs.declared.run.Value.{Value}
 use Rattle.dj_names.specs.declared.run.Value.TheVariants as values
-use Rattle.dj_names.specs.Heaps.{Object, Heap, Instance, element_at, array_size, object_size, with_new, next_number}
+use Rattle.dj_names.specs.trusted.Heaps.{Object, Heap, Instance, element_at, array_size, object_size, with_new, next_number}
 use Rattle.dj_names.specs.declared.run.Outcome.TheVariants as outcomes
-use Rattle.dj_model.specs.Instructions.{Access}
-use Rattle.dj_model.specs.Arrays as arrays
-use Rattle.dj_model.specs.Arrays.{Found, OnHeap}
-use Rattle.dj_model.specs.Values.{on_values}
+use Rattle.dj_model.specs.trusted.Instructions.{Access}
+use Rattle.dj_model.specs.trusted.Arrays as arrays
+use Rattle.dj_model.specs.trusted.Arrays.{Found, OnHeap}
+use Rattle.dj_model.specs.trusted.Values.{on_values}
 use Rattle.dj_heap.specs.Heaps.{LimitedHeap}
 use Rattle.dj_stack.specs.Frames.{StackFrame, top_operands, top_room}
 use Rattle.dj_effects.specs.Actions.{action_view}

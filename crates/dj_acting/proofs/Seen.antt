@@ -1,9 +1,9 @@
 -- What an instruction reads and leaves, in a state of the model.
 use Rattle.std.proofs.Common.{◌≡◌, ℕ, List, ◌∷◌, Option, Some, refl}
 use Rattle.dj_names.specs.declared.run.Value.{Value}
-use Rattle.dj_model.specs.Instructions.{Instruction}
-use Rattle.dj_model.specs.State.{State, instruction_at}
-use Rattle.dj_model.specs.Step as model
+use Rattle.dj_model.specs.trusted.Instructions.{Instruction}
+use Rattle.dj_model.specs.trusted.State.{State, instruction_at}
+use Rattle.dj_model.specs.trusted.Step as model
 use Rattle.dj_stack.specs.Frames.{StackFrame}
 use Rattle.dj_image.specs.Imaged.{Imaged, program_of}
 use Rattle.dj_activations.specs.Activations.{frame_seen}

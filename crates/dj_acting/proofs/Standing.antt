@@ -8,28 +8,28 @@ use Rattle.std.proofs.lemmas.Option.{none-some, same_Some, slice_get-map, slice_
 use Rattle.dj_names.specs.declared.descriptor.Of.{Of}
 use Rattle.dj_names.specs.declared.descriptor.Of.TheVariants as ofs
 use Rattle.dj_names.specs.declared.descriptor.Ty.{Ty}
-use Rattle.dj_names.specs.Types.{Name, same_name, class_type}
-use Rattle.dj_names.specs.Descriptors.{type_text}
+use Rattle.dj_names.specs.trusted.Types.{Name, same_name, class_type}
+use Rattle.dj_names.specs.trusted.Descriptors.{type_text}
 use Rattle.dj_ops.specs.declared.instruction.Instr.{Instr}
 use Rattle.dj_natives.specs.Numbered.{ArePlain, begins_array}
-use Rattle.dj_model.specs.Types.{Prefix, Declared}
-use Rattle.dj_model.specs.Instructions.{Instruction, Named}
-use Rattle.dj_model.specs.Opcodes.{instruction_of}
-use Rattle.dj_model.specs.Natives.{class_name}
-use Rattle.dj_model.specs.Program.{Program, Class, Method, Body, Abstract, Native, Runs, Code, class_at, code_of, code_in as code_of_method, body_code, method_at}
+use Rattle.dj_model.specs.trusted.Types.{Prefix, Declared}
+use Rattle.dj_model.specs.trusted.Instructions.{Instruction, Named}
+use Rattle.dj_model.specs.trusted.Opcodes.{instruction_of}
+use Rattle.dj_model.specs.trusted.Natives.{class_name}
+use Rattle.dj_model.specs.trusted.Program.{Program, Class, Method, Body, Abstract, Native, Runs, Code, class_at, code_of, code_in as code_of_method, body_code, method_at}
 use Rattle.dj_model.specs.Sound.{is_class_of, is_linked, IsSound}
-use Rattle.dj_model.specs.State.{instruction_in}
+use Rattle.dj_model.specs.trusted.State.{instruction_in}
 use Rattle.dj_model.proofs.SoundFrames.{contained, sound_code, all_at}
-use Rattle.dj_check.specs.Instructions.{index_of}
+use Rattle.dj_check.specs.trusted.Instructions.{index_of}
 use Rattle.dj_classes.specs.Tables.{name_of, name_at, class_number}
 use Rattle.dj_classes.proofs.Numbered.{class_at-number, name_at-number}
 use Rattle.dj_classes.proofs.Orders.{names_from_same}
 use Rattle.dj_types.specs.Typed.{Typed, texts_of, types_of, type_at, place_of_text, text_number, text_of_type, type_number}
 use Rattle.dj_types.proofs.Numbers.{number_of_class, place_within}
 use Rattle.dj_types.proofs.Told.{types_among}
-use Rattle.dj_program.specs.Codes.{code_in}
-use Rattle.dj_program.specs.Naming.{named_if}
-use Rattle.dj_program.specs.Naming as naming
+use Rattle.dj_program.specs.trusted.Codes.{code_in}
+use Rattle.dj_program.specs.trusted.Naming.{named_if}
+use Rattle.dj_program.specs.trusted.Naming as naming
 use Rattle.dj_program.specs.Views.{parts_of}
 use Rattle.dj_program.specs.declared.code.MethodCode.{MethodCode}
 use Rattle.dj_image.specs.Imaged.{Imaged, program_of}
@@ -58,7 +58,7 @@ instruction_there imaged method number code is instr at =
     ap (λ (o : Option Code). instruction_in o number) is.is
     ∙ (slice_get-map (naming.instruction_in is.pool) code.code.code number ∙ ap (option_map (naming.instruction_in is.pool)) at)
 
--- its operand is told of it
+-- the operand reported for it is its own
 pub operand_is : (imaged : Imaged) (method number : ℕ) (instr : Instr) (named : Named) (operand : Operand) → StandsAt imaged method number instr named → IsOperandAt imaged method number operand
     → operand ≡ operand_of imaged instr named
 operand_is imaged method number instr named operand s o =

@@ -7,16 +7,16 @@ use Rattle.std.proofs.lemmas.Option.{same_Some}
 use Rattle.dj_names.specs.declared.descriptor.Desc.{Desc}
 use Rattle.dj_names.specs.declared.descriptor.Kind.{Kind}
 use Rattle.dj_names.specs.declared.run.Value.{Value}
-use Rattle.dj_names.specs.Descriptors.{Describes}
-use Rattle.dj_names.specs.Heaps.{field_bits}
-use Rattle.dj_names.specs.Types.{Name, same_name, same_desc, field_kind}
+use Rattle.dj_names.specs.trusted.Descriptors.{Describes}
+use Rattle.dj_names.specs.trusted.Heaps.{field_bits}
+use Rattle.dj_names.specs.trusted.Types.{Name, same_name, same_desc, field_kind}
 use Rattle.dj_declared.proofs.DescTests.{same_name_is, same_desc_is}
-use Rattle.dj_model.specs.Types.{Member}
-use Rattle.dj_model.specs.Instructions as model
-use Rattle.dj_model.specs.Numbers.{is_of_kind}
-use Rattle.dj_model.specs.Program.{Program, Class, Field, class_at, field_in, field_of, is_named, is_static}
-use Rattle.dj_model.specs.Linking.{FoundField, count_fields, fields_before, field_or, field_order, first_field, member_class, most_classes, place_of_static, resolve_field, static_count, static_place}
-use Rattle.dj_model.specs.Effects.{effect}
+use Rattle.dj_model.specs.trusted.Types.{Member}
+use Rattle.dj_model.specs.trusted.Instructions as model
+use Rattle.dj_model.specs.trusted.Numbers.{is_of_kind}
+use Rattle.dj_model.specs.trusted.Program.{Program, Class, Field, class_at, field_in, field_of, is_named, is_static}
+use Rattle.dj_model.specs.trusted.Linking.{FoundField, count_fields, fields_before, field_or, field_order, first_field, member_class, most_classes, place_of_static, resolve_field, static_count, static_place}
+use Rattle.dj_model.specs.trusted.Effects.{effect}
 use Rattle.dj_heap.specs.Heaps.{LimitedHeap}
 use Rattle.dj_stack.specs.Frames.{StackFrame, top_operands}
 use Rattle.dj_effects.specs.declared.way.Way.{Way}

@@ -9,12 +9,13 @@ use Rattle.dj_names.specs.declared.descriptor.Base.TheVariants as bases
 use Rattle.dj_names.specs.declared.descriptor.Ty.{Ty}
 use Rattle.dj_names.specs.declared.run.Element.TheVariants as elements
 use Rattle.dj_names.specs.declared.run.Value.{Value}
-use Rattle.dj_names.specs.Heaps.{Object, Instance, Array, Text, Heap, class_of, heap_map, object_map, object_at}
-use Rattle.dj_names.specs.Types.{base_array, component_type, class_type}
+use Rattle.dj_names.specs.trusted.Heaps.{Object, Instance, Array, Text, Heap, class_of, object_at}
+use Rattle.dj_names.specs.Heaps.{heap_map, object_map}
+use Rattle.dj_names.specs.trusted.Types.{base_array, component_type, class_type}
 use Rattle.dj_natives.specs.Numbered.{type_at, component_of, holds_references, HaveComponents, IsNumberOf}
-use Rattle.dj_model.specs.Arrays.{Found, Null, IsArray, array_at, array_in}
-use Rattle.dj_model.specs.Linking.{is_subtype}
-use Rattle.dj_model.specs.Performing.{class_in, takes}
+use Rattle.dj_model.specs.trusted.Arrays.{Found, Null, IsArray, array_at, array_in}
+use Rattle.dj_model.specs.trusted.Linking.{is_subtype}
+use Rattle.dj_model.specs.trusted.Performing.{class_in, takes}
 use Rattle.dj_model.proofs.MappedHeaps.{object_at_mapped, class_of_mapped}
 use Rattle.dj_heap.specs.Heaps.{LimitedHeap, object_in}
 use Rattle.dj_stack.specs.Frames.{StackFrame, frame_of, operand_at, top_operands}
@@ -43,7 +44,7 @@ from_top (v ∷ rest) below at less is =
     ∙ (ap Some (get_or-reverse operands at v within ∙ ap (λ (n : ℕ). get_or operands n v) back)
     ∙ sym (slice_get-get_or operands below v less))
 
--- an operand of the last frame, under so many others
+-- an operand of the last frame, under this many others
 pub operand_is : (frames : List StackFrame) (f at below : ℕ) → f + 1 ≡ length frames → below < length (top_operands frames) → at ≡ length (top_operands frames) - 1 - below
     → operand_at frames f at ≡ slice_get (top_operands frames) below
 operand_is frames f at below last less is =
@@ -159,7 +160,7 @@ module _ (imaged : Imaged) (heap : LimitedHeap) (known : IsHeap imaged heap) (r 
       let has = all array within holds_them in
       absurd (component_none (holds_references (type_at types array)) (component_type (type_at types array)) holds_them none has.number has.at)
 
--- a class of which a component is told is one of arrays of references
+-- a class with a known component is one of arrays of references
 pub component_holds : (all : List Ty) (class : ℕ) (o : Option ℕ) → IsNumberOf all (component_of (type_at all class)) o → is_some o ≡ true → holds_references (type_at all class) ≡ true
 component_holds all class None is some = absurd (false≢true some)
 component_holds all class (Some k) is some = by (holds_references (type_at all class)) is where

@@ -3,17 +3,18 @@ use Rattle.std.proofs.Common.{◌≡◌, ℕ, List, Option, Some, None, refl, sy
 use Rattle.std.specs.Option.{option_map}
 use Rattle.dj_names.specs.declared.run.Value.{Value}
 use Rattle.dj_names.specs.declared.descriptor.Ty.{Ty}
-use Rattle.dj_names.specs.Heaps.{Heap}
-use Rattle.dj_names.specs.Types.{Name}
+use Rattle.dj_names.specs.trusted.Heaps.{Heap}
+use Rattle.dj_names.specs.trusted.Types.{Name}
 use Rattle.dj_edge.specs.declared.host.HostAnswer.{HostAnswer}
 use Rattle.dj_natives.specs.Numbered.{type_at}
-use Rattle.dj_model.specs.Instructions.{Instruction}
-use Rattle.dj_model.specs.State as model
-use Rattle.dj_model.specs.State.{Terms, Part, Account, Effect, goes}
-use Rattle.dj_model.specs.Values.{on_values}
-use Rattle.dj_model.specs.Arrays.{OnHeap, on_heap_map}
-use Rattle.dj_model.specs.Effects as effects
-use Rattle.dj_model.specs.Effects.{values_effect, heap_effect}
+use Rattle.dj_model.specs.trusted.Instructions.{Instruction}
+use Rattle.dj_model.specs.trusted.State as model
+use Rattle.dj_model.specs.trusted.State.{Terms, Part, Account, Effect, goes}
+use Rattle.dj_model.specs.trusted.Values.{on_values}
+use Rattle.dj_model.specs.trusted.Arrays.{OnHeap}
+use Rattle.dj_model.specs.Arrays.{on_heap_map}
+use Rattle.dj_model.specs.trusted.Effects as effects
+use Rattle.dj_model.specs.trusted.Effects.{values_effect, heap_effect}
 use Rattle.dj_heap.specs.Heaps.{LimitedHeap}
 use Rattle.dj_stack.specs.Frames.{StackFrame, SameButOperands, top_locals, top_operands}
 use Rattle.dj_effects.specs.Does.{Does, told, told_operands}

@@ -5,16 +5,16 @@ use Rattle.std.proofs.lemmas.Bool.{false≢true}
 use Rattle.std.proofs.lemmas.Option.{same_Some}
 use Rattle.dj_names.specs.declared.descriptor.Ty.{Ty}
 use Rattle.dj_names.specs.declared.run.Element.TheVariants as elements
-use Rattle.dj_names.specs.Types.{Name, class_type, same_name}
+use Rattle.dj_names.specs.trusted.Types.{Name, class_type, same_name}
 use Rattle.dj_ops.specs.declared.instruction.Instr.{Instr}
 use Rattle.dj_natives.specs.Numbered.{ArePlain}
-use Rattle.dj_model.specs.Types.{initialiser_name}
-use Rattle.dj_model.specs.Instructions as model
-use Rattle.dj_model.specs.Instructions.{Instruction, Named, Nothing, AField, NewArray}
-use Rattle.dj_model.specs.Numbers.{agrees}
-use Rattle.dj_model.specs.Opcodes.{instruction_of}
-use Rattle.dj_model.specs.Program.{is_static}
-use Rattle.dj_model.specs.Linking.{FoundField, resolve_field}
+use Rattle.dj_model.specs.trusted.Types.{initialiser_name}
+use Rattle.dj_model.specs.trusted.Instructions as model
+use Rattle.dj_model.specs.trusted.Instructions.{Instruction, Named, Nothing, AField, NewArray}
+use Rattle.dj_model.specs.trusted.Numbers.{agrees}
+use Rattle.dj_model.specs.trusted.Opcodes.{instruction_of}
+use Rattle.dj_model.specs.trusted.Program.{is_static}
+use Rattle.dj_model.specs.trusted.Linking.{FoundField, resolve_field}
 use Rattle.dj_model.specs.Sound.{is_class_of, is_field_found, is_linked}
 use Rattle.dj_stack.specs.Frames.{StackFrame}
 use Rattle.dj_effects.specs.Actions.{action_view, is_other}

@@ -9,18 +9,18 @@ use Rattle.dj_names.specs.declared.descriptor.Ty.{Ty}
 use Rattle.dj_names.specs.declared.run.Element.{Element}
 use Rattle.dj_names.specs.declared.run.Element.TheVariants as elements
 use Rattle.dj_names.specs.declared.run.Value.TheVariants as values
-use Rattle.dj_names.specs.Types.{Name, array_type, class_type}
+use Rattle.dj_names.specs.trusted.Types.{Name, array_type, class_type}
 use Rattle.dj_ops.specs.declared.instruction.Instr.{Instr}
 use Rattle.dj_ops.specs.declared.instruction.Instr.TheVariants as instrs
 use Rattle.dj_natives.specs.Numbered.{ArePlain}
-use Rattle.dj_model.specs.Types.{Member}
-use Rattle.dj_model.specs.Instructions as model
-use Rattle.dj_model.specs.Instructions.{Instruction, Named, Nothing, AnInt, ALong, AText, AClass, AField, AMethod, AnInterfaceMethod, Another, NewArray}
-use Rattle.dj_model.specs.Opcodes.{instruction_of, literal, member}
-use Rattle.dj_model.specs.Program.{class_at}
+use Rattle.dj_model.specs.trusted.Types.{Member}
+use Rattle.dj_model.specs.trusted.Instructions as model
+use Rattle.dj_model.specs.trusted.Instructions.{Instruction, Named, Nothing, AnInt, ALong, AText, AClass, AField, AMethod, AnInterfaceMethod, Another, NewArray}
+use Rattle.dj_model.specs.trusted.Opcodes.{instruction_of, literal, member}
+use Rattle.dj_model.specs.trusted.Program.{class_at}
 use Rattle.dj_model.specs.Sound.{is_class_of, is_new}
 use Rattle.dj_effects.specs.Actions.{is_other}
-use Rattle.dj_check.specs.Instructions.{index_of}
+use Rattle.dj_check.specs.trusted.Instructions.{index_of}
 use Rattle.dj_classes.specs.Tables.{class_number, name_at}
 use Rattle.dj_classes.proofs.Numbered.{class_at-number, name_at-number}
 use Rattle.dj_types.specs.Typed.{Typed, types_of, type_number}

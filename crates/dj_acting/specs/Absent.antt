@@ -1,11 +1,11 @@
--- The code's own: what is done with a reference that is of no object.
+-- Used by the code alone: what is done with a reference that is of no object.
 use Rattle.std.specs.Prelude.{◌≡◌, ℕ, Bool, true, false, List, ◌∷◌}
 use Rattle.dj_names.specs.declared.descriptor.Base.TheVariants as bases
 use Rattle.dj_names.specs.declared.run.Raised.TheVariants as raises
 use Rattle.dj_names.specs.declared.run.Value.{Value}
-use Rattle.dj_names.specs.Types.{base_array}
+use Rattle.dj_names.specs.trusted.Types.{base_array}
 use Rattle.dj_natives.specs.Numbered.{type_at}
-use Rattle.dj_model.specs.Linking.{is_subtype}
+use Rattle.dj_model.specs.trusted.Linking.{is_subtype}
 use Rattle.dj_stack.specs.Frames.{StackFrame, top_operands}
 use Rattle.dj_effects.specs.declared.way.Way.TheVariants as ways
 use Rattle.dj_types.specs.Typed.{types_of}

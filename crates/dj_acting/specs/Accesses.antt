@@ -1,9 +1,9 @@
--- The code's own: what is found of the field of a number.
+-- Used by the code alone: what is found of the field of a number.
 use Rattle.std.specs.Prelude.{◌≡◌, ℕ, true, Option, Some, None, slice_get}
-use Rattle.dj_names.specs.Types.{field_kind}
-use Rattle.dj_model.specs.Types.{Member}
-use Rattle.dj_model.specs.Program.{is_static}
-use Rattle.dj_model.specs.Linking.{FoundField, place_of}
+use Rattle.dj_names.specs.trusted.Types.{field_kind}
+use Rattle.dj_model.specs.trusted.Types.{Member}
+use Rattle.dj_model.specs.trusted.Program.{is_static}
+use Rattle.dj_model.specs.trusted.Linking.{FoundField, place_of}
 use Rattle.dj_members.specs.declared.fields.FieldAccess.{FieldAccess}
 use Rattle.dj_classes.specs.Tables.{name_at}
 use Rattle.dj_types.specs.Members.{all_fields}

@@ -5,20 +5,22 @@ use Rattle.dj_names.specs.declared.run.Value.{Value}
 use Rattle.dj_names.specs.declared.run.Value.TheVariants as values
 use Rattle.dj_names.specs.declared.run.Element.TheVariants as elements
 use Rattle.dj_names.specs.declared.run.Outcome.TheVariants as outcomes
-use Rattle.dj_names.specs.Heaps.{Heap, Instance, Array, heap_map, object_at}
+use Rattle.dj_names.specs.trusted.Heaps.{Heap, Instance, Array, object_at}
+use Rattle.dj_names.specs.Heaps.{heap_map}
 use Rattle.dj_names.specs.declared.descriptor.Ty.{Ty}
-use Rattle.dj_names.specs.Types.{Name, class_type, base_array}
+use Rattle.dj_names.specs.trusted.Types.{Name, class_type, base_array}
 use Rattle.dj_edge.specs.declared.host.HostAnswer.{HostAnswer}
 use Rattle.dj_natives.specs.Numbered.{type_at, holds_references}
-use Rattle.dj_model.specs.Instructions.{Instruction, PushText, GetStatic, New, calls}
-use Rattle.dj_model.specs.Types.{Member, throwable_name}
-use Rattle.dj_model.specs.Program.{code_of}
-use Rattle.dj_model.specs.Linking.{FoundField, resolve_field}
+use Rattle.dj_model.specs.trusted.Instructions.{Instruction, PushText, GetStatic, New}
+use Rattle.dj_model.specs.Instructions.{calls}
+use Rattle.dj_model.specs.trusted.Types.{Member, throwable_name}
+use Rattle.dj_model.specs.trusted.Program.{code_of}
+use Rattle.dj_model.specs.trusted.Linking.{FoundField, resolve_field}
 use Rattle.dj_model.specs.Sound.{IsSound}
 use Rattle.dj_heap.specs.Heaps.{LimitedHeap}
-use Rattle.dj_model.specs.State as model
-use Rattle.dj_model.specs.State.{Terms, Part, Account, Effect, instruction_in}
-use Rattle.dj_model.specs.Effects as effects
+use Rattle.dj_model.specs.trusted.State as model
+use Rattle.dj_model.specs.trusted.State.{Terms, Part, Account, Effect, instruction_in}
+use Rattle.dj_model.specs.trusted.Effects as effects
 use Rattle.dj_stack.specs.Frames.{StackFrame, SameFrames, top_locals, top_number, top_operands, top_room}
 use Rattle.dj_effects.specs.declared.actions.PlainAction.{PlainAction}
 use Rattle.dj_effects.specs.declared.actions.PlainAction.TheVariants as actions
@@ -67,7 +69,7 @@ pub record HasInstruction (imaged : Imaged) (method number : ℕ) : Type 0 where
   pub instruction : Instruction
   pub at : instruction_of_number imaged method number ≡ Some instruction
 
--- ---- what is told
+-- ---- what is answered
 
 abbrev pub flow_told : Acted → Option model.Flow
 flow_told (acts.Goes way) = Some (model.Goes (way_view way))
@@ -77,7 +79,7 @@ flow_told (acts.HeapFull used size) = Some (model.End (outcomes.HeapFull used si
 flow_told acts.Call = None
 flow_told acts.Stuck = None
 
--- the operands that an effect tells: where the run doesn't just go on, those before it
+-- the operands after an effect: where the run doesn't just go on, those before it
 abbrev pub acted_operands : List StackFrame → List StackFrame → Acted → List Value
 acted_operands old new (acts.Goes way) = told_operands old new way
 acted_operands old new acted = top_operands old
@@ -92,7 +94,7 @@ IsKept imaged st acts.Stuck = ⊤
 IsKept imaged st acts.Call = ⊥
 IsKept imaged st acted = IsStore imaged st
 
--- the model's effect of the instruction is told, with what it leaves; none where there is no such step
+-- the model's effect of the instruction, and what it leaves, are these; none where no step can be made
 pub record Acts (imaged : Imaged) (i : Instruction) (before after : Machine) (acted : Acted) : Type 0 where
   pub effect : (terms : Terms) (own : Name) (account : Account) (answers : List HostAnswer) → terms.limit ≡ Some before.store.heap.limit
       → effects.effect (program_of imaged) imaged.prefix terms own i (part_of imaged before account answers) ≡ effect_told imaged before after account answers acted
@@ -160,14 +162,14 @@ pub record IsReady (imaged : Imaged) (table : Places) (thrown method number : �
 abbrev pub IsDone : Imaged → ℕ → ℕ → Machine → Machine → Acted → Type 0
 IsDone imaged method number before after acted = (i : Instruction) → instruction_of_number imaged method number ≡ Some i → IsActed imaged i before after acted
 
--- ---- the code's own: what changes nothing but frames and heap
+-- ---- used by the code alone: what changes nothing but frames and heap
 
 abbrev pub ActsOnHeap : Imaged → Instruction → List StackFrame → List StackFrame → LimitedHeap → LimitedHeap → Acted → Type 0
 ActsOnHeap imaged i old new before after acted =
     (statics : List ℕ) (literals : LiteralTable) → IsStore imaged (store before statics literals)
     → Acts imaged i (machine old (store before statics literals)) (machine new (store after statics literals)) acted
 
--- the same of static fields
+-- the same for static fields
 abbrev pub ActsOnStatics : Imaged → Instruction → List StackFrame → List StackFrame → List ℕ → List ℕ → Acted → Type 0
 ActsOnStatics imaged i old new before after acted =
     (heap : LimitedHeap) (literals : LiteralTable) → IsStore imaged (store heap before literals)

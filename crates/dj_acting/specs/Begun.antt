@@ -1,7 +1,7 @@
 -- An instruction that names nothing, done at once.
 use Rattle.std.specs.Prelude.{◌≡◌, ◌+◌, ⊤, ℕ, List, Option, Some, None}
 use Rattle.dj_names.specs.declared.descriptor.Ty.{Ty}
-use Rattle.dj_model.specs.Instructions.{Instruction}
+use Rattle.dj_model.specs.trusted.Instructions.{Instruction}
 use Rattle.dj_heap.specs.Heaps.{LimitedHeap}
 use Rattle.dj_stack.specs.Frames.{StackFrame, SameButNumber, top_number}
 use Rattle.dj_effects.specs.declared.way.Way.TheVariants as ways
@@ -32,7 +32,7 @@ pub record Goes (imaged : Imaged) (i : Instruction) (old new : List StackFrame) 
   pub does : ActsOnHeap imaged i old left before after acted
   pub gone : IsGone acted left new
 
--- what is told of the frames and the heap
+-- what is known of the frames and the heap
 abbrev pub BeginsBy : Imaged → Instruction → List StackFrame → List StackFrame → LimitedHeap → LimitedHeap → Begun → Type 0
 BeginsBy imaged i old new before after begins.Went = Goes imaged i old new before after
 BeginsBy imaged i old new before after begins.Nothing = (new ≡ old) × (after ≡ before)
@@ -48,14 +48,14 @@ IsKnownThen types heap begins.Went = AreKnown types heap
 IsKnownThen types heap begins.Nothing = AreKnown types heap
 IsKnownThen types heap (begins.Left acted) = IsKnownAfter types heap acted
 
--- ---- the code's own: what follows an instruction that was done
+-- ---- used by the code alone: what follows an instruction that was done
 
 abbrev pub Follows : Acted → List StackFrame → List StackFrame → Begun → Type 0
 Follows acted old new begins.Went = IsGone acted old new
 Follows acted old new begins.Nothing = ⊥
 Follows acted old new (begins.Left told) = (told ≡ acted) × (new ≡ old)
 
--- the run goes on in the frame at the instruction of this number, after the one of that number; nothing is told where there is none
+-- the run goes on in the frame at the instruction of this number, after the one of that number; nothing is said where there is none
 abbrev pub IsPlaceAfter : ℕ → Acted → Option ℕ → Type 0
 IsPlaceAfter number acted None = ⊤
 IsPlaceAfter number (acts.Goes ways.Next) (Some place) = place ≡ number + 1

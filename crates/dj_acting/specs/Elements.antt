@@ -1,9 +1,9 @@
--- The code's own: what an array's class tells of its elements.
+-- Used by the code alone: what an array's class says of its elements.
 use Rattle.std.specs.Prelude.{◌≡◌, ℕ, true, List}
 use Rattle.dj_names.specs.declared.descriptor.Ty.{Ty}
 use Rattle.dj_names.specs.declared.run.Element.{Element}
 use Rattle.dj_natives.specs.Numbered.{type_at, holds_references}
-use Rattle.dj_model.specs.Natives.{is_reference}
+use Rattle.dj_model.specs.trusted.Natives.{is_reference}
 
 -- where the elements are references, the class is one of arrays of such
 abbrev pub HoldsElements : List Ty → ℕ → Element → Type 0

@@ -1,4 +1,4 @@
--- The code's own: how the run goes on, as families of instructions tell it.
+-- Used by the code alone: how the run goes on, by families of instructions.
 use Rattle.std.specs.Prelude.{Option, Some, None}
 use Rattle.dj_names.specs.declared.run.Raised.TheVariants as raises
 use Rattle.dj_effects.specs.declared.way.Way.{Way}

@@ -2,14 +2,14 @@
 use Rattle.std.specs.Prelude.{◌≡◌, ◌≤◌, ⊤, ℕ, Bool, true, false, List, map, Some, Result, IfErr, IsFalse, slice_get}
 use Rattle.dj_names.specs.declared.lists.NoMemory.{NoMemory}
 use Rattle.dj_names.specs.declared.run.Value.{Value}
-use Rattle.dj_names.specs.Types.{Name}
-use Rattle.dj_names.specs.Values.{value_kind}
+use Rattle.dj_names.specs.trusted.Types.{Name}
+use Rattle.dj_names.specs.trusted.Values.{value_kind}
 use Rattle.dj_edge.specs.declared.host.HostAnswer.{HostAnswer}
 use Rattle.dj_ops.specs.declared.instruction.Instr.TheVariants as instrs
-use Rattle.dj_model.specs.Instructions.{Instruction, PushText, Invoke, New, NewArray}
-use Rattle.dj_model.specs.Kinds.{depth}
-use Rattle.dj_model.specs.State.{Terms, Account, Next, To, Flow, Goes, Effect}
-use Rattle.dj_model.specs.Effects as effects
+use Rattle.dj_model.specs.trusted.Instructions.{Instruction, PushText, Invoke, New, NewArray}
+use Rattle.dj_model.specs.trusted.Kinds.{depth}
+use Rattle.dj_model.specs.trusted.State.{Terms, Account, Next, To, Flow, Goes, Effect}
+use Rattle.dj_model.specs.trusted.Effects as effects
 use Rattle.dj_heap.specs.Heaps.{LimitedHeap}
 use Rattle.dj_stack.specs.Frames.{StackFrame, top_room}
 use Rattle.dj_members.specs.Literals.{LiteralTable}
@@ -50,7 +50,7 @@ abbrev pub LoadsByKnown : Imaged → ℕ → ℕ → Type 0
 LoadsByKnown imaged method number = (code : PooledCode) (op index : ℕ) → code_at imaged method ≡ Some code
     → slice_get code.parts.labelled.code number ≡ Some (instrs.Literal op index) → op ≤ 20
 
--- ---- the code's own: want of memory isn't told of it
+-- ---- used by the code alone: want of memory isn't answered
 
 abbrev pub NeverMemory : Result Acted NoMemory → Type 0
 NeverMemory result = IfErr result (λ e. ⊥)
@@ -60,7 +60,7 @@ abbrev pub FrugalOnHeap : Imaged → Instruction → List StackFrame → Limited
 FrugalOnHeap imaged i frames heap result =
     (statics : List ℕ) (literals : LiteralTable) → IsStore imaged (store heap statics literals) → IsFrugal imaged i (machine frames (store heap statics literals)) → NeverMemory result
 
--- the same of static fields
+-- the same for static fields
 abbrev pub FrugalOnStatics : Imaged → Instruction → List StackFrame → List ℕ → Result Acted NoMemory → Type 0
 FrugalOnStatics imaged i frames statics result =
     (heap : LimitedHeap) (literals : LiteralTable) → IsStore imaged (store heap statics literals) → IsFrugal imaged i (machine frames (store heap statics literals)) → NeverMemory result

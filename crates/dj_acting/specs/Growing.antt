@@ -1,4 +1,4 @@
--- The code's own: by how many operands an action grows them at most.
+-- Used by the code alone: by how many operands an action grows them at most.
 use Rattle.std.specs.Prelude.{ℕ}
 use Rattle.dj_effects.specs.declared.actions.Slots.{Slots}
 use Rattle.dj_effects.specs.declared.actions.Slots.TheVariants as slots

@@ -1,4 +1,4 @@
--- The code's own: kinds of fields by the first letters of their descriptors.
+-- Used by the code alone: kinds of fields by the first letters of their descriptors.
 use Rattle.std.specs.Prelude.{ℕ, ◌||◌, List, [], ◌∷◌, Option, Some, None, nat_eq, if◌then◌else◌}
 use Rattle.dj_names.specs.declared.descriptor.Kind.{Kind}
 use Rattle.dj_names.specs.declared.descriptor.Kind.TheVariants as kinds

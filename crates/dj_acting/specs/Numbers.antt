@@ -1,8 +1,8 @@
--- The code's own: numbers that instructions name.
+-- Used by the code alone: numbers that instructions name.
 use Rattle.std.specs.Prelude.{Option, Some, None}
 use Rattle.dj_names.specs.declared.run.Value.{Value}
 use Rattle.dj_names.specs.declared.run.Value.TheVariants as values
-use Rattle.dj_model.specs.Instructions.{Instruction, Nop, Push}
+use Rattle.dj_model.specs.trusted.Instructions.{Instruction, Nop, Push}
 use Rattle.dj_image.specs.declared.operand.Operand.{Operand}
 use Rattle.dj_image.specs.declared.operand.Operand.TheVariants as operands
 

@@ -1,12 +1,12 @@
--- What the operand of an instruction tells of it, by numbers.
+-- What the operand of an instruction says of it, by numbers.
 use Rattle.std.specs.Prelude.{◌≡◌, ℕ, Bool, true, false, Some, slice_get}
 use Rattle.dj_names.specs.declared.run.Element.{Element}
 use Rattle.dj_names.specs.declared.descriptor.Ty.{Ty}
 use Rattle.dj_ops.specs.declared.instruction.Instr.{Instr}
-use Rattle.dj_check.specs.Instructions.{index_of}
-use Rattle.dj_program.specs.Naming.{named_if}
-use Rattle.dj_model.specs.Instructions.{Instruction, Named, AClass, NewArray}
-use Rattle.dj_model.specs.Opcodes.{instruction_of}
+use Rattle.dj_check.specs.trusted.Instructions.{index_of}
+use Rattle.dj_program.specs.trusted.Naming.{named_if}
+use Rattle.dj_model.specs.trusted.Instructions.{Instruction, Named, AClass, NewArray}
+use Rattle.dj_model.specs.trusted.Opcodes.{instruction_of}
 use Rattle.dj_types.specs.Typed.{type_number}
 use Rattle.dj_image.specs.Imaged.{Imaged, typed_of}
 use Rattle.dj_image.specs.Operands.{takes_named}

@@ -1,9 +1,9 @@
 -- Instructions that name nothing.
 use Rattle.std.specs.Prelude.{◌≡◌, None}
 use Rattle.dj_ops.specs.declared.instruction.Instr.{Instr}
-use Rattle.dj_check.specs.Instructions.{index_of}
-use Rattle.dj_model.specs.Instructions.{Nothing}
-use Rattle.dj_model.specs.Opcodes.{instruction_of}
+use Rattle.dj_check.specs.trusted.Instructions.{index_of}
+use Rattle.dj_model.specs.trusted.Instructions.{Nothing}
+use Rattle.dj_model.specs.trusted.Opcodes.{instruction_of}
 use Rattle.dj_effects.specs.Actions.{action_view}
 use Rattle.dj_effects.specs.declared.actions.PlainAction.{PlainAction}
 

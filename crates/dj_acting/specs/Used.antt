@@ -1,12 +1,12 @@
--- The code's own: the field or the class that an instruction uses, with what is asked of it before.
+-- Used by the code alone: the field or the class that an instruction uses, with what is asked of it before.
 use Rattle.std.specs.Prelude.{◌≡◌, ℕ, ⊤, true, List}
-use Rattle.dj_names.specs.Types.{class_type}
+use Rattle.dj_names.specs.trusted.Types.{class_type}
 use Rattle.dj_natives.specs.Numbered.{ArePlain}
 use Rattle.dj_ops.specs.declared.instruction.Instr.{Instr}
-use Rattle.dj_model.specs.Types.{Member, throwable_name}
-use Rattle.dj_model.specs.Instructions.{Instruction, Named, Nothing, AField, NewArray}
-use Rattle.dj_model.specs.Opcodes.{instruction_of}
-use Rattle.dj_model.specs.Linking.{FoundField}
+use Rattle.dj_model.specs.trusted.Types.{Member, throwable_name}
+use Rattle.dj_model.specs.trusted.Instructions.{Instruction, Named, Nothing, AField, NewArray}
+use Rattle.dj_model.specs.trusted.Opcodes.{instruction_of}
+use Rattle.dj_model.specs.trusted.Linking.{FoundField}
 use Rattle.dj_model.specs.Sound.{is_linked}
 use Rattle.dj_heap.specs.Heaps.{LimitedHeap}
 use Rattle.dj_stack.specs.Frames.{StackFrame}

@@ -1,4 +1,4 @@
--- The code's own: which instructions name a field or a class.
+-- Used by the code alone: which instructions name a field or a class.
 use Rattle.std.specs.Prelude.{ℕ, nat_eq, if◌then◌else◌}
 use Rattle.dj_ops.specs.declared.instruction.Instr.{Instr}
 use Rattle.dj_ops.specs.declared.instruction.Instr.TheVariants as instrs

@@ -21,7 +21,7 @@ pub enum Acted {
     Stuck,
 }
 
-/// What an instruction on values or static fields tells.
+/// What an instruction on values or static fields answers.
 #[inline(always)]
 pub(crate) fn way_acted(way: Option<Way>) -> Acted
     ensures { result ≡ way_acted way }
@@ -32,7 +32,7 @@ pub(crate) fn way_acted(way: Option<Way>) -> Acted
     }
 }
 
-/// What an instruction on the heap tells.
+/// What an instruction on the heap answers.
 pub(crate) fn flow_acted(flow: Option<Flow>) -> Acted
     ensures { result ≡ flow_acted flow }
 {
@@ -44,7 +44,7 @@ pub(crate) fn flow_acted(flow: Option<Flow>) -> Acted
     }
 }
 
-/// What a thrown object tells.
+/// What a thrown object answers.
 pub(crate) fn thrown_acted(thrown: Option<Thrown>) -> Acted
     ensures { result ≡ thrown_acted thrown }
 {

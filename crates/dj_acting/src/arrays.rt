@@ -1,6 +1,6 @@
 ghost use Rattle.std.specs.Prelude.{◌≤◌, ◌<◌, length, IfOk};
 ghost use Rattle.dj_names.specs.declared.descriptor.Ty.{Ty};
-ghost use Rattle.dj_model.specs.Instructions.{ArrayLength, LoadElement, NewArray, StoreElement};
+ghost use Rattle.dj_model.specs.trusted.Instructions.{ArrayLength, LoadElement, NewArray, StoreElement};
 ghost use Rattle.dj_stack.specs.Frames.{top_operands, top_room};
 ghost use Rattle.dj_effects.specs.Actions.{access_view};
 ghost use Rattle.dj_calls.specs.Known.{AreKnown};

@@ -45,7 +45,7 @@ pub fn have_room(frames: &Frames)
     let _ = frames.spare();
 }
 
-/// Whether so many operands more have room in the top frame.
+/// Whether this many operands more have room in the top frame.
 pub fn has_room(frames: &Frames, more: u16) -> bool
     ensures room { result ≡ true → length (top_operands frames.now) + more ≤ top_room frames.now }
     ensures none { result ≡ false → top_room frames.now < length (top_operands frames.now) + more }

@@ -1,7 +1,7 @@
 ghost use Rattle.std.specs.Prelude.{◌≡◌, ◌≤◌, ◌<◌, length, slice_get, Some, IfOk};
 ghost use Rattle.std.specs.Option.{option_map};
-ghost use Rattle.dj_model.specs.Instructions.{Instruction, Named};
-ghost use Rattle.dj_model.specs.Opcodes.{instruction_of};
+ghost use Rattle.dj_model.specs.trusted.Instructions.{Instruction, Named};
+ghost use Rattle.dj_model.specs.trusted.Opcodes.{instruction_of};
 ghost use Rattle.dj_model.specs.Sound.{IsSound};
 ghost use Rattle.dj_stack.specs.Frames.{top_operands, top_room};
 ghost use Rattle.dj_calls.specs.Known.{AreKnown};
@@ -92,7 +92,7 @@ fn act_with(
     }
 }
 
-// The instruction of a number in a method is done, where the image's numbers are told to be settled.
+// The instruction of a number in a method is done, where the image's numbers are known to be settled.
 fn act_settled(
     image: &Image,
     places: &StaticPlaces,
@@ -123,9 +123,9 @@ fn act_settled(
 }
 
 /// The instruction of a number in a method of an image is done, but for a call; the class that it uses has been initialised. The places of static
-/// fields are told, and the number of the class Throwable. What a sound program's frames have, but isn't asked before, is asked of the values: where
-/// the operands or the frame's room lack it, it is told as a want of memory; an instruction that needs no new memory, and does something in the
-/// model that has room, is never told so.
+/// fields are given, and the number of the class Throwable. What a sound program's frames have, but isn't checked before, is checked here: where
+/// the operands or the frame's room lack it, the answer is a want of memory; it never is for an instruction that needs no new memory, and does
+/// something in the model that has room.
 pub fn act(
     image: &Image,
     places: &StaticPlaces,

@@ -1,11 +1,11 @@
 ghost use Rattle.std.specs.Prelude.{◌≤◌, length, IfOk};
 ghost use Rattle.dj_stack.specs.Frames.{top_operands, top_room};
 ghost use Rattle.dj_calls.specs.Known.{AreKnown};
-ghost use Rattle.dj_names.specs.Types.{class_type};
+ghost use Rattle.dj_names.specs.trusted.Types.{class_type};
 ghost use Rattle.dj_natives.specs.Numbered.{ArePlain};
-ghost use Rattle.dj_model.specs.Types.{throwable_name};
-ghost use Rattle.dj_model.specs.Instructions.{Named, Nothing};
-ghost use Rattle.dj_model.specs.Opcodes.{instruction_of};
+ghost use Rattle.dj_model.specs.trusted.Types.{throwable_name};
+ghost use Rattle.dj_model.specs.trusted.Instructions.{Named, Nothing};
+ghost use Rattle.dj_model.specs.trusted.Opcodes.{instruction_of};
 ghost use Rattle.dj_types.specs.Typed.{types_of};
 ghost use Rattle.dj_image.specs.Imaged.{typed_of};
 ghost use Rattle.dj_acting.specs.Acting.{ActsOnHeap, IsClassAt, IsHeap};
@@ -24,7 +24,7 @@ use dj_names::{Element, NoMemory};
 use dj_ops::Instr;
 use dj_stack::Frames;
 
-/// An instruction that names nothing is done. The class of the array that it makes is told, where it makes one, and the class Throwable.
+/// An instruction that names nothing is done. The class of the array that it makes is given, where it makes one, and the class Throwable.
 pub fn act_unnamed(
     image: &Image,
     frames: &mut Frames,

@@ -1,7 +1,7 @@
 ghost use Rattle.std.specs.Prelude.{◌<◌, ◌≤◌, length, IfOk};
-ghost use Rattle.dj_model.specs.Instructions.{GetField, PutField};
-ghost use Rattle.dj_model.specs.Types.{Member};
-ghost use Rattle.dj_model.specs.Linking.{FoundField};
+ghost use Rattle.dj_model.specs.trusted.Instructions.{GetField, PutField};
+ghost use Rattle.dj_model.specs.trusted.Types.{Member};
+ghost use Rattle.dj_model.specs.trusted.Linking.{FoundField};
 ghost use Rattle.dj_stack.specs.Frames.{top_operands, top_room};
 ghost use Rattle.dj_calls.specs.Known.{AreKnown};
 ghost use Rattle.dj_types.specs.Typed.{types_of};

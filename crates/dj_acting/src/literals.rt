@@ -1,6 +1,6 @@
 ghost use Rattle.std.specs.Prelude.{◌≡◌, Some, IfOk};
 ghost use Rattle.dj_names.specs.declared.run.Value.{Value};
-ghost use Rattle.dj_model.specs.Instructions.{Push};
+ghost use Rattle.dj_model.specs.trusted.Instructions.{Push};
 ghost use Rattle.dj_heap.specs.Heaps.{LimitedHeap};
 ghost use Rattle.dj_image.specs.Imaged.{Imaged};
 ghost use Rattle.dj_acting.specs.Acting.{ActsOnHeap};

@@ -1,7 +1,7 @@
 ghost use Rattle.std.specs.Prelude.{◌≡◌, ◌≤◌, ◌<◌, length, IfOk};
-ghost use Rattle.dj_model.specs.Instructions.{Named};
-ghost use Rattle.dj_model.specs.Opcodes.{instruction_of};
-ghost use Rattle.dj_model.specs.Linking.{static_count};
+ghost use Rattle.dj_model.specs.trusted.Instructions.{Named};
+ghost use Rattle.dj_model.specs.trusted.Opcodes.{instruction_of};
+ghost use Rattle.dj_model.specs.trusted.Linking.{static_count};
 ghost use Rattle.dj_stack.specs.Frames.{top_operands, top_room};
 ghost use Rattle.dj_calls.specs.Known.{AreKnown};
 ghost use Rattle.dj_types.specs.Typed.{types_of};

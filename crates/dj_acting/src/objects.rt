@@ -1,10 +1,10 @@
 ghost use Rattle.std.specs.Prelude.{◌≡◌, ◌≤◌, ◌<◌, Some, length, IfOk};
 ghost use Rattle.dj_calls.specs.Known.{AreKnown};
 ghost use Rattle.dj_names.specs.declared.descriptor.Ty.{Ty};
-ghost use Rattle.dj_names.specs.Types.{Name, class_type};
-ghost use Rattle.dj_model.specs.Types.{throwable_name};
-ghost use Rattle.dj_model.specs.Instructions.{CheckCast, InstanceOf, New, Throw};
-ghost use Rattle.dj_model.specs.Members.{instance_number};
+ghost use Rattle.dj_names.specs.trusted.Types.{Name, class_type};
+ghost use Rattle.dj_model.specs.trusted.Types.{throwable_name};
+ghost use Rattle.dj_model.specs.trusted.Instructions.{CheckCast, InstanceOf, New, Throw};
+ghost use Rattle.dj_model.specs.trusted.Members.{instance_number};
 ghost use Rattle.dj_names.specs.declared.run.Value.TheVariants as values;
 ghost use Rattle.dj_stack.specs.Frames.{SameButOperands, top_operands, top_room};
 ghost use Rattle.dj_classes.specs.Tables.{name_at};
@@ -58,7 +58,7 @@ pub fn act_cast(image: &Image, frames: &mut Frames, heap: &Heap, class: u32) -> 
     }
 }
 
-// What it tells of a reference that is of no object.
+// The answer for a reference that is of no object.
 fn cast_absent(image: &Image, class: u32) -> Acted
     requires { class < length (types_of (typed_of image.now)) }
     ensures { result ≡ cast_acted (is_absent_of image.now class) }
@@ -85,7 +85,7 @@ pub fn act_instance(image: &Image, frames: &mut Frames, heap: &Heap, class: u32)
     }
 }
 
-// The reference on top is taken, and what it tells is pushed where it is of no object.
+// Takes the reference on top, and pushes this where the reference is of no object.
 fn instance_absent(image: &Image, frames: &mut Frames, class: u32)
     requires class { class < length (types_of (typed_of image.now)) }
     requires some { 0 < length (top_operands frames.old) }
@@ -109,7 +109,7 @@ fn absent_value(image: &Image, class: u32) -> Value
     }
 }
 
-/// athrow, where the class Throwable is told. No reference that is of no object is of it.
+/// athrow, given the number of the class Throwable. A reference past all objects is no Throwable.
 pub fn act_throw(image: &Image, frames: &mut Frames, heap: &Heap, throwable: u32) -> Acted
     requires known { IsHeap image.now heap.now }
     requires throwable { IsClassAt image.now (class_type (throwable_name image.now.prefix)) throwable }

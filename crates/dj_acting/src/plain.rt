@@ -1,9 +1,9 @@
 ghost use Rattle.std.specs.Prelude.{IfOk};
-ghost use Rattle.dj_names.specs.Types.{class_type};
+ghost use Rattle.dj_names.specs.trusted.Types.{class_type};
 ghost use Rattle.dj_calls.specs.Known.{AreKnown};
 ghost use Rattle.dj_types.specs.Typed.{types_of};
 ghost use Rattle.dj_image.specs.Imaged.{typed_of};
-ghost use Rattle.dj_model.specs.Types.{throwable_name};
+ghost use Rattle.dj_model.specs.trusted.Types.{throwable_name};
 ghost use Rattle.dj_effects.specs.Actions.{action_view};
 ghost use Rattle.dj_acting.specs.Acting.{ActsOnHeap, HasRoom, IsClassAt, IsHeap, IsMadeBy};
 ghost use Rattle.dj_acting.specs.Frugal.{FrugalOnHeap};
@@ -19,7 +19,7 @@ use dj_image::Image;
 use dj_names::NoMemory;
 use dj_stack::Frames;
 
-/// An action is done. The class of the array that it makes is told, where it makes one, and the class Throwable.
+/// An action is done. The class of the array that it makes is given, where it makes one, and the class Throwable.
 #[tactic(auto, using(crate::proofs::Growths::room_for))]
 pub fn act_plain(
     image: &Image,

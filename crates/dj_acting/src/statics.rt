@@ -1,7 +1,7 @@
 ghost use Rattle.std.specs.Prelude.{◌≡◌, ◌<◌, length, IfOk};
-ghost use Rattle.dj_model.specs.Instructions.{GetStatic, PutStatic};
-ghost use Rattle.dj_model.specs.Types.{Member};
-ghost use Rattle.dj_model.specs.Linking.{FoundField, static_count};
+ghost use Rattle.dj_model.specs.trusted.Instructions.{GetStatic, PutStatic};
+ghost use Rattle.dj_model.specs.trusted.Types.{Member};
+ghost use Rattle.dj_model.specs.trusted.Linking.{FoundField, static_count};
 ghost use Rattle.dj_types.specs.Members.{all_fields};
 ghost use Rattle.dj_image.specs.Imaged.{program_of};
 ghost use Rattle.dj_initialising.specs.Places.{ArePlaces};

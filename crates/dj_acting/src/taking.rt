@@ -26,7 +26,7 @@ pub fn takes_top(image: &Image, frames: &Frames, heap: &Heap) -> bool
     array_takes(image, heap, array, value)
 }
 
-/// The operand under so many others of the top frame.
+/// The operand under this many others of the top frame.
 pub fn peek(frames: &Frames, below: u16) -> Option<Value>
     ensures { result ≡ slice_get (top_operands frames.now) below }
 {

@@ -1,5 +1,5 @@
 ghost use Rattle.std.specs.Prelude.{◌≡◌, ◌<◌, length, IfSome};
-ghost use Rattle.dj_model.specs.Instructions.{ArrayLength, LoadElement, StoreElement};
+ghost use Rattle.dj_model.specs.trusted.Instructions.{ArrayLength, LoadElement, StoreElement};
 ghost use Rattle.dj_stack.specs.Frames.{top_number};
 ghost use Rattle.dj_effects.specs.Actions.{access_view, action_view};
 ghost use Rattle.dj_calls.specs.Known.{AreKnown};

@@ -7,11 +7,11 @@ use Rattle.dj_names.specs.declared.descriptor.Desc.{Desc}
 use Rattle.dj_names.specs.declared.descriptor.Desc.TheVariants as descs
 use Rattle.dj_names.specs.declared.descriptor.Base.TheVariants as bases
 use Rattle.dj_names.specs.declared.run.Value.TheVariants as values
-use Rattle.dj_names.specs.Types.{Name, same_name, base_type}
-use Rattle.dj_model.specs.Types.{Declared, no_parameters}
-use Rattle.dj_model.specs.Instructions.{Nop}
-use Rattle.dj_model.specs.Program.{Program, Class, Method, Body, Abstract, Runs, Code, code_of, is_initialiser}
-use Rattle.dj_model.specs.Linking.{FoundMethod}
+use Rattle.dj_names.specs.trusted.Types.{Name, same_name, base_type}
+use Rattle.dj_model.specs.trusted.Types.{Declared, no_parameters}
+use Rattle.dj_model.specs.trusted.Instructions.{Nop}
+use Rattle.dj_model.specs.trusted.Program.{Program, Class, Method, Body, Abstract, Runs, Code, code_of, is_initialiser}
+use Rattle.dj_model.specs.trusted.Linking.{FoundMethod}
 use Rattle.dj_stack.specs.Frames.{StackFrame}
 use Rattle.dj_types.specs.Members.{all_methods}
 use Rattle.dj_image.specs.Sources.{Source, class_of_source}

@@ -1,16 +1,16 @@
--- Frames that stand as shape tells: each is at an instruction of its method, and one that waits for a result has room for it.
+-- Frames that have the kinds that shape says: each is at an instruction of its method, and one that waits for a result has room for it.
 use Rattle.std.proofs.Common.{◌≡◌, ◌<◌, Bool, true, false, length, Option, Some, None, sym, ap, ◌∙◌, arith}
 use Rattle.std.proofs.lemmas.List.{length-map}
 use Rattle.std.proofs.lemmas.Option.{none-some, same_Some, slice_get_within}
 use Rattle.dj_names.specs.declared.descriptor.Kind.{Kind}
 use Rattle.dj_names.specs.declared.descriptor.Desc.{Desc}
-use Rattle.dj_model.specs.Program.{Code}
+use Rattle.dj_model.specs.trusted.Program.{Code}
 use Rattle.dj_model.specs.Sound.{IsProgram}
-use Rattle.dj_model.specs.Kinds.{Signature, call_signature, with_receiver, signature_of}
+use Rattle.dj_model.specs.trusted.Kinds.{Signature, call_signature, with_receiver, signature_of}
 use Rattle.dj_model.specs.Standing.{IsAt, IsWaiting, result_of}
 use Rattle.dj_model.proofs.SoundFrames.{code_is}
-use Rattle.dj_program.specs.Codes.{code_in}
-use Rattle.dj_program.specs.Naming.{instruction_in}
+use Rattle.dj_program.specs.trusted.Codes.{code_in}
+use Rattle.dj_program.specs.trusted.Naming.{instruction_in}
 use Rattle.dj_program.specs.Views.{parts_of}
 use Rattle.dj_program.specs.declared.code.MethodCode.{MethodCode}
 use Rattle.dj_stack.specs.Frames.{StackFrame}

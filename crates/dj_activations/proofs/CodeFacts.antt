@@ -1,11 +1,11 @@
 -- The code of methods by their numbers, by plain values.
 use Rattle.std.proofs.Common.{◌≡◌, ℕ, [], ◌∷◌, Some, None, refl, sym, ap, arith, codes}
 use Rattle.std.proofs.lemmas.Option.{none-some, same_Some}
-use Rattle.dj_names.specs.Types.{Name}
+use Rattle.dj_names.specs.trusted.Types.{Name}
 use Rattle.dj_ops.specs.declared.instruction.Instr.TheVariants as instrs
-use Rattle.dj_model.specs.Types.{no_parameters}
-use Rattle.dj_model.specs.Program.{Class, Method, Body, Abstract, Runs, Code, code_of}
-use Rattle.dj_program.specs.Codes.{code_in}
+use Rattle.dj_model.specs.trusted.Types.{no_parameters}
+use Rattle.dj_model.specs.trusted.Program.{Class, Method, Body, Abstract, Runs, Code, code_of}
+use Rattle.dj_program.specs.trusted.Codes.{code_in}
 use Rattle.dj_program.specs.Views.{parts_of}
 use Rattle.dj_program.specs.declared.code.MethodCode.{MethodCode}
 use Rattle.dj_types.specs.Members.{all_methods}

@@ -1,17 +1,17 @@
--- The instruction of a number in a method of a number, as it is told, and its operand.
+-- The instruction of a number in a method of a number, as it is reported, and its operand.
 use Rattle.std.proofs.Common.{◌≡◌, ℕ, Option, Some, None, refl, sym, ap, subst, ◌∙◌}
 use Rattle.std.specs.Prelude.{map, slice_get}
 use Rattle.std.specs.Option.{option_map}
 use Rattle.std.proofs.lemmas.Option.{none-some, same_Some, slice_get-map, slice_get_within}
 use Rattle.dj_ops.specs.declared.instruction.Instr.{Instr}
-use Rattle.dj_model.specs.Instructions.{Named}
-use Rattle.dj_model.specs.Opcodes.{instruction_of}
-use Rattle.dj_model.specs.Program.{Code}
-use Rattle.dj_model.specs.State.{instruction_in}
-use Rattle.dj_check.specs.Instructions.{index_of}
-use Rattle.dj_program.specs.Codes.{code_in}
-use Rattle.dj_program.specs.Naming.{named_if}
-use Rattle.dj_program.specs.Naming as naming
+use Rattle.dj_model.specs.trusted.Instructions.{Named}
+use Rattle.dj_model.specs.trusted.Opcodes.{instruction_of}
+use Rattle.dj_model.specs.trusted.Program.{Code}
+use Rattle.dj_model.specs.trusted.State.{instruction_in}
+use Rattle.dj_check.specs.trusted.Instructions.{index_of}
+use Rattle.dj_program.specs.trusted.Codes.{code_in}
+use Rattle.dj_program.specs.trusted.Naming.{named_if}
+use Rattle.dj_program.specs.trusted.Naming as naming
 use Rattle.dj_program.specs.Views.{parts_of}
 use Rattle.dj_program.specs.declared.code.MethodCode.{MethodCode}
 use Rattle.dj_image.specs.Imaged.{Imaged}
@@ -53,7 +53,7 @@ instr_told imaged method number code is instr at = (
   record { stands = stands_at imaged method number code is instr at; is = instruction_there imaged method number code is instr at },
 )
 
--- its operand is told of it
+-- the operand reported for it is its own
 pub operand_is : (imaged : Imaged) (method number : ℕ) (instr : Instr) (named : Named) (operand : Operand) → StandsAt imaged method number instr named → IsOperandAt imaged method number operand
     → operand ≡ operand_of imaged instr named
 operand_is imaged method number instr named operand s o =

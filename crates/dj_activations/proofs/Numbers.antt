@@ -6,10 +6,10 @@ use Rattle.std.specs.List.{flat_map, list_any}
 use Rattle.std.proofs.lemmas.Bool.{and_parts, false≢true}
 use Rattle.std.proofs.lemmas.Option.{same_Some}
 use Rattle.dj_names.specs.declared.descriptor.Desc.{Desc}
-use Rattle.dj_names.specs.Types.{Name, same_name, same_desc}
-use Rattle.dj_model.specs.Types.{initialiser_name, no_parameters}
-use Rattle.dj_model.specs.Program.{Program, Class, Method, class_at, is_named, method_in, method_of, method_at, body_code, code_in, code_of, is_initialiser}
-use Rattle.dj_model.specs.Linking.{FoundMethod, declared_of}
+use Rattle.dj_names.specs.trusted.Types.{Name, same_name, same_desc}
+use Rattle.dj_model.specs.trusted.Types.{initialiser_name, no_parameters}
+use Rattle.dj_model.specs.trusted.Program.{Program, Class, Method, class_at, is_named, method_in, method_of, method_at, body_code, code_in, code_of, is_initialiser}
+use Rattle.dj_model.specs.trusted.Linking.{FoundMethod, declared_of}
 use Rattle.dj_model.specs.Sound.{methods_differ, IsProgram}
 use Rattle.dj_model.proofs.SoundFrames.{contained}
 use Rattle.dj_declared.proofs.DescTests.{same_name_is, same_name_itself, same_desc_is, same_desc_itself}

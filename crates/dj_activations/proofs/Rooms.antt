@@ -6,21 +6,23 @@ use Rattle.std.proofs.lemmas.Grind.{reverse_onto}
 use Rattle.dj_names.specs.declared.descriptor.Kind.{Kind}
 use Rattle.dj_names.specs.declared.descriptor.Kind.TheVariants as kinds
 use Rattle.dj_names.specs.declared.run.Value.{Value}
-use Rattle.dj_names.specs.Values.{value_kind}
+use Rattle.dj_names.specs.trusted.Values.{value_kind}
 use Rattle.dj_ops.specs.declared.frames.Frame.{Frame as MapFrame}
-use Rattle.dj_model.specs.Types.{Prefix, Declared}
-use Rattle.dj_model.specs.Program.{Program, Method, Runs, Code, Range, method_at}
-use Rattle.dj_model.specs.Numbers.{is_wide}
-use Rattle.dj_model.specs.Kinds.{Signature, signature_of, Kinds, kind_slots, depth, entry_slots, fitting, Entries, form_entries, stack_of, Placed, Map, Read, Faulty, NoMap, and_then, with_fitting, with_frame, frames_after, frames_in, parameter_entries, map_of, placed_at}
-use Rattle.dj_model.specs.Instructions.{Instruction, Invoke, calls}
-use Rattle.dj_model.specs.Shape.{taken, leaving, with_result, counts, is_static_mode, call_kinds, after, is_handler_frame, Holds, AllHold}
+use Rattle.dj_model.specs.trusted.Types.{Prefix, Declared}
+use Rattle.dj_model.specs.trusted.Program.{Program, Method, Runs, Code, Range, method_at}
+use Rattle.dj_model.specs.trusted.Numbers.{is_wide}
+use Rattle.dj_model.specs.trusted.Kinds.{Signature, signature_of, Kinds, kind_slots, depth, entry_slots, fitting, Entries, form_entries, stack_of, Placed, Map, Read, Faulty, NoMap, and_then, with_fitting, with_frame, frames_after, frames_in, parameter_entries, map_of, placed_at}
+use Rattle.dj_model.specs.trusted.Instructions.{Instruction, Invoke}
+use Rattle.dj_model.specs.Instructions.{calls}
+use Rattle.dj_model.specs.trusted.Shape.{taken, leaving, with_result, counts, is_static_mode, call_kinds, after, is_handler_frame, Holds}
+use Rattle.dj_model.specs.Shape.{AllHold}
 use Rattle.dj_model.specs.Sound.{IsCode, IsSoundCode, IsSound}
 use Rattle.dj_model.proofs.MappedNames.{either}
 use Rattle.dj_model.proofs.Standing.{some_if}
 use Rattle.dj_model.proofs.SoundLinks.{both_parts}
 use Rattle.dj_model.proofs.SoundFrames.{flow_stack, all_at, sound_code}
 
--- ---- what a frame of the stack map tells fits
+-- ---- what a frame of the stack map declares fits
 
 abbrev Fits : Code → Kinds → Type 0
 Fits code k = depth k.stack ≤ code.max_stack

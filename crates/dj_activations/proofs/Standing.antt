@@ -2,7 +2,7 @@
 use Rattle.std.proofs.Common.{◌≡◌, ◌<◌, ℕ, List, [], ◌∷◌, length, Some, sym, ap, subst, ◌∙◌, arith}
 use Rattle.std.specs.Prelude.{slice_get}
 use Rattle.std.proofs.lemmas.Option.{slice_get_within}
-use Rattle.dj_model.specs.Program.{code_of, body_code}
+use Rattle.dj_model.specs.trusted.Program.{code_of, body_code}
 use Rattle.dj_model.specs.Sound.{IsProgram}
 use Rattle.dj_stack.specs.Frames.{StackFrame, SameFrames, below_top, top_method}
 use Rattle.dj_types.specs.Members.{all_methods}

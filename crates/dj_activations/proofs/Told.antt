@@ -1,14 +1,14 @@
--- What the readers of an image tell of the method of a number.
+-- What the readers of an image say of the method of a number.
 use Rattle.std.proofs.Common.{◌≡◌, ℕ, Bool, true, false, List, Some, None, refl, sym, ap, ◌∙◌, arith, codes, Bor}
 use Rattle.std.proofs.lemmas.Bool.{and_parts}
 use Rattle.dj_names.specs.declared.descriptor.Desc.{Desc}
 use Rattle.dj_names.specs.declared.native.NativeId.{NativeId}
-use Rattle.dj_names.specs.Types.{Name, same_name, same_desc}
-use Rattle.dj_names.specs.Descriptors.{desc_text}
-use Rattle.dj_model.specs.Types.{Declared, initialiser_name, no_parameters}
-use Rattle.dj_model.specs.Program.{Body, Abstract, Native, Runs, body_code, is_named, is_initialiser}
+use Rattle.dj_names.specs.trusted.Types.{Name, same_name, same_desc}
+use Rattle.dj_names.specs.trusted.Descriptors.{desc_text}
+use Rattle.dj_model.specs.trusted.Types.{Declared, initialiser_name, no_parameters}
+use Rattle.dj_model.specs.trusted.Program.{Body, Abstract, Native, Runs, body_code, is_named, is_initialiser}
 use Rattle.dj_model.specs.Sound.{IsProgram}
-use Rattle.dj_declared.specs.Files.{desc_in}
+use Rattle.dj_declared.specs.trusted.Files.{desc_in}
 use Rattle.dj_declared.proofs.DescTests.{same_name_is, same_name_itself, same_desc_is, same_desc_itself, desc_in_is}
 use Rattle.dj_program.specs.declared.code.MethodCode.{MethodCode}
 use Rattle.dj_types.specs.declared.types.MemberOf.{MemberOf}

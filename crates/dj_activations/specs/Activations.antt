@@ -1,16 +1,16 @@
 -- What the frames of a machine are in the model: a method's number stands for its names.
 use Rattle.std.specs.Prelude.{◌≡◌, ℕ, ⊤, false, List, [], ◌∷◌, map, Option, Some, None, slice_get}
-use Rattle.dj_model.specs.Types.{Declared, no_parameters}
-use Rattle.dj_model.specs.Program.{Program, Code, Runs}
-use Rattle.dj_model.specs.Linking.{FoundMethod, declared_of}
-use Rattle.dj_model.specs.State.{Frame}
+use Rattle.dj_model.specs.trusted.Types.{Declared, no_parameters}
+use Rattle.dj_model.specs.trusted.Program.{Program, Code, Runs}
+use Rattle.dj_model.specs.trusted.Linking.{FoundMethod, declared_of}
+use Rattle.dj_model.specs.trusted.State.{Frame}
 use Rattle.dj_stack.specs.Frames.{StackFrame}
 use Rattle.dj_types.specs.Members.{all_methods}
 use Rattle.dj_image.specs.Imaged.{Imaged, program_of}
 
 -- ---- methods
 
--- without a method a made-up one, of which no program has code
+-- where there is no method, a made-up one, of which no program has code
 abbrev pub declared_or_none : Option FoundMethod → Declared
 declared_or_none None = record { class = []; name = []; desc = no_parameters }
 declared_or_none (Some found) = declared_of found
@@ -29,9 +29,9 @@ frame_seen program f = record { method = declared_at program f.method; number = 
 abbrev pub frames_seen : Program → List StackFrame → List (Frame Declared)
 frames_seen program frames = map (frame_seen program) frames
 
--- ---- frames that stand over an image
+-- ---- frames over an image
 
--- the frame is of a method with code, and has room for as many operands as the code asks for
+-- the frame is of a method with code, and has room for as many operands as the code needs
 pub record IsActivation (imaged : Imaged) (f : StackFrame) : Type 0 where
   pub found : FoundMethod
   pub there : slice_get (all_methods (program_of imaged)) f.method ≡ Some found

@@ -1,12 +1,12 @@
 -- The instruction of a number in a method of a number, in the image and in the model.
 use Rattle.std.specs.Prelude.{◌≡◌, ℕ, Option, Some, slice_get}
 use Rattle.dj_ops.specs.declared.instruction.Instr.{Instr}
-use Rattle.dj_model.specs.Instructions.{Instruction, Named}
-use Rattle.dj_model.specs.Opcodes.{instruction_of}
-use Rattle.dj_model.specs.Program.{code_of}
-use Rattle.dj_model.specs.State.{instruction_in}
-use Rattle.dj_check.specs.Instructions.{index_of}
-use Rattle.dj_program.specs.Naming.{named_if}
+use Rattle.dj_model.specs.trusted.Instructions.{Instruction, Named}
+use Rattle.dj_model.specs.trusted.Opcodes.{instruction_of}
+use Rattle.dj_model.specs.trusted.Program.{code_of}
+use Rattle.dj_model.specs.trusted.State.{instruction_in}
+use Rattle.dj_check.specs.trusted.Instructions.{index_of}
+use Rattle.dj_program.specs.trusted.Naming.{named_if}
 use Rattle.dj_image.specs.Imaged.{Imaged, program_of}
 use Rattle.dj_image.specs.Codes.{PooledCode, code_at}
 use Rattle.dj_activations.specs.Activations.{declared_at}
@@ -20,7 +20,7 @@ pub record HasInstruction (imaged : Imaged) (method number : ℕ) : Type 0 where
   pub instruction : Instruction
   pub at : instruction_of_number imaged method number ≡ Some instruction
 
--- the instruction stands there in the image's code, and its index names this
+-- the image's code has the instruction at that place, and its index names this
 pub record StandsAt (imaged : Imaged) (method number : ℕ) (instr : Instr) (named : Named) : Type 0 where
   pub code : PooledCode
   pub own : code_at imaged method ≡ Some code

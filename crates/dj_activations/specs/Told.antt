@@ -1,8 +1,8 @@
--- What is told of the method of a number.
+-- What is answered for the method of a number.
 use Rattle.std.specs.Prelude.{◌≡◌, ℕ, true, false, List, Option, Some, None}
-use Rattle.dj_pool.specs.Pool.{Constant}
-use Rattle.dj_model.specs.Program.{code_of, is_initialiser}
-use Rattle.dj_program.specs.Codes.{code_in}
+use Rattle.dj_pool.specs.trusted.Pool.{Constant}
+use Rattle.dj_model.specs.trusted.Program.{code_of, is_initialiser}
+use Rattle.dj_program.specs.trusted.Codes.{code_in}
 use Rattle.dj_program.specs.Views.{parts_of}
 use Rattle.dj_program.specs.declared.code.MethodCode.{MethodCode}
 use Rattle.dj_classes.specs.Tables.{name_at}

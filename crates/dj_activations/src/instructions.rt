@@ -1,6 +1,6 @@
 ghost use Rattle.std.specs.Prelude.{◌≡◌, ◌<◌, length, slice_get};
 ghost use Rattle.std.specs.Option.{option_map};
-ghost use Rattle.dj_model.specs.Instructions.{Named};
+ghost use Rattle.dj_model.specs.trusted.Instructions.{Named};
 ghost use Rattle.dj_model.specs.Sound.{IsSound};
 ghost use Rattle.dj_types.specs.Members.{all_methods};
 ghost use Rattle.dj_image.specs.Imaged.{program_of};

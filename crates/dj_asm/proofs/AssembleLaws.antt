@@ -3,15 +3,16 @@ use Rattle.std.proofs.Common.{◌≡◌, ◌≢◌, ℕ, ◌<◌, ◌≤◌, ◌
 use Rattle.std.proofs.lemmas.Bool.{leb-true, leb-false}
 use Rattle.dj_source.specs.declared.error.AsmError.{AsmError}
 use Rattle.dj_source.specs.declared.error.AsmError.TheVariants as asm_errors
-use Rattle.dj_source.specs.Faults.{WordFault}
-use Rattle.dj_source.specs.Labels.{LabelFault}
-use Rattle.dj_source.specs.Sources.{Source}
+use Rattle.dj_source.specs.trusted.Faults.{WordFault}
+use Rattle.dj_source.specs.trusted.Labels.{LabelFault}
+use Rattle.dj_source.specs.trusted.Sources.{Source}
 use Rattle.dj_source.specs.SourceLines.{TextLines, AreLinesOf, IsFirstFault}
-use Rattle.dj_entries.specs.Room.{IsPastPool, NoLine, IsFirst}
-use Rattle.dj_asm.specs.Large.{IsTooLarge}
-use Rattle.dj_asm.specs.Texts.{IsTextOfBytes, TextFault}
-use Rattle.dj_entries.specs.Entries.{Entry, each_once, index_of}
-use Rattle.dj_entries.specs.Needs.{needs_of, needed_entry, entries_of}
+use Rattle.dj_entries.specs.trusted.Room.{IsPastPool, NoLine}
+use Rattle.dj_entries.specs.Room.{IsFirst}
+use Rattle.dj_asm.specs.trusted.Large.{IsTooLarge}
+use Rattle.dj_asm.specs.trusted.Texts.{IsTextOfBytes, TextFault}
+use Rattle.dj_entries.specs.trusted.Entries.{Entry, each_once, index_of}
+use Rattle.dj_entries.specs.trusted.Needs.{needs_of, needed_entry, entries_of}
 use Rattle.dj_entries.specs.Pooling.{all_kept, found_index}
 use Rattle.dj_entries.specs.PoolNeeds.{IsPoolOf}
 use Rattle.dj_entries.proofs.EntryLaws.{once_has}

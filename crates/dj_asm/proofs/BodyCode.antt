@@ -5,33 +5,34 @@ use Rattle.std.specs.List.{flat_map, AllByRecursion, AllZip}
 use Rattle.std.proofs.lemmas.Bool.{eqb-true}
 use Rattle.std.proofs.lemmas.Int.{ints}
 use Rattle.std.proofs.lemmas.Option.{slice_get_within}
-use Rattle.dj_names.specs.Descriptors.{slots_of}
+use Rattle.dj_names.specs.trusted.Descriptors.{slots_of}
 use Rattle.dj_names.specs.declared.descriptor.Desc.TheVariants as descs
 use Rattle.dj_ops.specs.declared.instruction.Instr.{Instr}
 use Rattle.dj_ops.specs.declared.instruction.Instr.TheVariants as instrs
-use Rattle.dj_ops.specs.Instructions.{IsProper}
+use Rattle.dj_ops.specs.trusted.Instructions.{IsProper}
 use Rattle.dj_labels.specs.declared.labelled.Protected.{Protected}
 use Rattle.dj_labels.specs.declared.labelled.Labelled.{Labelled}
-use Rattle.dj_labels.specs.Labels.{IsNumber, HasNumbers, IsRange, IsWellFormed, address_of}
+use Rattle.dj_labels.specs.trusted.Labels.{IsNumber, HasNumbers, IsRange, address_of}
+use Rattle.dj_labels.specs.Labels.{IsWellFormed}
 use Rattle.dj_layout.specs.declared.errors.LayError.{LayError}
 use Rattle.dj_layout.specs.declared.errors.LayError.TheVariants as lay_errors
-use Rattle.dj_layout.specs.Places.{starts_from}
-use Rattle.dj_layout.specs.Layouts.{placed}
+use Rattle.dj_layout.specs.trusted.Places.{starts_from}
+use Rattle.dj_layout.specs.trusted.Layouts.{placed}
 use Rattle.dj_layout.specs.Faults.{Refuses}
 use Rattle.dj_layout.specs.Laws.{HasLayout, HasFault}
 use Rattle.dj_layout.proofs.Ends.{starts_length, end_within}
 use Rattle.dj_layout.proofs.Passing.{placed_length}
 use Rattle.dj_layout.proofs.Decided.{layout_or_fault_is}
-use Rattle.dj_class.specs.Code.{CodeInfo}
-use Rattle.dj_source.specs.Lines.{Label, Operation, Plain, Push, Local, Increment, Load, LoadLong, Jump, Table, Lookup, Member, Dynamic, ClassOf, Array, Multi, Catch, Line, Method, Stack, Locals, Beside, Does, End, IsFieldUse, IsMethodUse, IsOperation, IsLine}
-use Rattle.dj_source.specs.Sources.{Source, Part, body_lines}
-use Rattle.dj_source.specs.Labels.{instruction_count, AtInstruction, operation_uses, uses_of, AreMethodLines, IsMislabelled, label_number}
-use Rattle.dj_entries.specs.Entries.{Entry}
-use Rattle.dj_entries.specs.Needs.{member_entry, index_in}
-use Rattle.dj_asm.specs.Codes.{Places, target_of, IsMemberInstr, is_interface_call, IsInstrOf, operation_in, AreInstrsOf, ranges_in, stack_map_of, frames_in, IsCodeOf}
-use Rattle.dj_asm.specs.Files.{places_of}
-use Rattle.dj_asm.specs.Large.{IsImproper, IsFarJump, IsEndOfLongCode}
-use Rattle.dj_entries.specs.Room.{NoLine}
+use Rattle.dj_class.specs.trusted.Code.{CodeInfo}
+use Rattle.dj_source.specs.trusted.Lines.{Label, Operation, Plain, Push, Local, Increment, Load, LoadLong, Jump, Table, Lookup, Member, Dynamic, ClassOf, Array, Multi, Catch, Line, Method, Stack, Locals, Beside, Does, End, IsFieldUse, IsMethodUse, IsOperation, IsLine}
+use Rattle.dj_source.specs.trusted.Sources.{Source, BodyPart, body_lines}
+use Rattle.dj_source.specs.trusted.Labels.{instruction_count, AtInstruction, operation_uses, uses_of, AreMethodLines, IsMislabelled, label_number}
+use Rattle.dj_entries.specs.trusted.Entries.{Entry}
+use Rattle.dj_entries.specs.trusted.Needs.{member_entry, index_in}
+use Rattle.dj_asm.specs.trusted.Codes.{Places, target_of, IsMemberInstr, is_interface_call, IsInstrOf, operation_in, AreInstrsOf, ranges_in, stack_map_of, frames_in, IsCodeOf}
+use Rattle.dj_asm.specs.trusted.Files.{places_of}
+use Rattle.dj_asm.specs.trusted.Large.{IsImproper, IsFarJump, IsEndOfLongCode}
+use Rattle.dj_entries.specs.trusted.Room.{NoLine}
 use Rattle.dj_asm.proofs.Deciding.{stable, proper_or_not}
 use Rattle.dj_asm.proofs.BodyLabels.{count_cons, count_append, coded_lines, same_places, same_in, IsNumbered, uses_numbered}
 
@@ -264,7 +265,7 @@ code_of places stack locals body code are layout = record {
 }
 
 -- a method of a source in which its lines fit has its code
-pub has_code : (s : Source) (before : ℕ) (flags : ℕ) (name desc : List ℕ) (stack locals : ℤ) (parts : List Part) → AreMethodLines s before (coded_lines flags name desc stack locals parts)
+pub has_code : (s : Source) (before : ℕ) (flags : ℕ) (name desc : List ℕ) (stack locals : ℤ) (parts : List BodyPart) → AreMethodLines s before (coded_lines flags name desc stack locals parts)
     → AllByRecursion IsLine (coded_lines flags name desc stack locals parts) → NoLine (IsMislabelled s) → NoLine (IsImproper s) → NoLine (IsFarJump s) → NoLine (IsEndOfLongCode s)
     → HasCode (places_of (index_in s) (body_lines parts)) stack locals (body_lines parts)
 has_code s before flags name desc stack locals parts at is labels proper near short =

@@ -3,17 +3,17 @@ use Rattle.std.proofs.Common.{pos, List, [], ◌∷◌, Some, codes, refl, arith
 use Rattle.std.proofs.Math.Facts.{sfits_lit}
 use Rattle.std.proofs.lemmas.Int.{ints}
 use Rattle.dj_ops.specs.declared.instruction.Instr.TheVariants as instrs
-use Rattle.dj_ops.specs.Forms.{form_of}
+use Rattle.dj_ops.specs.trusted.Forms.{form_of}
 use Rattle.dj_labels.specs.declared.labelled.Labelled.{Labelled}
 use Rattle.dj_layout.specs.declared.laid.Laid.{Laid}
-use Rattle.dj_layout.specs.Layouts.{IsLaidOut}
-use Rattle.dj_frames.specs.Written.{frames_bytes}
-use Rattle.dj_source.specs.Lines.{Label, Same, Plain, Jump, Labelled as Marked, Catch, Line, Beside, Framed, Does}
-use Rattle.dj_source.specs.Labels.{label_number}
-use Rattle.dj_entries.specs.Entries.{Class, index_of}
-use Rattle.dj_entries.specs.Needs.{stack_map_name}
-use Rattle.dj_asm.specs.Codes.{frames_in, IsCodeOf}
-use Rattle.dj_asm.specs.Files.{places_of}
+use Rattle.dj_layout.specs.trusted.Layouts.{IsLaidOut}
+use Rattle.dj_frames.specs.trusted.Written.{frames_bytes}
+use Rattle.dj_source.specs.trusted.Lines.{Label, Same, Plain, Jump, Labelled as Marked, Catch, Line, Beside, Framed, Does}
+use Rattle.dj_source.specs.trusted.Labels.{label_number}
+use Rattle.dj_entries.specs.trusted.Entries.{Class, index_of}
+use Rattle.dj_entries.specs.trusted.Needs.{stack_map_name}
+use Rattle.dj_asm.specs.trusted.Codes.{frames_in, IsCodeOf}
+use Rattle.dj_asm.specs.trusted.Files.{places_of}
 
 abbrev a : Label
 a = codes "a"

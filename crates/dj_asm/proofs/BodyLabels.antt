@@ -5,13 +5,13 @@ use Rattle.std.specs.Cmp.Lexicographic.{bytes_decides}
 use Rattle.std.proofs.lemmas.Bool.{cases_Bool, false≢true, false_from_ne_true}
 use Rattle.std.proofs.lemmas.List.Sums.{sum_by-cons, sum_by-append}
 use Rattle.std.proofs.lemmas.List.Concat.{flat_map-append}
-use Rattle.dj_names.specs.Types.{same_name}
-use Rattle.dj_source.specs.Lines.{Label, Labelled as Marked, Line, Method, Stack, Locals, Beside, End}
-use Rattle.dj_source.specs.Sources.{Source, Part, Coded, body_lines, method_lines}
-use Rattle.dj_source.specs.Labels.{is_instruction, instruction_count, IsLabelAt, Use, AtInstruction, Range, uses_of, IsMet, AreMethodLines, IsMislabelled, marks, label_number}
-use Rattle.dj_entries.specs.Entries.{Entry}
-use Rattle.dj_asm.specs.Files.{places_of}
-use Rattle.dj_entries.specs.Room.{NoLine}
+use Rattle.dj_names.specs.trusted.Types.{same_name}
+use Rattle.dj_source.specs.trusted.Lines.{Label, Labelled as Marked, Line, Method, Stack, Locals, Beside, End}
+use Rattle.dj_source.specs.trusted.Sources.{Source, BodyPart, Coded, body_lines, method_lines}
+use Rattle.dj_source.specs.trusted.Labels.{is_instruction, instruction_count, IsLabelAt, Use, AtInstruction, Range, uses_of, IsMet, AreMethodLines, IsMislabelled, marks, label_number}
+use Rattle.dj_entries.specs.trusted.Entries.{Entry}
+use Rattle.dj_asm.specs.trusted.Files.{places_of}
+use Rattle.dj_entries.specs.trusted.Room.{NoLine}
 use Rattle.dj_asm.proofs.Deciding.{Is, stable, both, below, at_most, each}
 
 -- ---- counts
@@ -72,22 +72,22 @@ count_end : (label : Label) (body : List Line) → count_to label (body ++ End �
 count_end label [] = refl
 count_end label (line ∷ body) = ap (λ (k : ℕ). cond (not (marks label line)) (one_if line + k) 0) (count_end label body)
 
-abbrev pub coded_lines : ℕ → List ℕ → List ℕ → ℤ → ℤ → List Part → List Line
+abbrev pub coded_lines : ℕ → List ℕ → List ℕ → ℤ → ℤ → List BodyPart → List Line
 coded_lines flags name desc stack locals parts = method_lines (Coded flags name desc stack locals parts)
 
-pub method_number : (flags : ℕ) (name desc : List ℕ) (stack locals : ℤ) (parts : List Part) (label : Label)
+pub method_number : (flags : ℕ) (name desc : List ℕ) (stack locals : ℤ) (parts : List BodyPart) (label : Label)
     → label_number (coded_lines flags name desc stack locals parts) label ≡ label_number (body_lines parts) label
 method_number flags name desc stack locals parts label =
     let shift : 0 + (0 + (0 + count_to label (body_lines parts ++ End ∷ []))) ≡ count_to label (body_lines parts ++ End ∷ []) = omega arith in
     number_is (coded_lines flags name desc stack locals parts) label ∙ (shift ∙ (count_end label (body_lines parts) ∙ sym (number_is (body_lines parts) label)))
 
 -- labels have the same numbers
-pub same_places : (index : Entry → ℕ) (flags : ℕ) (name desc : List ℕ) (stack locals : ℤ) (parts : List Part)
+pub same_places : (index : Entry → ℕ) (flags : ℕ) (name desc : List ℕ) (stack locals : ℤ) (parts : List BodyPart)
     → places_of index (coded_lines flags name desc stack locals parts) ≡ places_of index (body_lines parts)
 same_places index flags name desc stack locals parts = λ i. record { number = λ label. method_number flags name desc stack locals parts label i; index = index }
 
 -- what a list of lines without method's lines has, its method has
-pub same_in : {X : Type 0} (of : Line → List X) (flags : ℕ) (name desc : List ℕ) (stack locals : ℤ) (parts : List Part)
+pub same_in : {X : Type 0} (of : Line → List X) (flags : ℕ) (name desc : List ℕ) (stack locals : ℤ) (parts : List BodyPart)
     → of (Method flags name desc) ≡ [] → of (Stack stack) ≡ [] → of (Locals locals) ≡ [] → of End ≡ []
     → flat_map of (coded_lines flags name desc stack locals parts) ≡ flat_map of (body_lines parts)
 same_in of flags name desc stack locals parts m s l e =

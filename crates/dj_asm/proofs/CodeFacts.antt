@@ -3,17 +3,17 @@ use Rattle.std.proofs.Common.{◌≡◌, ℕ, arith, true, false, pos, negsuc, L
 use Rattle.std.specs.List.{flat_map}
 use Rattle.dj_names.specs.declared.descriptor.Base.TheVariants as bases
 use Rattle.dj_names.specs.declared.descriptor.Of.TheVariants as ofs
-use Rattle.dj_names.specs.Descriptors.{Describes}
+use Rattle.dj_names.specs.trusted.Descriptors.{Describes}
 use Rattle.dj_names.specs.declared.descriptor.Desc.{Desc}
 use Rattle.dj_names.specs.declared.descriptor.Desc.TheVariants as descs
 use Rattle.dj_ops.specs.declared.instruction.Instr.TheVariants as instrs
 use Rattle.dj_ops.specs.declared.frames.VType.TheVariants as types
 use Rattle.dj_ops.specs.declared.frames.Form.TheVariants as forms
-use Rattle.dj_source.specs.Lines.{IntLiteral, StringLiteral, ClassLiteral, Object, New, Same, Stack1, Chop, Append, Full, Operation, Plain, Push, Local, Increment, Load, LoadLong, Jump, Table, Lookup, Member, Dynamic, ClassOf, Array, Multi, Labelled, Catch, Line, Beside, Framed, Does}
-use Rattle.dj_source.specs.Labels.{label_number}
-use Rattle.dj_entries.specs.Entries as entries
-use Rattle.dj_entries.specs.Entries.{Entry, index_of}
-use Rattle.dj_asm.specs.Codes.{Places, IsInstrOf, AreInstrsOf, ranges_in, simple_type, type_of, form_of, frames_in, stack_map_of}
+use Rattle.dj_source.specs.trusted.Lines.{IntLiteral, StringLiteral, ClassLiteral, Object, New, Same, Stack1, Chop, Append, Full, Operation, Plain, Push, Local, Increment, Load, LoadLong, Jump, Table, Lookup, Member, Dynamic, ClassOf, Array, Multi, Labelled, Catch, Line, Beside, Framed, Does}
+use Rattle.dj_source.specs.trusted.Labels.{label_number}
+use Rattle.dj_entries.specs.trusted.Entries as entries
+use Rattle.dj_entries.specs.trusted.Entries.{Entry, index_of}
+use Rattle.dj_asm.specs.trusted.Codes.{Places, IsInstrOf, AreInstrsOf, ranges_in, simple_type, type_of, form_of, frames_in, stack_map_of}
 
 abbrev a : List ℕ
 a = codes "a"

@@ -6,9 +6,9 @@ use Rattle.std.proofs.lemmas.Bool.{cases_lt, false≢true}
 use Rattle.std.proofs.lemmas.Int.{ints}
 use Rattle.dj_ops.specs.declared.instruction.Instr.{Instr}
 use Rattle.dj_ops.specs.declared.instruction.Instr.TheVariants as instrs
-use Rattle.dj_ops.specs.Forms.{Form, Bare, SignedByte, SignedShort, ShortLiteral, LongLiteral, Slot, ShortOffset, LongOffset, MemberIndex, ClassIndex, form_of}
-use Rattle.dj_ops.specs.Instructions.{IsPushed, IsOffset, IsLiteral, IsLocal, IsIncrement, IsTable, IsLookup, IsProper, IsFar, AreOffsets, offset}
-use Rattle.dj_ops.specs.Reading.{rises}
+use Rattle.dj_ops.specs.trusted.Forms.{Form, Bare, SignedByte, SignedShort, ShortLiteral, LongLiteral, Slot, ShortOffset, LongOffset, MemberIndex, ClassIndex, form_of}
+use Rattle.dj_ops.specs.trusted.Instructions.{IsPushed, IsOffset, IsLiteral, IsLocal, IsIncrement, IsTable, IsLookup, IsProper, IsFar, AreOffsets, offset}
+use Rattle.dj_ops.specs.trusted.Lookups.{rises}
 use Rattle.dj_ops.proofs.Rising.{rising_from, rises_if}
 
 abbrev pub Is : Type 0 → Type 0

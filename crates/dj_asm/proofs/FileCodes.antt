@@ -10,15 +10,15 @@ use Rattle.dj_ops.specs.declared.frames.VType.TheVariants as types
 use Rattle.dj_ops.specs.declared.frames.Frame as frames
 use Rattle.dj_labels.specs.declared.labelled.Protected.{Protected}
 use Rattle.dj_layout.specs.declared.laid.Laid.{Laid}
-use Rattle.dj_frames.specs.Written.{stack_map_bytes}
-use Rattle.dj_class.specs.ClassFile.{AttributeInfo}
-use Rattle.dj_class.specs.Code.{CodeInfo}
-use Rattle.dj_source.specs.Lines.{Label, FrameType, Object, Frame, Stack1, Append, Full, Operation, Load, LoadLong, Member, Dynamic, ClassOf, Multi, Catch, Line, Beside, Framed, Does, End}
-use Rattle.dj_source.specs.Sources.{Part, body_lines}
-use Rattle.dj_entries.specs.Entries.{Entry}
-use Rattle.dj_entries.specs.Needs.{member_entry, operation_entries, type_entries, types_entries, instruction_entries, catch_entries, stack_map_entries, frame_entries}
-use Rattle.dj_asm.specs.Codes.{Places, IsMemberInstr, is_interface_call, IsInstrOf, operation_in, AreInstrsOf, ranges_in, type_of, form_of, frames_in, stack_map_of, IsCodeOf}
-use Rattle.dj_asm.specs.Files.{places_of}
+use Rattle.dj_frames.specs.trusted.Written.{stack_map_bytes}
+use Rattle.dj_class.specs.trusted.ClassFile.{AttributeInfo}
+use Rattle.dj_class.specs.trusted.Code.{CodeInfo}
+use Rattle.dj_source.specs.trusted.Lines.{Label, FrameType, Object, Frame, Stack1, Append, Full, Operation, Load, LoadLong, Member, Dynamic, ClassOf, Multi, Catch, Line, Beside, Framed, Does, End}
+use Rattle.dj_source.specs.trusted.Sources.{BodyPart, body_lines}
+use Rattle.dj_entries.specs.trusted.Entries.{Entry}
+use Rattle.dj_entries.specs.trusted.Needs.{member_entry, operation_entries, type_entries, types_entries, instruction_entries, catch_entries, stack_map_entries, frame_entries}
+use Rattle.dj_asm.specs.trusted.Codes.{Places, IsMemberInstr, is_interface_call, IsInstrOf, operation_in, AreInstrsOf, ranges_in, type_of, form_of, frames_in, stack_map_of, IsCodeOf}
+use Rattle.dj_asm.specs.trusted.Files.{places_of}
 use Rattle.dj_entries.proofs.Members.{each_first, each_last}
 use Rattle.dj_asm.proofs.BodyLabels.{coded_lines, same_places, same_in}
 use Rattle.dj_asm.proofs.FileIndexes.{EachNeed, MethodHas, IsAlike}
@@ -131,11 +131,11 @@ frames_end places n (Framed frame ∷ lines) = ap (λ (l : List frames.Frame). f
 frames_end places n (Does operation ∷ lines) = frames_end places (n + 1) lines
 frames_end places n (line ∷ lines) = frames_end places n lines
 
-method_frames : (places : Places) (flags : ℕ) (name desc : List ℕ) (stack locals : ℤ) (parts : List Part) → frames_in places 0 (coded_lines flags name desc stack locals parts) ≡ frames_in places 0 (body_lines parts)
+method_frames : (places : Places) (flags : ℕ) (name desc : List ℕ) (stack locals : ℤ) (parts : List BodyPart) → frames_in places 0 (coded_lines flags name desc stack locals parts) ≡ frames_in places 0 (body_lines parts)
 unfolding frames_in
 method_frames places flags name desc stack locals parts = frames_end places 0 (body_lines parts)
 
-pub body_code : (index : Entry → ℕ) (flags : ℕ) (name desc : List ℕ) (stack locals : ℤ) (parts : List Part) (code : CodeInfo)
+pub body_code : (index : Entry → ℕ) (flags : ℕ) (name desc : List ℕ) (stack locals : ℤ) (parts : List BodyPart) (code : CodeInfo)
     → IsCodeOf (places_of index (coded_lines flags name desc stack locals parts)) stack locals (coded_lines flags name desc stack locals parts) code
     → IsCodeOf (places_of index (body_lines parts)) stack locals (body_lines parts) code
 body_code index flags name desc stack locals parts code is =

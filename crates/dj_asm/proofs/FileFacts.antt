@@ -1,20 +1,20 @@
 -- Whole files, at plain values.
 use Rattle.std.proofs.Common.{◌≡◌, pos, List, [], ◌∷◌, Some, None, codes, refl, arith}
 use Rattle.dj_ops.specs.declared.instruction.Instr.TheVariants as instrs
-use Rattle.dj_ops.specs.Forms.{form_of}
+use Rattle.dj_ops.specs.trusted.Forms.{form_of}
 use Rattle.dj_labels.specs.declared.labelled.Labelled.{Labelled}
 use Rattle.dj_layout.specs.declared.laid.Laid.{Laid}
-use Rattle.dj_layout.specs.Layouts.{IsLaidOut}
-use Rattle.dj_pool.specs.Pool as pool
-use Rattle.dj_pool.specs.Pool.{Constant, Utf8, indexed}
-use Rattle.dj_class.specs.ClassFile.{MemberInfo, ClassFile, class_bytes}
-use Rattle.dj_class.specs.Code.{CodeInfo}
-use Rattle.dj_source.specs.Lines.{LongValue, Plain}
-use Rattle.dj_source.specs.Sources.{Source, Step, Bodiless, Coded, body_lines}
-use Rattle.dj_entries.specs.Entries.{each_once, index_of}
-use Rattle.dj_entries.specs.Needs.{methods_needs, index_in}
-use Rattle.dj_asm.specs.Codes.{frames_in, IsCodeOf}
-use Rattle.dj_asm.specs.Files.{places_of, IsFileOf}
+use Rattle.dj_layout.specs.trusted.Layouts.{IsLaidOut}
+use Rattle.dj_pool.specs.trusted.Pool as pool
+use Rattle.dj_pool.specs.trusted.Pool.{Constant, Utf8, indexed}
+use Rattle.dj_class.specs.trusted.ClassFile.{MemberInfo, ClassFile, class_bytes}
+use Rattle.dj_class.specs.trusted.Code.{CodeInfo}
+use Rattle.dj_source.specs.trusted.Lines.{LongValue, Plain}
+use Rattle.dj_source.specs.trusted.Sources.{Source, Step, Bodiless, Coded, body_lines}
+use Rattle.dj_entries.specs.trusted.Entries.{each_once, index_of}
+use Rattle.dj_entries.specs.trusted.Needs.{methods_needs, index_in}
+use Rattle.dj_asm.specs.trusted.Codes.{frames_in, IsCodeOf}
+use Rattle.dj_asm.specs.trusted.Files.{places_of, IsFileOf}
 
 -- ---- a class that returns its input
 

@@ -2,25 +2,25 @@
 use Rattle.std.proofs.Common.{◌≡◌, ℕ, ◌+◌, ◌-◌, ◌<◌, ℤ, List, [], ◌∷◌, ◌++◌, length, map, take, drop, Option, Some, None, refl, sym, ap, ◌∙◌, subst, arith, append_assoc}
 use Rattle.std.specs.List.{flat_map, AllByRecursion, AllZip}
 use Rattle.std.proofs.lemmas.List.{take-append-drop, take-map, drop-map, take_rest, length-map}
-use Rattle.dj_bytes.specs.Spelling.{u2}
-use Rattle.dj_names.specs.Types.{Name}
-use Rattle.dj_class.specs.ClassFile.{AttributeInfo, MemberInfo, ClassFile, class_bytes}
-use Rattle.dj_class.specs.Code.{CodeInfo, code_info_bytes}
+use Rattle.dj_bytes.specs.trusted.Spelling.{u2}
+use Rattle.dj_names.specs.trusted.Types.{Name}
+use Rattle.dj_class.specs.trusted.ClassFile.{AttributeInfo, MemberInfo, ClassFile, class_bytes}
+use Rattle.dj_class.specs.trusted.Code.{CodeInfo, code_info_bytes}
 use Rattle.dj_source.specs.declared.syntax.Line as the_line
 use Rattle.dj_source.specs.LineViews.{line_view}
-use Rattle.dj_source.specs.Lines.{Value, Line, Class, Super, Implements, Field, Abstract, Beside, Does, End, Aside}
-use Rattle.dj_source.specs.Sources.{Source, FieldSource, Part, Mark, Step, FrameStep, MethodSource, Bodiless, Coded, version_lines, field_line, body_lines, method_lines, head_lines, lines_of}
-use Rattle.dj_source.specs.Labels.{label_number}
+use Rattle.dj_source.specs.trusted.Lines.{Value, Line, Class, Super, Implements, Field, Abstract, Beside, Does, End, Aside}
+use Rattle.dj_source.specs.trusted.Sources.{Source, FieldSource, BodyPart, Mark, Step, FrameStep, MethodSource, Bodiless, Coded, version_lines, field_line, body_lines, method_lines, head_lines, lines_of}
+use Rattle.dj_source.specs.trusted.Labels.{label_number}
 use Rattle.dj_source.specs.LabelReading.{sections_of, section_size}
 use Rattle.dj_source.proofs.Sections.{source_sections}
 use Rattle.dj_asm.specs.declared.heading.Heading.{Heading}
-use Rattle.dj_entries.specs.Entries as entries
-use Rattle.dj_entries.specs.Entries.{Entry, Utf8, pool_of}
-use Rattle.dj_entries.specs.Needs.{value_entry, value_entries, code_name, constant_value_name, head_entries, entries_of, index_in}
-use Rattle.dj_asm.specs.Codes.{IsCodeOf}
-use Rattle.dj_asm.specs.Files.{value_attribute, field_of, places_of, IsMethodOf, major_of, minor_of, class_index, IsFileOf}
-use Rattle.dj_asm.specs.Large.{IsTooLarge}
-use Rattle.dj_entries.specs.Room.{NoLine}
+use Rattle.dj_entries.specs.trusted.Entries as entries
+use Rattle.dj_entries.specs.trusted.Entries.{Entry, Utf8, pool_of}
+use Rattle.dj_entries.specs.trusted.Needs.{value_entry, value_entries, code_name, constant_value_name, head_entries, entries_of, index_in}
+use Rattle.dj_asm.specs.trusted.Codes.{IsCodeOf}
+use Rattle.dj_asm.specs.trusted.Files.{value_attribute, field_of, places_of, IsMethodOf, major_of, minor_of, class_index, IsFileOf}
+use Rattle.dj_asm.specs.trusted.Large.{IsTooLarge}
+use Rattle.dj_entries.specs.trusted.Room.{NoLine}
 use Rattle.dj_asm.specs.CodeBodies.{IsCodeBody}
 use Rattle.dj_entries.specs.Pooling.{found_index}
 use Rattle.dj_asm.specs.Assembling.{IsFitting, AreFileBytes}
@@ -201,7 +201,7 @@ module _ (index : Entry → ℕ) where
   asides_inside a bodies [] more = refl
   asides_inside a bodies (aside ∷ asides) more = asides_inside a bodies asides more
 
-  body_inside : (a : ℕ) (bodies : List (List ℕ)) (parts : List Part) (more : List Line) → members_in index a bodies (body_lines parts ++ more) ≡ members_in index a bodies more
+  body_inside : (a : ℕ) (bodies : List (List ℕ)) (parts : List BodyPart) (more : List Line) → members_in index a bodies (body_lines parts ++ more) ≡ members_in index a bodies more
   unfolding members_in
   body_inside a bodies [] more = refl
   body_inside a bodies (Mark aside ∷ parts) more = body_inside a bodies parts more
@@ -211,7 +211,7 @@ module _ (index : Entry → ℕ) where
       append_assoc (map Beside asides ++ Does operation ∷ []) (body_lines parts) more ∙ append_assoc (map Beside asides) (Does operation ∷ []) (body_lines parts ++ more) in
       ap (members_in index a bodies) whole ∙ (asides_inside a bodies asides (Does operation ∷ (body_lines parts ++ more)) ∙ body_inside a bodies parts more)
 
-  method_first : (a : ℕ) (body : List ℕ) (bodies : List (List ℕ)) (flags : ℕ) (name desc : Name) (stack locals : ℤ) (parts : List Part) (more : List Line)
+  method_first : (a : ℕ) (body : List ℕ) (bodies : List (List ℕ)) (flags : ℕ) (name desc : Name) (stack locals : ℤ) (parts : List BodyPart) (more : List Line)
       → members_in index a (body ∷ bodies) (method_lines (Coded flags name desc stack locals parts) ++ more) ≡ member_with index flags name desc (one_attribute a body) ∷ members_in index a bodies more
   unfolding members_in
   method_first a body bodies flags name desc stack locals parts more =
@@ -277,7 +277,7 @@ module _ (f g : Entry → ℕ) where
   }
 
   -- the code of a method
-  method_code : (flags : ℕ) (name desc : Name) (stack locals : ℤ) (parts : List Part) (code : CodeInfo) → MethodHas (IsAlike f g) (coded_lines flags name desc stack locals parts)
+  method_code : (flags : ℕ) (name desc : Name) (stack locals : ℤ) (parts : List BodyPart) (code : CodeInfo) → MethodHas (IsAlike f g) (coded_lines flags name desc stack locals parts)
       → IsCodeOf (places_of f (coded_lines flags name desc stack locals parts)) (first_told stack_at (coded_lines flags name desc stack locals parts)) (first_told locals_at (coded_lines flags name desc stack locals parts)) (coded_lines flags name desc stack locals parts) code
       → IsCodeOf (places_of g (body_lines parts)) stack locals (body_lines parts) code
   unfolding first_told

@@ -2,14 +2,14 @@
 use Rattle.std.proofs.Common.{◌≡◌, ℕ, ◌+◌, ◌<◌, ◌≤◌, ℤ, pos, Option, Some, None, List, [], ◌∷◌, ◌++◌, length, map, get_or, take, drop, sym, ap, ◌∙◌, subst, arith, append_assoc, append-nil}
 use Rattle.std.specs.List.{AllByRecursion, AllZip}
 use Rattle.std.proofs.lemmas.List.{drop-drop, drop-map, take-map, length-map, length-drop, drop_all, drop_more}
-use Rattle.dj_class.specs.ClassFile.{MemberInfo}
+use Rattle.dj_class.specs.trusted.ClassFile.{MemberInfo}
 use Rattle.dj_source.specs.declared.syntax.Line as the_line
-use Rattle.dj_source.specs.Lines.{Line}
+use Rattle.dj_source.specs.trusted.Lines.{Line}
 use Rattle.dj_source.specs.LineViews.{line_view}
 use Rattle.dj_source.specs.LabelReading.{sections_of, section_size}
 use Rattle.dj_source.proofs.Sections.{section_step}
 use Rattle.dj_asm.specs.declared.heading.Heading.{Heading}
-use Rattle.dj_entries.specs.Entries.{Entry}
+use Rattle.dj_entries.specs.trusted.Entries.{Entry}
 use Rattle.dj_asm.specs.Filing.{heading_with, heading_from, members_at, members_in, first_body, bodies_after, or_later, first_told, IsBody, MayHaveBody, MayHaveBodies, AreBodies}
 
 -- the line of an index, and those after it
@@ -49,7 +49,7 @@ pub members_end : (index : Entry → ℕ) (attribute : ℕ) (bodies : List (List
 unfolding members_in
 members_end index attribute bodies members lines i past = ap (λ ls. members ++ members_in index attribute bodies (map line_view ls)) (drop_all i lines past) ∙ append-nil members
 
--- the first line that tells a number
+-- the first line that gives a number
 pub told_here : (told : Line → Option ℤ) (lines : List the_line.Line) (i : ℕ) (line : the_line.Line) (n : ℤ) → i < length lines → line ≡ get_or lines i line → Some n ≡ told (line_view line)
     → n ≡ first_told told (map line_view (drop i lines))
 unfolding first_told

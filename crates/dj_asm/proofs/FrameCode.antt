@@ -8,21 +8,21 @@ use Rattle.std.proofs.lemmas.List.{length-map}
 use Rattle.std.proofs.lemmas.List.Elements.{All-from_recursion}
 use Rattle.std.proofs.lemmas.List.Kept.{AllPairs-cons}
 use Rattle.dj_ops.specs.declared.instruction.Instr.{Instr}
-use Rattle.dj_ops.specs.Instructions.{length_at}
+use Rattle.dj_ops.specs.trusted.Instructions.{length_at}
 use Rattle.dj_ops.specs.declared.frames.VType.{VType}
 use Rattle.dj_ops.specs.declared.frames.VType.TheVariants as types
 use Rattle.dj_ops.specs.declared.frames.Form.{Form}
 use Rattle.dj_ops.specs.declared.frames.Frame as frames
-use Rattle.dj_layout.specs.Places.{starts_from, end_from}
+use Rattle.dj_layout.specs.trusted.Places.{starts_from, end_from}
 use Rattle.dj_layout.proofs.Ends.{ends_after}
-use Rattle.dj_frames.specs.StackMaps.{IsType, types_of, HasCounts}
-use Rattle.dj_source.specs.Lines.{Label, FrameType, Simple, Object, New, Frame, Same, Stack1, Chop, Append, Full, IsFrame, IsSizedFrame, Line, Beside, Framed, Does, End, Operation, Aside}
-use Rattle.dj_source.specs.Sources.{Part, Mark, Step, FrameStep, body_lines}
-use Rattle.dj_source.specs.Labels.{instruction_count, type_uses, frame_uses}
-use Rattle.dj_entries.specs.Entries.{Entry, Class}
-use Rattle.dj_asm.specs.Codes.{Places, simple_type, type_of, form_of, frames_in}
-use Rattle.dj_asm.specs.Files.{places_of}
-use Rattle.dj_asm.specs.Large.{most_lines, HasTooMany, HasLongLists}
+use Rattle.dj_frames.specs.trusted.StackMaps.{IsType, types_of, HasCounts}
+use Rattle.dj_source.specs.trusted.Lines.{Label, FrameType, Simple, Object, New, Frame, Same, Stack1, Chop, Append, Full, IsFrame, IsSizedFrame, Line, Beside, Framed, Does, End, Operation, Aside}
+use Rattle.dj_source.specs.trusted.Sources.{BodyPart, Mark, Step, FrameStep, body_lines}
+use Rattle.dj_source.specs.trusted.Labels.{instruction_count, type_uses, frame_uses}
+use Rattle.dj_entries.specs.trusted.Entries.{Entry, Class}
+use Rattle.dj_asm.specs.trusted.Codes.{Places, simple_type, type_of, form_of, frames_in}
+use Rattle.dj_asm.specs.trusted.Files.{places_of}
+use Rattle.dj_asm.specs.trusted.Large.{most_lines, HasTooMany, HasLongLists}
 use Rattle.dj_entries.proofs.Members.{each_append, each_first, each_last}
 use Rattle.dj_asm.proofs.BodyLabels.{IsNumbered}
 
@@ -70,13 +70,13 @@ in_order_rise k (frame ∷ more) h =
     (in_order_rise (frame.at + 1) more h.1)
 
 -- how many instructions parts of a body have
-abbrev pub step_count : List Part → ℕ
+abbrev pub step_count : List BodyPart → ℕ
 step_count [] = 0
 step_count (Mark aside ∷ parts) = step_count parts
 step_count (Step operation ∷ parts) = 1 + step_count parts
 step_count (FrameStep frame asides operation ∷ parts) = 1 + step_count parts
 
--- the frames of parts whose first instruction has this number, in a body of so many instructions
+-- the frames of parts whose first instruction has this number, in a body of this many instructions
 pub record AreFramesFrom (k count most : ℕ) (fs : List frames.Frame) : Type 0 where
   pub in_order : AreInOrder k fs
   pub few : length fs ≤ count
@@ -91,7 +91,7 @@ past_asides places k (aside ∷ asides) operation xs ys = past_asides places k a
 one_less : (k count most : ℕ) → k + (1 + count) ≤ most → (k + 1) + count ≤ most
 one_less k count most le = omega (arith, le)
 
-pub part_frames : (places : Places) (most k : ℕ) (parts : List Part) → k + step_count parts ≤ most → AreFramesFrom k (step_count parts) most (frames_in places k (body_lines parts ++ End ∷ []))
+pub part_frames : (places : Places) (most k : ℕ) (parts : List BodyPart) → k + step_count parts ≤ most → AreFramesFrom k (step_count parts) most (frames_in places k (body_lines parts ++ End ∷ []))
 unfolding frames_in
 part_frames places most k [] le = record { in_order = tt; few = omega arith; within = tt }
 part_frames places most k (Mark aside ∷ parts) le = part_frames places most k parts le

@@ -8,28 +8,28 @@ use Rattle.std.proofs.lemmas.List.{length-append, length-map}
 use Rattle.std.proofs.lemmas.List.Concat.{flat_map-append}
 use Rattle.std.proofs.lemmas.Option.{same_Some, slice_get_within}
 use Rattle.dj_ops.specs.declared.instruction.Instr.{Instr}
-use Rattle.dj_labels.specs.Labels.{address_of}
-use Rattle.dj_labels.specs.Targets.{with_targets}
-use Rattle.dj_layout.specs.Places.{starts_from}
-use Rattle.dj_layout.specs.Layouts.{placed, most_bytes}
-use Rattle.dj_layout.specs.Faults.{Reaches}
+use Rattle.dj_labels.specs.trusted.Labels.{address_of}
+use Rattle.dj_labels.specs.trusted.Targets.{with_targets}
+use Rattle.dj_layout.specs.trusted.Places.{starts_from}
+use Rattle.dj_layout.specs.trusted.Layouts.{placed, most_bytes}
+use Rattle.dj_layout.specs.trusted.Faults.{Reaches}
 use Rattle.dj_layout.proofs.Ends.{starts_length}
 use Rattle.dj_source.specs.declared.syntax.Line as the_line
-use Rattle.dj_source.specs.Lines.{Frame, Full, Operation, Line, Framed, Does, End, IsOperation, IsLine, IsSized}
+use Rattle.dj_source.specs.trusted.Lines.{Frame, Full, Operation, Line, Framed, Does, End, IsOperation, IsLine, IsSized}
 use Rattle.dj_source.specs.LineViews.{line_view}
-use Rattle.dj_source.specs.Sources.{Source, method_lines, lines_of, IsSource}
-use Rattle.dj_source.specs.Labels.{AreMethodLines, instruction_count, label_number}
+use Rattle.dj_source.specs.trusted.Sources.{Source, method_lines, lines_of, IsSource}
+use Rattle.dj_source.specs.trusted.Labels.{AreMethodLines, instruction_count, label_number}
 use Rattle.dj_source.specs.LabelReading.{sections_of}
-use Rattle.dj_entries.specs.Entries.{Entry}
-use Rattle.dj_entries.specs.Needs.{needs_of, needed_entry, index_in, operation_entries}
-use Rattle.dj_entries.specs.Room.{HasRoom, IsPastPool}
+use Rattle.dj_entries.specs.trusted.Entries.{Entry}
+use Rattle.dj_entries.specs.trusted.Needs.{needs_of, needed_entry, index_in, operation_entries}
+use Rattle.dj_entries.specs.trusted.Room.{HasRoom, IsPastPool}
 use Rattle.dj_entries.specs.Pooling.{found_index}
 use Rattle.dj_entries.proofs.Members.{each_first, each_last, in_map}
 use Rattle.dj_entries.proofs.SourcePool.{room_or_not}
 use Rattle.dj_entries.proofs.FoundEntries.{found_with_room}
-use Rattle.dj_asm.specs.Codes.{Places, AreInstrsOf}
-use Rattle.dj_asm.specs.Files.{places_of}
-use Rattle.dj_asm.specs.Large.{IsMethodLine, IsImproper, IsFarJump, IsEndOfLongCode, most_lines, is_interface, is_field, is_method, is_catch, IsOneTooMany, count_before, IsPastTable, IsPastCatches, HasLongLists, IsLongFrame, IsTooLarge}
+use Rattle.dj_asm.specs.trusted.Codes.{Places, AreInstrsOf}
+use Rattle.dj_asm.specs.trusted.Files.{places_of}
+use Rattle.dj_asm.specs.trusted.Large.{IsMethodLine, IsImproper, IsFarJump, IsEndOfLongCode, most_lines, is_interface, is_field, is_method, is_catch, IsOneTooMany, count_before, IsPastTable, IsPastCatches, HasLongLists, IsLongFrame, IsTooLarge}
 use Rattle.dj_asm.specs.Assembling.{IsJudged, IsFirstBeside}
 use Rattle.dj_asm.specs.declared.counted.Kind.{Kind}
 use Rattle.dj_asm.specs.declared.counted.Kind.TheVariants as kinds

@@ -4,8 +4,8 @@ use Rattle.std.specs.Prelude.{int_lt}
 use Rattle.std.proofs.lemmas.Int.{ints}
 use Rattle.std.proofs.lemmas.List.{drop_all, drop_more}
 use Rattle.dj_names.specs.declared.descriptor.Desc.{Desc}
-use Rattle.dj_names.specs.Descriptors.{Describes, slots_of}
-use Rattle.dj_names.specs.DescReading.{desc_read}
+use Rattle.dj_names.specs.trusted.Descriptors.{Describes, slots_of}
+use Rattle.dj_names.specs.trusted.DescReading.{desc_read}
 use Rattle.dj_names.proofs.DescLaws.{desc_takes, desc_again}
 use Rattle.dj_source.specs.declared.targets.Pair as the_pair
 use Rattle.dj_source.specs.PairViews.{pair_view}

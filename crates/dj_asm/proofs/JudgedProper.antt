@@ -7,20 +7,20 @@ use Rattle.std.proofs.lemmas.Bool.Decides.{nat_tests}
 use Rattle.std.proofs.lemmas.Bool.{cases_lt, eqb-true, eq-eqb, and_parts, and_from, false≢true}
 use Rattle.std.proofs.lemmas.Int.{ints}
 use Rattle.std.proofs.lemmas.List.{length-map}
-use Rattle.dj_names.specs.Descriptors.{slots_of}
+use Rattle.dj_names.specs.trusted.Descriptors.{slots_of}
 use Rattle.dj_names.proofs.DescLaws.{desc_again}
 use Rattle.dj_ops.specs.declared.instruction.Instr.{Instr}
 use Rattle.dj_ops.specs.declared.instruction.Instr.TheVariants as instrs
-use Rattle.dj_ops.specs.Forms.{ShortLiteral, LongLiteral, MemberIndex, form_of}
-use Rattle.dj_ops.specs.Instructions.{IsLiteral, IsLocal, IsTable, IsLookup, IsProper}
-use Rattle.dj_ops.specs.Reading.{rises, rises_from}
+use Rattle.dj_ops.specs.trusted.Forms.{ShortLiteral, LongLiteral, MemberIndex, form_of}
+use Rattle.dj_ops.specs.trusted.Instructions.{IsLiteral, IsLocal, IsTable, IsLookup, IsProper}
+use Rattle.dj_ops.specs.trusted.Lookups.{rises, rises_from}
 use Rattle.dj_ops.proofs.Rising.{rising_from, rises_if}
-use Rattle.dj_source.specs.Lines.{Label, Operation, Plain, Push, Local, Increment, Load, LoadLong, Jump, Table, Lookup, Member, Dynamic, ClassOf, Array, Multi, IsFieldUse, IsMethodUse, IsOperation, IsSizedOperation, FitsBits, slot_bits}
-use Rattle.dj_entries.specs.Entries as entries
-use Rattle.dj_entries.specs.Entries.{Entry, width}
-use Rattle.dj_entries.specs.Needs.{literal_entry, member_entry, operation_entries}
-use Rattle.dj_asm.specs.Codes.{Places, target_of, IsMemberInstr, is_interface_call, IsInstrOf}
-use Rattle.dj_entries.specs.Room.{HasRoom}
+use Rattle.dj_source.specs.trusted.Lines.{Label, Operation, Plain, Push, Local, Increment, Load, LoadLong, Jump, Table, Lookup, Member, Dynamic, ClassOf, Array, Multi, IsFieldUse, IsMethodUse, IsOperation, IsSizedOperation, FitsBits, slot_bits}
+use Rattle.dj_entries.specs.trusted.Entries as entries
+use Rattle.dj_entries.specs.trusted.Entries.{Entry, width}
+use Rattle.dj_entries.specs.trusted.Needs.{literal_entry, member_entry, operation_entries}
+use Rattle.dj_asm.specs.trusted.Codes.{Places, target_of, IsMemberInstr, is_interface_call, IsInstrOf}
+use Rattle.dj_entries.specs.trusted.Room.{HasRoom}
 use Rattle.dj_entries.specs.Pooling.{found_index}
 use Rattle.dj_asm.specs.Judging.{rise_from, rise, is_lookup, is_table, are_many, has_many_slots, is_improper}
 use Rattle.dj_asm.proofs.JudgedSections.{lt_holds}

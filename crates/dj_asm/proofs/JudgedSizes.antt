@@ -9,19 +9,19 @@ use Rattle.std.proofs.lemmas.Int.{ints}
 use Rattle.std.proofs.lemmas.List.{length-map}
 use Rattle.dj_ops.specs.declared.instruction.Instr.{Instr}
 use Rattle.dj_ops.specs.declared.instruction.Instr.TheVariants as instrs
-use Rattle.dj_ops.specs.Forms.{SignedByte, SignedShort, ShortLiteral, LongLiteral, ShortOffset, LongOffset, form_of}
-use Rattle.dj_ops.specs.Instructions.{IsOffset, IsFar, AreOffsets, offset, signed_bytes, literal_bytes, length_at}
+use Rattle.dj_ops.specs.trusted.Forms.{SignedByte, SignedShort, ShortLiteral, LongLiteral, ShortOffset, LongOffset, form_of}
+use Rattle.dj_ops.specs.trusted.Instructions.{IsOffset, IsFar, AreOffsets, offset, signed_bytes, literal_bytes, length_at}
 use Rattle.dj_ops.proofs.Sizes.{table_length, lookup_length}
 use Rattle.dj_ops.proofs.FormFacts.{lone_opcode, opcode_below, short_form, long_form}
-use Rattle.dj_labels.specs.Targets.{with_targets}
-use Rattle.dj_labels.specs.Labels.{address_of, addressed}
-use Rattle.dj_layout.specs.Places.{starts_from, end_from}
-use Rattle.dj_layout.specs.Layouts.{placed}
-use Rattle.dj_source.specs.Lines.{Label, Operation, Plain, Push, Local, Increment, Load, LoadLong, Jump, Table, Lookup, Member, Dynamic, ClassOf, Array, Multi, Line, Does, IsOperation}
-use Rattle.dj_source.specs.Labels.{instruction_count}
-use Rattle.dj_entries.specs.Entries as entries
-use Rattle.dj_entries.specs.Needs.{member_entry}
-use Rattle.dj_asm.specs.Codes.{Places, target_of, IsMemberInstr, is_interface_call, IsInstrOf, AreInstrsOf}
+use Rattle.dj_labels.specs.trusted.Targets.{with_targets}
+use Rattle.dj_labels.specs.trusted.Labels.{address_of, addressed}
+use Rattle.dj_layout.specs.trusted.Places.{starts_from, end_from}
+use Rattle.dj_layout.specs.trusted.Layouts.{placed}
+use Rattle.dj_source.specs.trusted.Lines.{Label, Operation, Plain, Push, Local, Increment, Load, LoadLong, Jump, Table, Lookup, Member, Dynamic, ClassOf, Array, Multi, Line, Does, IsOperation}
+use Rattle.dj_source.specs.trusted.Labels.{instruction_count}
+use Rattle.dj_entries.specs.trusted.Entries as entries
+use Rattle.dj_entries.specs.trusted.Needs.{member_entry}
+use Rattle.dj_asm.specs.trusted.Codes.{Places, target_of, IsMemberInstr, is_interface_call, IsInstrOf, AreInstrsOf}
 use Rattle.dj_asm.specs.Judging.{wide_size, switch_size, size_at, starts_at, end_at, half_of, is_near, reaches, target, is_reached}
 use Rattle.dj_asm.proofs.BodyLabels.{count_cons}
 use Rattle.dj_asm.proofs.JudgedSections.{lt_holds}

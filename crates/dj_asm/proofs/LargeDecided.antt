@@ -7,19 +7,19 @@ use Rattle.std.proofs.lemmas.List.{length-append}
 use Rattle.std.proofs.lemmas.List.Concat.{flat_map-append}
 use Rattle.std.proofs.lemmas.Option.{slice_get_within}
 use Rattle.dj_ops.specs.declared.instruction.Instr.{Instr}
-use Rattle.dj_ops.specs.Instructions.{IsProper}
-use Rattle.dj_layout.specs.Places.{starts_from, end_from}
-use Rattle.dj_layout.specs.Layouts.{placed, most_bytes}
-use Rattle.dj_layout.specs.Faults.{Reaches}
-use Rattle.dj_source.specs.Lines.{Frame, Full, Operation, Line, Framed, Does, End, IsLine}
-use Rattle.dj_source.specs.Sources.{Source, MethodSource, head_lines, method_lines, lines_of, IsSource}
-use Rattle.dj_source.specs.Labels.{instruction_count}
-use Rattle.dj_entries.specs.Entries.{Entry, with_parts}
-use Rattle.dj_entries.specs.Needs.{Need, needs_at, needs, method_needs, methods_needs, needs_of, index_in, head_entries, instruction_entries, catch_entries, stack_map_entries, frame_entries}
-use Rattle.dj_asm.specs.Codes.{IsInstrOf, AreInstrsOf}
-use Rattle.dj_asm.specs.Files.{places_of}
-use Rattle.dj_entries.specs.Room.{HasRoom, IsPastPool}
-use Rattle.dj_asm.specs.Large.{IsMethodLine, IsImproper, IsFarJump, IsEndOfLongCode, most_lines, is_interface, is_field, is_method, is_catch, IsOneTooMany, count_before, IsPastTable, IsPastCatches, HasLongLists, IsLongFrame, IsTooLarge}
+use Rattle.dj_ops.specs.trusted.Instructions.{IsProper}
+use Rattle.dj_layout.specs.trusted.Places.{starts_from, end_from}
+use Rattle.dj_layout.specs.trusted.Layouts.{placed, most_bytes}
+use Rattle.dj_layout.specs.trusted.Faults.{Reaches}
+use Rattle.dj_source.specs.trusted.Lines.{Frame, Full, Operation, Line, Framed, Does, End, IsLine}
+use Rattle.dj_source.specs.trusted.Sources.{Source, MethodSource, head_lines, method_lines, lines_of, IsSource}
+use Rattle.dj_source.specs.trusted.Labels.{instruction_count}
+use Rattle.dj_entries.specs.trusted.Entries.{Entry, with_parts}
+use Rattle.dj_entries.specs.trusted.Needs.{Need, needs_at, needs, method_needs, methods_needs, needs_of, index_in, head_entries, instruction_entries, catch_entries, stack_map_entries, frame_entries}
+use Rattle.dj_asm.specs.trusted.Codes.{IsInstrOf, AreInstrsOf}
+use Rattle.dj_asm.specs.trusted.Files.{places_of}
+use Rattle.dj_entries.specs.trusted.Room.{HasRoom, IsPastPool}
+use Rattle.dj_asm.specs.trusted.Large.{IsMethodLine, IsImproper, IsFarJump, IsEndOfLongCode, most_lines, is_interface, is_field, is_method, is_catch, IsOneTooMany, count_before, IsPastTable, IsPastCatches, HasLongLists, IsLongFrame, IsTooLarge}
 use Rattle.dj_entries.proofs.Members.{each_in, each_append, each_first, each_last}
 use Rattle.dj_asm.proofs.Deciding.{Is, both, either, not_so, either_way, below, at_most, so, proper_or_not, offsets_or_not}
 use Rattle.dj_asm.proofs.OneFile.{one_instr, one_code}

@@ -9,32 +9,34 @@ use Rattle.dj_ops.specs.declared.instruction.Instr.{Instr}
 use Rattle.dj_ops.specs.declared.instruction.Instr.TheVariants as instrs
 use Rattle.dj_ops.specs.declared.frames.Frame as frames
 use Rattle.dj_ops.specs.declared.frames.Form.{Form}
-use Rattle.dj_ops.specs.Instructions.{IsProper}
+use Rattle.dj_ops.specs.trusted.Instructions.{IsProper}
 use Rattle.dj_labels.specs.declared.labelled.Labelled.{Labelled}
 use Rattle.dj_labels.specs.declared.labelled.Protected.{Protected}
-use Rattle.dj_labels.specs.Labels.{HasNumbers, IsRange, IsWellFormed, address_of}
+use Rattle.dj_labels.specs.trusted.Labels.{HasNumbers, IsRange, address_of}
+use Rattle.dj_labels.specs.Labels.{IsWellFormed}
 use Rattle.dj_layout.specs.declared.laid.Laid.{Laid}
-use Rattle.dj_layout.specs.Places.{starts_from, end_from}
-use Rattle.dj_layout.specs.Layouts.{placed, placed_bytes, most_bytes, IsLaidOut}
+use Rattle.dj_layout.specs.trusted.Places.{starts_from, end_from}
+use Rattle.dj_layout.specs.trusted.Layouts.{placed, placed_bytes, most_bytes, IsLaidOut}
 use Rattle.dj_layout.proofs.Ends.{starts_length, ends_after}
 use Rattle.dj_layout.proofs.Standing.{text_length}
-use Rattle.dj_frames.specs.StackMaps.{IsType, types_of, HasCounts, AreWellFormed}
+use Rattle.dj_frames.specs.trusted.StackMaps.{IsType, types_of, HasCounts}
+use Rattle.dj_frames.specs.StackMaps.{AreWellFormed}
 use Rattle.dj_frames.specs.StackMaps as maps
-use Rattle.dj_class.specs.Code.{code_info_bytes}
+use Rattle.dj_class.specs.trusted.Code.{code_info_bytes}
 use Rattle.dj_source.specs.declared.syntax.Line as the_line
 use Rattle.dj_source.specs.LineViews.{line_view}
-use Rattle.dj_source.specs.Lines as lines
-use Rattle.dj_source.specs.Lines.{Operation, Plain, Push, Local, Increment, Load, LoadLong, Jump, Table, Lookup, Member, ClassOf, Array, Multi, Frame, IsFrame, IsSizedFrame, Line, Framed, Does, End, IsLine, IsSized}
-use Rattle.dj_source.specs.Sources.{Source, Part, Mark, Step, FrameStep, MethodSource, Bodiless, Coded, head_lines, method_lines, body_lines, lines_of}
-use Rattle.dj_source.specs.Labels.{instruction_count, label_number, AreMethodLines, uses_of}
-use Rattle.dj_entries.specs.Entries.{Entry, same_entry, width, index_of}
-use Rattle.dj_entries.specs.Needs.{Need, needs, method_needs, methods_needs, needs_of, needed_entry, entries_of, index_in, literal_entry, member_entry, operation_entries, head_entries, instruction_entries, catch_entries, stack_map_entries, frame_entries}
+use Rattle.dj_source.specs.trusted.Lines as lines
+use Rattle.dj_source.specs.trusted.Lines.{Operation, Plain, Push, Local, Increment, Load, LoadLong, Jump, Table, Lookup, Member, ClassOf, Array, Multi, Frame, IsFrame, IsSizedFrame, Line, Framed, Does, End, IsLine, IsSized}
+use Rattle.dj_source.specs.trusted.Sources.{Source, BodyPart, Mark, Step, FrameStep, MethodSource, Bodiless, Coded, head_lines, method_lines, body_lines, lines_of}
+use Rattle.dj_source.specs.trusted.Labels.{instruction_count, label_number, AreMethodLines, uses_of}
+use Rattle.dj_entries.specs.trusted.Entries.{Entry, same_entry, width, index_of}
+use Rattle.dj_entries.specs.trusted.Needs.{Need, needs, method_needs, methods_needs, needs_of, needed_entry, entries_of, index_in, literal_entry, member_entry, operation_entries, head_entries, instruction_entries, catch_entries, stack_map_entries, frame_entries}
 use Rattle.dj_entries.specs.Keys.{most_next}
 use Rattle.dj_entries.specs.Pooling.{found_index}
-use Rattle.dj_asm.specs.Codes.{Places, is_interface_call, IsMemberInstr, IsInstrOf, operation_in, AreInstrsOf, ranges_in, form_of, frames_in, stack_map_of}
-use Rattle.dj_asm.specs.Files.{places_of}
-use Rattle.dj_entries.specs.Room.{HasRoom, IsPastPool, NoLine}
-use Rattle.dj_asm.specs.Large.{IsLongFrame, HasLongLists}
+use Rattle.dj_asm.specs.trusted.Codes.{Places, is_interface_call, IsMemberInstr, IsInstrOf, operation_in, AreInstrsOf, ranges_in, form_of, frames_in, stack_map_of}
+use Rattle.dj_asm.specs.trusted.Files.{places_of}
+use Rattle.dj_entries.specs.trusted.Room.{HasRoom, IsPastPool, NoLine}
+use Rattle.dj_asm.specs.trusted.Large.{IsLongFrame, HasLongLists}
 use Rattle.dj_asm.specs.CodeBodies.{IsProperIn, AreProperIn, CanBeCode, IsLaidFor, IsCodeBody}
 use Rattle.dj_asm.proofs.Deciding.{stable, proper_or_not}
 use Rattle.dj_entries.proofs.Members.{none_in, in_here, in_cases, in_flat_map, each_in, each_from}
@@ -141,7 +143,7 @@ asides_counted : (asides : List lines.Aside) (more : List Line) → instruction_
 asides_counted [] more = refl
 asides_counted (aside ∷ asides) more = let c = count_cons (lines.Beside aside) (map lines.Beside asides ++ more) in let m = asides_counted asides more in omega (arith, c, m)
 
-parts_counted : (parts : List Part) → instruction_count (body_lines parts) ≡ step_count parts
+parts_counted : (parts : List BodyPart) → instruction_count (body_lines parts) ≡ step_count parts
 parts_counted [] = refl
 parts_counted (Mark aside ∷ parts) = let c = count_cons (lines.Beside aside) (body_lines parts) in let m = parts_counted parts in omega (arith, c, m)
 parts_counted (Step operation ∷ parts) = let c = count_cons (Does operation) (body_lines parts) in let m = parts_counted parts in omega (arith, c, m)
@@ -154,7 +156,7 @@ parts_counted (FrameStep frame asides operation ∷ parts) =
     let last = count_cons (Does operation) [] in
     omega (arith, both, first, middle, last, m)
 
-steps_counted : (parts : List Part) → instruction_count (body_lines parts ++ End ∷ []) ≡ step_count parts
+steps_counted : (parts : List BodyPart) → instruction_count (body_lines parts ++ End ∷ []) ≡ step_count parts
 steps_counted parts =
     let both = count_append (body_lines parts) (End ∷ []) in
     let last = count_cons End [] in

@@ -1,8 +1,8 @@
 -- A text means one file at most.
 use Rattle.std.proofs.Common.{◌≡◌, ℕ, ◌+◌, ℤ, unsigned_abs, Bool, true, false, List, [], ◌∷◌, map, refl, sym, ap, ap₂, ◌∙◌, subst}
 use Rattle.std.specs.List.{flat_map, AllZip}
-use Rattle.dj_names.specs.Types.{Name}
-use Rattle.dj_names.specs.Descriptors.{slots_of}
+use Rattle.dj_names.specs.trusted.Types.{Name}
+use Rattle.dj_names.specs.trusted.Descriptors.{slots_of}
 use Rattle.dj_names.specs.declared.descriptor.Desc.{Desc}
 use Rattle.dj_names.proofs.DescLaws.{described_once}
 use Rattle.dj_ops.specs.declared.instruction.Instr.{Instr}
@@ -10,18 +10,18 @@ use Rattle.dj_ops.specs.declared.instruction.Instr.TheVariants as instrs
 use Rattle.dj_labels.specs.declared.labelled.Protected.{Protected}
 use Rattle.dj_labels.specs.declared.labelled.Labelled.{Labelled}
 use Rattle.dj_layout.specs.declared.laid.Laid.{Laid}
-use Rattle.dj_layout.specs.Layouts.{IsLaidOut}
+use Rattle.dj_layout.specs.trusted.Layouts.{IsLaidOut}
 use Rattle.dj_layout.proofs.Once.{one_layout_is}
-use Rattle.dj_class.specs.ClassFile.{MemberInfo, ClassFile, class_bytes}
-use Rattle.dj_class.specs.Code.{CodeInfo, code_info_bytes}
-use Rattle.dj_source.specs.Lines.{Operation, Member, Line}
-use Rattle.dj_source.specs.Sources.{Source, MethodSource, Bodiless, Coded, body_lines}
+use Rattle.dj_class.specs.trusted.ClassFile.{MemberInfo, ClassFile, class_bytes}
+use Rattle.dj_class.specs.trusted.Code.{CodeInfo, code_info_bytes}
+use Rattle.dj_source.specs.trusted.Lines.{Operation, Member, Line}
+use Rattle.dj_source.specs.trusted.Sources.{Source, MethodSource, Bodiless, Coded, body_lines}
 use Rattle.dj_source.proofs.OneSource.{one_source}
-use Rattle.dj_entries.specs.Entries.{Entry, Utf8, pool_of}
-use Rattle.dj_entries.specs.Needs.{member_entry, code_name, entries_of, index_in}
-use Rattle.dj_asm.specs.Codes.{Places, IsInterfaceCall, IsMemberInstr, is_interface_call, IsInstrOf, operation_in, AreInstrsOf, stack_map_of, frames_in, IsCodeOf}
-use Rattle.dj_asm.specs.Files.{field_of, places_of, IsMethodOf, major_of, minor_of, class_index, IsFileOf}
-use Rattle.dj_asm.specs.Texts.{IsTextOfBytes}
+use Rattle.dj_entries.specs.trusted.Entries.{Entry, Utf8, pool_of}
+use Rattle.dj_entries.specs.trusted.Needs.{member_entry, code_name, entries_of, index_in}
+use Rattle.dj_asm.specs.trusted.Codes.{Places, IsInterfaceCall, IsMemberInstr, is_interface_call, IsInstrOf, operation_in, AreInstrsOf, stack_map_of, frames_in, IsCodeOf}
+use Rattle.dj_asm.specs.trusted.Files.{field_of, places_of, IsMethodOf, major_of, minor_of, class_index, IsFileOf}
+use Rattle.dj_asm.specs.trusted.Texts.{IsTextOfBytes}
 
 -- ---- instructions
 

@@ -3,18 +3,18 @@ use Rattle.std.proofs.Common.{◌≡◌, ℕ, zero, suc, ◌+◌, ◌<◌, ◌�
 use Rattle.std.specs.List.{flat_map, AllByRecursion, AllZip}
 use Rattle.std.proofs.lemmas.List.{take_more, take_all, map-append, drop_more, drop_all}
 use Rattle.std.proofs.lemmas.List.Concat.{flat_map-append}
-use Rattle.dj_names.specs.Descriptors.{Describes, slots_of}
+use Rattle.dj_names.specs.trusted.Descriptors.{Describes, slots_of}
 use Rattle.dj_names.specs.declared.descriptor.Desc.{Desc}
 use Rattle.dj_ops.specs.declared.instruction.Instr.{Instr}
 use Rattle.dj_ops.specs.declared.instruction.Instr.TheVariants as instrs
-use Rattle.dj_ops.specs.Instructions.{IsProper}
+use Rattle.dj_ops.specs.trusted.Instructions.{IsProper}
 use Rattle.dj_ops.specs.declared.frames.Frame as frames
 use Rattle.dj_labels.specs.declared.labelled.Protected.{Protected}
 use Rattle.dj_source.specs.declared.syntax.Line as the_line
-use Rattle.dj_source.specs.Lines.{Operation, Line, Framed, Does}
+use Rattle.dj_source.specs.trusted.Lines.{Operation, Line, Framed, Does}
 use Rattle.dj_source.specs.LineViews.{line_view}
 use Rattle.dj_source.specs.LabelReading.{number_after}
-use Rattle.dj_asm.specs.Codes.{Places, IsInterfaceCall, IsInstrOf, operation_in, AreInstrsOf, ranges_in, frames_in}
+use Rattle.dj_asm.specs.trusted.Codes.{Places, IsInterfaceCall, IsInstrOf, operation_in, AreInstrsOf, ranges_in, frames_in}
 use Rattle.dj_asm.specs.CodeBodies.{IsProperIn, AreProperIn, HasOneMore, framed}
 use Rattle.dj_entries.proofs.Members.{each_first, each_last}
 

@@ -1,14 +1,14 @@
--- What the assembler's passes make of a source: the code's own words. No public clause cites them.
+-- What the assembler's passes make of a source; used by the code alone. No public clause cites these.
 use Rattle.std.specs.Prelude.{◌≡◌, ℕ, ◌<◌, List, [], map, Option, Some, None}
-use Rattle.dj_class.specs.ClassFile.{ClassFile, class_bytes}
-use Rattle.dj_source.specs.Lines.{Line}
-use Rattle.dj_source.specs.Sources.{Source, lines_of, IsSizedSource}
-use Rattle.dj_source.specs.Labels.{IsMislabelled}
-use Rattle.dj_entries.specs.Entries.{Entry}
-use Rattle.dj_entries.specs.Needs.{needs_of, needed_entry, entries_of}
-use Rattle.dj_asm.specs.Files.{IsFileOf}
-use Rattle.dj_entries.specs.Room.{IsPastPool, NoLine}
-use Rattle.dj_asm.specs.Large.{IsTooLarge}
+use Rattle.dj_class.specs.trusted.ClassFile.{ClassFile, class_bytes}
+use Rattle.dj_source.specs.trusted.Lines.{Line}
+use Rattle.dj_source.specs.trusted.Sources.{Source, lines_of, IsSizedSource}
+use Rattle.dj_source.specs.trusted.Labels.{IsMislabelled}
+use Rattle.dj_entries.specs.trusted.Entries.{Entry}
+use Rattle.dj_entries.specs.trusted.Needs.{needs_of, needed_entry, entries_of}
+use Rattle.dj_asm.specs.trusted.Files.{IsFileOf}
+use Rattle.dj_entries.specs.trusted.Room.{IsPastPool, NoLine}
+use Rattle.dj_asm.specs.trusted.Large.{IsTooLarge}
 use Rattle.dj_entries.specs.Pooling.{all_kept}
 
 -- ---- what is too large
@@ -20,7 +20,7 @@ pub record IsJudged (s : Source) (lines : List Line) (kept : List Entry) : Type 
   pub lines_are : lines ≡ lines_of s
   pub kept_is : kept ≡ all_kept [] (map needed_entry (needs_of s))
 
--- the first line that is too large, but for lines whose entries have no room
+-- the first line that is too large, lines whose entries have no room not counted
 abbrev pub IsFirstBeside : Source → Option ℕ → Type 0
 IsFirstBeside s (Some place) = IsTooLarge s place × ((earlier : ℕ) → earlier < place → IsTooLarge s earlier → IsPastPool s earlier)
 IsFirstBeside s None = (place : ℕ) → IsTooLarge s place → IsPastPool s place

@@ -1,22 +1,22 @@
--- The body of a method's Code attribute, and what the code's lists of instructions, ranges and frames are: the code's own words.
+-- The body of a method's Code attribute, and what the code's lists of instructions, ranges and frames are; used by the code alone.
 use Rattle.std.specs.Prelude.{◌≡◌, ⊤, ℕ, ℤ, List, [], ◌∷◌, ◌++◌}
 use Rattle.std.specs.List.{flat_map, AllByRecursion}
 use Rattle.dj_ops.specs.declared.instruction.Instr.{Instr}
 use Rattle.dj_ops.specs.declared.frames.Frame as frames
-use Rattle.dj_ops.specs.Instructions.{IsProper}
+use Rattle.dj_ops.specs.trusted.Instructions.{IsProper}
 use Rattle.dj_labels.specs.declared.labelled.Labelled.{Labelled}
 use Rattle.dj_layout.specs.declared.laid.Laid.{Laid}
-use Rattle.dj_layout.specs.Layouts.{IsLaidOut}
-use Rattle.dj_class.specs.Code.{CodeInfo, code_info_bytes}
-use Rattle.dj_source.specs.Lines.{Operation, Plain, Push, Local, Increment, Load, LoadLong, Dynamic, ClassOf, Array, Multi, Line, Framed, Does}
-use Rattle.dj_source.specs.Sources.{Source, IsSizedSource}
-use Rattle.dj_source.specs.Labels.{AreMethodLines, IsMislabelled}
-use Rattle.dj_entries.specs.Entries.{Entry}
-use Rattle.dj_entries.specs.Needs.{entries_of}
-use Rattle.dj_asm.specs.Codes.{Places, form_of, IsInstrOf, AreInstrsOf, ranges_in, IsCodeOf}
-use Rattle.dj_asm.specs.Files.{places_of}
-use Rattle.dj_asm.specs.Large.{IsTooLarge}
-use Rattle.dj_entries.specs.Room.{NoLine}
+use Rattle.dj_layout.specs.trusted.Layouts.{IsLaidOut}
+use Rattle.dj_class.specs.trusted.Code.{CodeInfo, code_info_bytes}
+use Rattle.dj_source.specs.trusted.Lines.{Operation, Plain, Push, Local, Increment, Load, LoadLong, Dynamic, ClassOf, Array, Multi, Line, Framed, Does}
+use Rattle.dj_source.specs.trusted.Sources.{Source, IsSizedSource}
+use Rattle.dj_source.specs.trusted.Labels.{AreMethodLines, IsMislabelled}
+use Rattle.dj_entries.specs.trusted.Entries.{Entry}
+use Rattle.dj_entries.specs.trusted.Needs.{entries_of}
+use Rattle.dj_asm.specs.trusted.Codes.{Places, form_of, IsInstrOf, AreInstrsOf, ranges_in, IsCodeOf}
+use Rattle.dj_asm.specs.trusted.Files.{places_of}
+use Rattle.dj_asm.specs.trusted.Large.{IsTooLarge}
+use Rattle.dj_entries.specs.trusted.Room.{NoLine}
 
 -- ---- instructions
 
@@ -29,7 +29,7 @@ IsAlone (Increment wide slot by) = ⊤
 IsAlone (Array base) = ⊤
 IsAlone operation = ⊥
 
--- an instruction that names one entry, fields and methods aside
+-- an instruction that names one entry, except fields and methods
 abbrev pub IsOfPool : Operation → Type 0
 IsOfPool (Load op literal) = ⊤
 IsOfPool (LoadLong n) = ⊤
@@ -51,7 +51,7 @@ HasOneMore places line before now = (body : List Line) → AreInstrsOf places bo
 
 -- ---- frames
 
--- the frame of a line, after so many instructions
+-- the frame of a line, after this many instructions
 abbrev pub framed : Places → ℕ → Line → List frames.Frame
 framed places number (Framed frame) = record { at = number; form = form_of places frame } ∷ []
 framed places number line = []

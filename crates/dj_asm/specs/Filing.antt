@@ -1,20 +1,20 @@
--- The parts of a class file that lines say, by the indexes of entries: the code's own words. No public clause cites them.
+-- The parts of a class file that lines mean, by the indexes of entries; used by the code alone. No public clause cites these.
 use Rattle.std.specs.Prelude.{◌≡◌, ℕ, ℤ, pos, Bool, true, false, unsigned_abs, List, [], ◌∷◌, ◌++◌, Option, Some, None, if◌then◌else◌}
 use Rattle.std.specs.List.{flat_map, AllByRecursion, AllZip}
-use Rattle.dj_bytes.specs.Spelling.{u2}
-use Rattle.dj_class.specs.ClassFile.{AttributeInfo, MemberInfo, ClassFile}
-use Rattle.dj_source.specs.Lines.{Line, Class, Version, Super, Implements, Field, Abstract, Method, Stack, Locals}
+use Rattle.dj_bytes.specs.trusted.Spelling.{u2}
+use Rattle.dj_class.specs.trusted.ClassFile.{AttributeInfo, MemberInfo, ClassFile}
+use Rattle.dj_source.specs.trusted.Lines.{Line, Class, Version, Super, Implements, Field, Abstract, Method, Stack, Locals}
 use Rattle.dj_source.specs.LabelReading.{sections_of}
 use Rattle.dj_asm.specs.declared.heading.Heading.{Heading}
-use Rattle.dj_entries.specs.Entries as entries
-use Rattle.dj_entries.specs.Entries.{Entry, pool_of}
-use Rattle.dj_entries.specs.Needs.{value_entry, code_name, constant_value_name}
+use Rattle.dj_entries.specs.trusted.Entries as entries
+use Rattle.dj_entries.specs.trusted.Entries.{Entry, pool_of}
+use Rattle.dj_entries.specs.trusted.Needs.{value_entry, code_name, constant_value_name}
 use Rattle.dj_asm.specs.CodeBodies.{CanBeCode, IsCodeBody}
 use Rattle.dj_entries.specs.Pooling.{found_index}
 
--- ---- what stands before the fields
+-- ---- what comes before the fields
 
--- where no version is told it is 52 0
+-- where the source has no version it is 52 0
 abbrev pub no_heading : Heading
 no_heading = record { minor = 0; major = 52; flags = 0; this_class = 0; super_class = 0 }
 
@@ -102,7 +102,7 @@ abbrev pub or_later : Option ℤ → ℤ → ℤ
 or_later (Some n) later = n
 or_later None later = later
 
--- the number of the first line that tells one, or 0
+-- the number of the first line that gives one, or 0
 unfoldable pub first_told : (Line → Option ℤ) → List Line → ℤ
 first_told told [] = pos 0
 first_told told (line ∷ lines) = or_later (told line) (first_told told lines)
@@ -136,7 +136,7 @@ AreBodies kept lines bodies = AllZip (IsBody kept) (sections_of lines) bodies
 
 -- ---- the file
 
--- its heading and interfaces are said by the lines before the methods
+-- its heading and interfaces come from the lines before the methods
 abbrev pub file_with : List Entry → List Line → List MemberInfo → List MemberInfo → ClassFile
 file_with kept head fields methods = record {
   minor = (heading_from (found_index kept) no_heading head).minor;
@@ -151,7 +151,7 @@ file_with kept head fields methods = record {
   attributes = [];
 }
 
--- of the lines before the methods and those of the methods, and the bodies of the attributes of both
+-- the class file of the lines before the methods and those of the methods, with the bodies of the attributes of both
 abbrev pub file_in : List Entry → (head methods : List Line) → (constants bodies : List (List ℕ)) → ClassFile
 file_in kept head methods constants bodies =
     file_with kept head (members_in (found_index kept) (found_index kept constant_value_name) constants head)

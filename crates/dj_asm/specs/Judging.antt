@@ -1,20 +1,20 @@
--- The judgement of lines: what is too large for a class file by anything but its entries, line by line, in the code's own words. No public clause
--- cites them; proofs/Judged says that what they find is too large, and that they find all that is.
+-- The judgement of lines, line by line: what is too large for a class file for another reason than its entries. Used by the code alone; no public clause
+-- cites it. proofs/Judged says that what it finds is too large, and that it finds all that is.
 use Rattle.std.specs.Prelude.{ℕ, ◌+◌, ◌-◌, ◌*◌, ◌<◌, ◌≤◌, ◌≡◌, ◌==◌, ◌&&◌, ◌||◌, Bool, true, false, not, ℤ, pos, unsigned_abs, ◌-ℤ◌, int_lt, nat_lt, nat_le, List, [], ◌∷◌, ◌++◌, length, map, take, drop, Option, Some, None, slice_get, slice_index, if◌then◌else◌}
 use Rattle.std.specs.List.{count_by, flat_map, list_all}
-use Rattle.dj_names.specs.Types.{Name}
-use Rattle.dj_names.specs.Descriptors.{slots_of}
+use Rattle.dj_names.specs.trusted.Types.{Name}
+use Rattle.dj_names.specs.trusted.Descriptors.{slots_of}
 use Rattle.dj_names.specs.declared.descriptor.Desc.{Desc}
-use Rattle.dj_names.specs.DescReading.{desc_read}
-use Rattle.dj_ops.specs.Instructions.{padding_count}
-use Rattle.dj_layout.specs.Layouts.{most_bytes}
-use Rattle.dj_source.specs.Lines.{Label, Frame, Full, Operation, Plain, Push, Local, Increment, Load, LoadLong, Jump, Table, Lookup, Member, Dynamic, ClassOf, Array, Multi, Line, Framed, Does, End}
-use Rattle.dj_source.specs.Labels.{instruction_count, label_number}
+use Rattle.dj_names.specs.trusted.DescReading.{desc_read}
+use Rattle.dj_ops.specs.trusted.Instructions.{padding_count}
+use Rattle.dj_layout.specs.trusted.Layouts.{most_bytes}
+use Rattle.dj_source.specs.trusted.Lines.{Label, Frame, Full, Operation, Plain, Push, Local, Increment, Load, LoadLong, Jump, Table, Lookup, Member, Dynamic, ClassOf, Array, Multi, Line, Framed, Does, End}
+use Rattle.dj_source.specs.trusted.Labels.{instruction_count, label_number}
 use Rattle.dj_source.specs.LabelReading.{sections_of}
-use Rattle.dj_entries.specs.Entries.{Entry}
-use Rattle.dj_entries.specs.Needs.{literal_entry}
-use Rattle.dj_asm.specs.Codes.{is_interface_call, operation_in}
-use Rattle.dj_asm.specs.Large.{most_lines, is_interface, is_field, is_method, is_catch}
+use Rattle.dj_entries.specs.trusted.Entries.{Entry}
+use Rattle.dj_entries.specs.trusted.Needs.{literal_entry}
+use Rattle.dj_asm.specs.trusted.Codes.{is_interface_call, operation_in}
+use Rattle.dj_asm.specs.trusted.Large.{most_lines, is_interface, is_field, is_method, is_catch}
 use Rattle.dj_entries.specs.Pooling.{found_index}
 use Rattle.dj_asm.specs.declared.counted.Kind.{Kind}
 use Rattle.dj_asm.specs.declared.counted.Kind.TheVariants as kinds
@@ -24,7 +24,7 @@ use Rattle.dj_asm.specs.declared.counted.Kind.TheVariants as kinds
 abbrev pub NoneBelow : (ℕ → Bool) → ℕ → Type 0
 NoneBelow test place = (earlier : ℕ) → earlier < place → test earlier ≡ false
 
--- of so many places
+-- of this many places
 abbrev pub IsFirstOf : (ℕ → Bool) → ℕ → Option ℕ → Type 0
 IsFirstOf test count (Some place) = (place < count) × (test place ≡ true) × NoneBelow test place
 IsFirstOf test count None = NoneBelow test count
@@ -46,7 +46,7 @@ is_kind kinds.Field = is_field
 is_kind kinds.Method = is_method
 is_kind kinds.Catch = is_catch
 
--- a line after so many of its kind
+-- a line after this many of its kind
 abbrev pub is_one_past : Kind → ℕ → Option Line → Bool
 is_one_past kind count None = false
 is_one_past kind count (Some line) = is_kind kind line && nat_le most_lines count
@@ -107,7 +107,7 @@ alone kept lines place = is_alone kept (slice_get lines place)
 abbrev pub wide_size : Bool → ℕ → ℕ → ℕ
 wide_size wide long short = if wide then long else short
 
--- a switch with so many bytes before the entries, and of so many entries
+-- a switch with this many bytes before the entries, and of this many entries
 abbrev pub switch_size : ℕ → ℕ → ℕ → ℕ → ℕ
 switch_size at head count each = 1 + padding_count at + head + count * each
 
@@ -128,7 +128,7 @@ size_at at (ClassOf op class) = 3
 size_at at (Array base) = 2
 size_at at (Multi desc dims) = 4
 
--- the addresses of instructions of which the first stands at this one, and the address after the last
+-- the addresses of instructions, of which the first is at this address, and the address after the last
 abbrev pub starts_at : ℕ → List Operation → List ℕ
 starts_at at [] = []
 starts_at at (operation ∷ operations) = at ∷ starts_at (at + size_at at operation) operations
@@ -145,7 +145,7 @@ pub record AreStarts (lines : List Line) (starts : List ℕ) (stop : ℕ) : Type
   pub starts_are : starts ≡ starts_at 0 (operations lines)
   pub stop_is : stop ≡ end_at 0 (operations lines)
 
--- after so many lines the next instruction starts at this address
+-- after this many lines the next instruction starts at this address
 pub record AreSoFar (lines : List Line) (place : ℕ) (starts : List ℕ) (at : ℕ) : Type 0 where
   pub starts_are : starts ++ starts_at at (operations (drop place lines)) ≡ starts_at 0 (operations lines)
   pub stop_is : end_at at (operations (drop place lines)) ≡ end_at 0 (operations lines)
@@ -175,7 +175,7 @@ is_reached number starts at (Table low labels default) = reaches_all number star
 is_reached number starts at (Lookup pairs default) = reaches_all number starts at default (map target pairs)
 is_reached number starts at operation = true
 
--- a jump that is far, or the end of long code, after so many instructions
+-- a jump that is far, or the end of long code, after this many instructions
 abbrev pub is_wide_line : (Label → ℕ) → List ℕ → ℕ → ℕ → Option Line → Bool
 is_wide_line number starts stop count (Some (Does operation)) = not (is_reached number starts (slice_index starts count) operation)
 is_wide_line number starts stop count (Some End) = nat_lt most_bytes stop
@@ -199,7 +199,7 @@ unfoldable pub in_sections : List (List Line) → ℕ → Bool
 in_sections [] place = false
 in_sections (section ∷ sections) place = in_first (is_large_in section) (length section) (in_sections sections) place
 
--- none of the first so many lines is large, and the sections of those after them decide of these
+-- none of the first n lines is large, and the sections of those after them decide of these
 pub record AreLeft (lines : List Line) (before : ℕ) : Type 0 where
   pub left : (place : ℕ) → in_sections (sections_of lines) (before + place) ≡ in_sections (sections_of (drop before lines)) place
   pub none : NoneBelow (in_sections (sections_of lines)) before

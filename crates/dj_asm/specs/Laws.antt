@@ -1,14 +1,14 @@
 -- Laws of texts: what they mean, and where they mean nothing.
 use Rattle.std.specs.Prelude.{◌≡◌, ℕ, ◌≤◌, ◌⊎◌, List, length}
-use Rattle.dj_class.specs.ClassFile.{ClassFile, IsClassFile}
+use Rattle.dj_class.specs.trusted.ClassFile.{ClassFile, IsClassFile}
 use Rattle.dj_source.specs.declared.error.AsmError.{AsmError}
-use Rattle.dj_asm.specs.Texts.{IsTextOfBytes, TextFault}
+use Rattle.dj_asm.specs.trusted.Texts.{IsTextOfBytes, TextFault}
 
--- a text means one file at most
+-- a text means at most one file
 abbrev pub OneFile : Type 0
 OneFile = (text b c : List ℕ) → IsTextOfBytes text b → IsTextOfBytes text c → b ≡ c
 
--- its first fault is one at most
+-- it has at most one first fault
 abbrev pub OneFault : Type 0
 OneFault = (text : List ℕ) (e f : AsmError) → TextFault text e → TextFault text f → e ≡ f
 

@@ -1,10 +1,7 @@
-pub mod Codes
-pub mod Files
-pub mod Large
-pub mod Texts
 pub mod Laws
 pub mod Answers
 pub mod Assembling
 pub mod CodeBodies
 pub mod Filing
 pub mod Judging
+pub mod trusted

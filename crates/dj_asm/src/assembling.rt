@@ -4,12 +4,12 @@ ghost use Rattle.dj_source.specs.declared.error.AsmError.{AsmError};
 ghost use Rattle.dj_source.specs.declared.error.AsmError.TheVariants as asm_errors;
 ghost use Rattle.dj_source.specs.LineViews.{line_view};
 ghost use Rattle.dj_source.specs.SourceLines.{AreLinesOf};
-ghost use Rattle.dj_source.specs.Sources.{Source, lines_of};
+ghost use Rattle.dj_source.specs.trusted.Sources.{Source, lines_of};
 ghost use Rattle.dj_entries.specs.Room.{IsFirst};
 ghost use Rattle.dj_entries.specs.PoolNeeds.{IsPoolOf};
-ghost use Rattle.dj_asm.specs.Large.{IsTooLarge};
+ghost use Rattle.dj_asm.specs.trusted.Large.{IsTooLarge};
 ghost use Rattle.dj_asm.specs.Assembling.{IsFitting, AreFileBytes};
-ghost use Rattle.dj_asm.specs.Texts.{IsTextOfBytes, TextFault};
+ghost use Rattle.dj_asm.specs.trusted.Texts.{IsTextOfBytes, TextFault};
 ghost use Rattle.dj_asm.specs.Answers.{IsAsmFault, Yields, GivesFile, least_of, large_at};
 
 use crate::file::write_file;
@@ -26,13 +26,13 @@ use std::alloc::Global;
 /// The text's first fault: of its words, else of its labels, else of what doesn't fit a class file.
 pub fn assemble(alloc: Global, text: &[u8]) -> Result<Bytes, AsmError>
     requires { length text.now ≤ 4294967294 }
-    // What is answered is what the text means.
+    // The answer is what the text means.
     ensures file { IfOk result (λ bytes. IsTextOfBytes text.now bytes) }
-    // Where the text means a file it is answered.
+    // Where the text means a file, that is the answer.
     ensures all_files { (bytes : List ℕ) → IsTextOfBytes text.now bytes → Yields result (Ok bytes) }
     // A refusal is the text's first fault.
     ensures refused { IfErr result (IsAsmFault text.now) }
-    // Where the text has a fault it is answered.
+    // Where the text has a fault, that is the answer.
     ensures all_refused { (e : AsmError) → TextFault text.now e → Yields result (Err e) }
 {
     file_of(alloc, text)
@@ -44,10 +44,8 @@ fn file_of(alloc: Global, text: &[u8]) -> Result<Bytes, AsmError>
     requires { length text.now ≤ 4294967294 }
     ensures { GivesFile text.now result }
 {
-    match read_source(alloc, text) {
-        Ok(read) => file_of_lines(alloc, &read),
-        Err(fault) => Err(fault),
-    }
+    let read = read_source(alloc, text)?;
+    file_of_lines(alloc, &read)
 }
 
 /// The lesser of two places, where there are two.
@@ -74,13 +72,11 @@ fn file_of_lines(alloc: Global, read: &SourceLines<'_>) -> Result<Bytes, AsmErro
     ensures { (text : List ℕ) → AreLinesOf text read.now → GivesFile text result }
 {
     let lines = read.lines();
-    match pool_of(alloc, lines) {
-        Ok((pool, lacking)) => fitting_file(alloc, read, &pool, lacking),
-        Err(_) => Err(AsmError::Memory),
-    }
+    let (pool, lacking) = pool_of(alloc, lines).or(Err(AsmError::Memory))?;
+    fitting_file(alloc, read, &pool, lacking)
 }
 
-/// The class file of the lines of a text, whose pool and first line without room in it these are.
+/// The class file of the lines of a text, with this pool and this first line without room in it.
 fn fitting_file(
     alloc: Global,
     read: &SourceLines<'_>,
@@ -92,10 +88,8 @@ fn fitting_file(
     requires pool { (s : Source) → read.now.lines ≡ lines_of s → IsPoolOf s pool.now lacking }
     ensures { (text : List ℕ) → AreLinesOf text read.now → GivesFile text result }
 {
-    match first_large(alloc, read.lines(), pool) {
-        Ok(large) => file_or_fault(alloc, read, pool, least_of(lacking, large)),
-        Err(_) => Err(AsmError::Memory),
-    }
+    let large = first_large(alloc, read.lines(), pool).or(Err(AsmError::Memory))?;
+    file_or_fault(alloc, read, pool, least_of(lacking, large))
 }
 
 /// The fault of the line at a place, which is too large.
@@ -108,7 +102,7 @@ fn large_at(read: &SourceLines<'_>, place: usize) -> AsmError
     }
 }
 
-/// The class file of the lines of a text, of which the one at a place is the first that is too large, or none is.
+/// The class file of the lines of a text, or the fault of the line at the place, which is the first that is too large, where there is one.
 fn file_or_fault(
     alloc: Global,
     read: &SourceLines<'_>,
@@ -125,15 +119,12 @@ fn file_or_fault(
     }
 }
 
-/// The class file of the lines of a text, in which all fits.
+/// The class file of the lines of a text, in which everything fits.
 fn written(alloc: Global, read: &SourceLines<'_>, pool: &PoolBuilder) -> Result<Bytes, AsmError>
     requires few { length read.now.lines < 2 ^ 32 }
     requires fitting { (s : Source) × IsFitting s read.now.lines pool.now }
     ensures file { IfOk result (λ bytes. (s : Source) → IsFitting s read.now.lines pool.now → AreFileBytes s bytes) }
     ensures memory { IfErr result (λ e. e ≡ asm_errors.Memory) }
 {
-    match write_file(alloc, read.lines(), pool) {
-        Ok(bytes) => Ok(bytes),
-        Err(_) => Err(AsmError::Memory),
-    }
+    write_file(alloc, read.lines(), pool).or(Err(AsmError::Memory))
 }

@@ -1,10 +1,10 @@
 //! The bodies of the attributes of fields and methods, one for each.
 ghost use Rattle.std.specs.Prelude.{◌≡◌, ◌<◌, ◌^◌, pos, option_map, [], ◌∷◌, ◌++◌, length, map, IfOk, OnOk};
 ghost use Rattle.std.specs.List.{flat_map};
-ghost use Rattle.dj_bytes.specs.Spelling.{u2};
+ghost use Rattle.dj_bytes.specs.trusted.Spelling.{u2};
 ghost use Rattle.dj_source.specs.LineViews.{line_view};
 ghost use Rattle.dj_source.specs.TypeViews.{value_view};
-ghost use Rattle.dj_entries.specs.Needs.{value_entry};
+ghost use Rattle.dj_entries.specs.trusted.Needs.{value_entry};
 ghost use Rattle.dj_entries.specs.Pooling.{found_index};
 ghost use Rattle.dj_asm.specs.Filing.{constant_bodies, stack_at, locals_at, first_told, begins_code, IsBody, MayHaveBody, MayHaveBodies, AreBodies};
 
@@ -20,13 +20,10 @@ fn constant_body(alloc: Global, pool: &PoolBuilder, value: Value<'_>) -> Result<
     ensures { IfOk result (λ bytes. bytes ≡ u2 (found_index pool.now (value_entry (value_view value.entry)))) }
 {
     let index = pool.value_index(alloc, value)?;
-    match Bytes::from_slice(alloc, &index.to_be_bytes()) {
-        Ok(bytes) => Ok(bytes),
-        Err(_) => Err(NoMemory::Memory),
-    }
+    Bytes::from_slice(alloc, &index.to_be_bytes()).or(Err(NoMemory::Memory))
 }
 
-/// Appends the body of a field's attribute, or none, where the line says a field.
+/// Appends the body of a field's attribute, or none, where the line is a field's.
 fn push_constant(
     alloc: Global,
     bodies: &mut Vec<Bytes>,

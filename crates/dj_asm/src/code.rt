@@ -1,13 +1,13 @@
 //! The body of a method's Code attribute.
 ghost use Rattle.std.specs.Prelude.{◌≡◌, ◌<◌, ◌^◌, ℕ, List, pos, length, map, IfOk};
-ghost use Rattle.dj_class.specs.Code.{CodeInfo, code_info_bytes};
+ghost use Rattle.dj_class.specs.trusted.Code.{CodeInfo, code_info_bytes};
 ghost use Rattle.dj_frames.specs.StackMaps.{AreWellFormed};
-ghost use Rattle.dj_frames.specs.Written.{stack_map_bytes};
-ghost use Rattle.dj_source.specs.Lines as lines;
+ghost use Rattle.dj_frames.specs.trusted.Written.{stack_map_bytes};
+ghost use Rattle.dj_source.specs.trusted.Lines as lines;
 ghost use Rattle.dj_source.specs.LineViews.{line_view};
 ghost use Rattle.dj_entries.specs.Pooling.{found_index};
-ghost use Rattle.dj_asm.specs.Codes.{frames_in, stack_map_of};
-ghost use Rattle.dj_asm.specs.Files.{places_of};
+ghost use Rattle.dj_asm.specs.trusted.Codes.{frames_in, stack_map_of};
+ghost use Rattle.dj_asm.specs.trusted.Files.{places_of};
 ghost use Rattle.dj_asm.specs.CodeBodies.{CanBeCode, IsLaidFor, IsCodeBody};
 
 use crate::frames::frames_of;
@@ -66,10 +66,7 @@ fn spelled(
         table,
         attributes,
     };
-    match write_code(alloc, &view) {
-        Ok(bytes) => Ok(bytes),
-        Err(_) => Err(NoMemory::Memory),
-    }
+    write_code(alloc, &view).or(Err(NoMemory::Memory))
 }
 
 /// The bytes of the attribute's body with these frames.
@@ -84,14 +81,9 @@ fn with_frames(
     requires { AreWellFormed laid.starts frames.now }
     ensures { IfOk result (λ bytes. (body : List lines.Line) → bytes ≡ code_info_bytes (record { max_stack = max_stack; max_locals = max_locals; code = laid.code; table = laid.table; attributes = stack_map_of (places_of (found_index pool.now) body) laid.starts frames.now })) }
 {
-    let map = match write_frames(alloc, frames, laid.starts.as_slice()) {
-        Ok(map) => map,
-        Err(_) => return Err(NoMemory::Memory),
-    };
-    match attributes_of(alloc, pool, frames, map.as_slice()) {
-        Ok(attributes) => spelled(alloc, max_stack, max_locals, laid, attributes),
-        Err(_) => Err(NoMemory::Memory),
-    }
+    let map = write_frames(alloc, frames, laid.starts.as_slice()).or(Err(NoMemory::Memory))?;
+    let attributes = attributes_of(alloc, pool, frames, map.as_slice()).or(Err(NoMemory::Memory))?;
+    spelled(alloc, max_stack, max_locals, laid, attributes)
 }
 
 /// The instructions and ranges of a method's lines, laid out.
@@ -109,11 +101,8 @@ fn laid_of(
     let code = instrs_of(alloc, lines, labels, pool)?;
     let ranges = ranges_of(alloc, lines, labels, pool)?;
     let labelled = Labelled { code, ranges };
-    match lay_out(alloc, &labelled) {
-        Ok(laid) => Ok(laid),
-        // What fits is refused for want of memory alone.
-        Err(_) => Err(NoMemory::Memory),
-    }
+    // Code that fits is refused only for want of memory.
+    lay_out(alloc, &labelled).or(Err(NoMemory::Memory))
 }
 
 /// The body of the Code attribute, by the labels of the lines.
@@ -132,13 +121,11 @@ fn body_of(
     ensures { IfOk result (λ bytes. IsCodeBody (found_index pool.now) (pos max_stack) (pos max_locals) (map line_view lines.now) bytes) }
 {
     let laid = laid_of(alloc, lines, labels, pool)?;
-    match frames_of(alloc, lines, labels, pool) {
-        Ok(frames) => with_frames(alloc, max_stack, max_locals, laid, &frames, pool),
-        Err(_) => Err(NoMemory::Memory),
-    }
+    let frames = frames_of(alloc, lines, labels, pool).or(Err(NoMemory::Memory))?;
+    with_frames(alloc, max_stack, max_locals, laid, &frames, pool)
 }
 
-/// The body of the Code attribute of a method with these lines (JVMS 4.7.3), and with so many places for operands and local variables.
+/// The body of the Code attribute of a method with these lines (JVMS 4.7.3), and with this many places for operands and local variables.
 pub(crate) fn code_body(
     alloc: Global,
     lines: &[Line<'_>],
@@ -150,8 +137,6 @@ pub(crate) fn code_body(
     requires can { CanBeCode pool.now (map line_view lines.now) }
     ensures { IfOk result (λ bytes. IsCodeBody (found_index pool.now) (pos max_stack) (pos max_locals) (map line_view lines.now) bytes) }
 {
-    match MethodLabels::of(alloc, lines) {
-        Ok(labels) => body_of(alloc, lines, &labels, max_stack, max_locals, pool),
-        Err(_) => Err(NoMemory::Memory),
-    }
+    let labels = MethodLabels::of(alloc, lines).or(Err(NoMemory::Memory))?;
+    body_of(alloc, lines, &labels, max_stack, max_locals, pool)
 }

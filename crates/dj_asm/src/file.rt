@@ -1,13 +1,13 @@
 //! The class file of lines.
 ghost use Rattle.std.specs.Prelude.{◌≡◌, ◌<◌, ◌^◌, length, map, IfOk};
-ghost use Rattle.dj_class.specs.ClassFile.{class_bytes};
+ghost use Rattle.dj_class.specs.trusted.ClassFile.{class_bytes};
 ghost use Rattle.dj_class.specs.Views.{class_of};
 ghost use Rattle.dj_pool.specs.Views.{constant_of};
 ghost use Rattle.dj_write.specs.Parts.{with_pool};
-ghost use Rattle.dj_entries.specs.Entries.{pool_of};
+ghost use Rattle.dj_entries.specs.trusted.Entries.{pool_of};
 ghost use Rattle.dj_source.specs.LineViews.{line_view};
-ghost use Rattle.dj_source.specs.Sources.{Source};
-ghost use Rattle.dj_entries.specs.Needs.{code_name, constant_value_name};
+ghost use Rattle.dj_source.specs.trusted.Sources.{Source};
+ghost use Rattle.dj_entries.specs.trusted.Needs.{code_name, constant_value_name};
 ghost use Rattle.dj_entries.specs.Pooling.{found_index};
 ghost use Rattle.dj_asm.specs.Assembling.{IsFitting, AreFileBytes};
 ghost use Rattle.dj_asm.specs.Filing.{members_in, file_with, file_in};
@@ -53,13 +53,10 @@ fn methods_of<'b>(
 fn bytes_of(alloc: Global, entries: &[Entry<'_>], view: &ClassView<'_>) -> Result<Bytes, NoMemory>
     ensures { IfOk result (λ bytes. bytes ≡ class_bytes (with_pool (map constant_of entries.now) (class_of view.now))) }
 {
-    match write_class_with(alloc, entries, view) {
-        Ok(bytes) => Ok(bytes),
-        Err(_) => Err(NoMemory::Memory),
-    }
+    write_class_with(alloc, entries, view).or(Err(NoMemory::Memory))
 }
 
-/// A class file of a heading and interfaces, which the lines before the methods say, and these fields and methods; its constants stand apart.
+/// A class file of a heading and interfaces, which are those of the lines before the methods, and these fields and methods; its constants are given apart.
 fn class_view<'b>(
     alloc: Global,
     pool: &'b PoolBuilder,

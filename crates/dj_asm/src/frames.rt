@@ -1,13 +1,13 @@
 //! The frames of a method's lines.
 ghost use Rattle.std.specs.Prelude.{◌≡◌, ◌<◌, ◌^◌, ◌+◌, ◌++◌, List, length, map, IfOk};
 ghost use Rattle.dj_ops.specs.declared.frames.VType.TheVariants as types;
-ghost use Rattle.dj_source.specs.Labels.{is_instruction};
+ghost use Rattle.dj_source.specs.trusted.Labels.{is_instruction};
 ghost use Rattle.dj_source.specs.TypeViews.{simple_word, type_view};
 ghost use Rattle.dj_source.specs.LineViews.{frame_view, line_view};
 ghost use Rattle.dj_source.specs.LabelReading.{number_after};
 ghost use Rattle.dj_entries.specs.Pooling.{found_index};
-ghost use Rattle.dj_asm.specs.Codes.{simple_type, type_of, form_of, frames_in};
-ghost use Rattle.dj_asm.specs.Files.{places_of};
+ghost use Rattle.dj_asm.specs.trusted.Codes.{simple_type, type_of, form_of, frames_in};
+ghost use Rattle.dj_asm.specs.trusted.Files.{places_of};
 ghost use Rattle.dj_asm.specs.CodeBodies.{framed};
 
 use dj_entries::PoolBuilder;
@@ -83,7 +83,7 @@ fn form_of(
     }
 }
 
-/// Appends the frame of a line, where it has one, after so many instructions.
+/// Appends the frame of a line, where it has one, after this many instructions.
 fn push_line(
     frames: &mut Frames,
     alloc: Global,

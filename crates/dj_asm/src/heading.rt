@@ -1,4 +1,4 @@
-//! What a class file says before its fields: the versions, the class, its superclass and its interfaces.
+//! What a class file has before its fields: the versions, the class, its superclass and its interfaces.
 ghost use Rattle.std.specs.Prelude.{◌≡◌, ◌++◌, map, IfOk, OnOk};
 ghost use Rattle.std.specs.List.{flat_map};
 ghost use Rattle.dj_source.specs.LineViews.{line_view};
@@ -20,7 +20,7 @@ pub(crate) struct Heading {
     pub(crate) super_class: u16,
 }
 
-/// The heading with what a line says.
+/// The heading with what a line adds to it.
 fn heading_with(pool: &PoolBuilder, before: Heading, line: &Line<'_>) -> Heading
     ensures { result ≡ heading_with (found_index pool.now) before (line_view line.now) }
 {
@@ -70,7 +70,7 @@ pub(crate) fn heading_of(pool: &PoolBuilder, lines: &[Line<'_>]) -> Heading
     heading
 }
 
-/// Appends the index of an interface, where the line says one.
+/// Appends the index of an interface, where the line names one.
 fn push_interface(
     indexes: &mut Indexes,
     pool: &PoolBuilder,

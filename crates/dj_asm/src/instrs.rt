@@ -3,18 +3,18 @@ ghost use Rattle.std.specs.Prelude.{◌≡◌, ℤ, List, pos, map, IfOk};
 ghost use Rattle.std.specs.List.{flat_map};
 ghost use Rattle.dj_ops.specs.declared.instruction.Instr.{Instr};
 ghost use Rattle.dj_ops.specs.declared.instruction.Instr.TheVariants as instrs;
-ghost use Rattle.dj_ops.specs.Instructions.{IsProper};
-ghost use Rattle.dj_source.specs.Lines as lines;
-ghost use Rattle.dj_source.specs.Lines.{Label};
-ghost use Rattle.dj_source.specs.Labels.{label_number};
+ghost use Rattle.dj_ops.specs.trusted.Instructions.{IsProper};
+ghost use Rattle.dj_source.specs.trusted.Lines as lines;
+ghost use Rattle.dj_source.specs.trusted.Lines.{Label};
+ghost use Rattle.dj_source.specs.trusted.Labels.{label_number};
 ghost use Rattle.dj_tokens.specs.Views.{units_of};
 ghost use Rattle.dj_source.specs.PairViews.{pair_view};
 ghost use Rattle.dj_source.specs.OperationViews.{operation_view};
 ghost use Rattle.dj_source.specs.LineViews.{line_view};
 ghost use Rattle.dj_entries.specs.Pooling.{found_index};
-ghost use Rattle.dj_entries.specs.Needs.{member_entry};
-ghost use Rattle.dj_asm.specs.Codes.{Places, is_interface_call, IsInterfaceCall, IsMemberInstr, IsInstrOf, AreInstrsOf, operation_in};
-ghost use Rattle.dj_asm.specs.Files.{places_of};
+ghost use Rattle.dj_entries.specs.trusted.Needs.{member_entry};
+ghost use Rattle.dj_asm.specs.trusted.Codes.{Places, is_interface_call, IsInterfaceCall, IsMemberInstr, IsInstrOf, AreInstrsOf, operation_in};
+ghost use Rattle.dj_asm.specs.trusted.Files.{places_of};
 ghost use Rattle.dj_asm.specs.CodeBodies.{IsAlone, IsOfPool, IsProperIn, AreProperIn, HasOneMore};
 
 use dj_entries::PoolBuilder;
@@ -54,11 +54,11 @@ fn pairs_of(
 ) -> Result<Pairs, OpsNoMemory>
     ensures { IfOk result (λ pairs. pairs ≡ map (λ (pair : ℤ × Label). (pair.0, pos (label_number labels.now pair.1))) (map pair_view list.now)) }
 {
-    let mut pairs = Pairs::new(alloc);
+    let mut pairs = Vec::new(alloc);
     for pair in list {
         pairs.push((pair.key, target_of(labels, pair.target)))?;
     }
-    Ok(pairs)
+    Ok(Pairs::from_vec(pairs))
 }
 
 /// A jump by a table.
@@ -71,14 +71,12 @@ fn table_of(
 ) -> Result<Instr, NoMemory>
     ensures { IfOk result (λ instr. instr ≡ instrs.Table (pos (label_number labels.now (units_of default.entry))) low (map (λ (label : Label). pos (label_number labels.now label)) (map units_of words.now))) }
 {
-    match targets_of(alloc, labels, words) {
-        Ok(targets) => Ok(Instr::Table {
-            default: target_of(labels, default),
-            low,
-            targets,
-        }),
-        Err(_) => Err(NoMemory::Memory),
-    }
+    let targets = targets_of(alloc, labels, words).or(Err(NoMemory::Memory))?;
+    Ok(Instr::Table {
+        default: target_of(labels, default),
+        low,
+        targets,
+    })
 }
 
 /// A jump by matches.
@@ -90,13 +88,11 @@ fn lookup_of(
 ) -> Result<Instr, NoMemory>
     ensures { IfOk result (λ instr. instr ≡ instrs.Lookup (pos (label_number labels.now (units_of default.entry))) (map (λ (pair : ℤ × Label). (pair.0, pos (label_number labels.now pair.1))) (map pair_view list.now))) }
 {
-    match pairs_of(alloc, labels, list) {
-        Ok(pairs) => Ok(Instr::Lookup {
-            default: target_of(labels, default),
-            pairs,
-        }),
-        Err(_) => Err(NoMemory::Memory),
-    }
+    let pairs = pairs_of(alloc, labels, list).or(Err(NoMemory::Memory))?;
+    Ok(Instr::Lookup {
+        default: target_of(labels, default),
+        pairs,
+    })
 }
 
 /// A call of an interface's method of this index, whose count is one more than the slots of the parameters.
@@ -105,14 +101,12 @@ fn interface_call(alloc: Global, index: u16, desc: &[u8]) -> Result<Instr, NoMem
     requires { (instr : Instr) → IsInterfaceCall index desc.now instr → IsProper instr }
     ensures { IfOk result (IsInterfaceCall index desc.now) }
 {
-    match read_desc(alloc, desc) {
-        Ok(described) => Ok(Instr::Interface {
-            index,
-            count: slots(&described) as u8 + 1,
-        }),
-        // The descriptor is one of a method.
-        Err(_) => Err(NoMemory::Memory),
-    }
+    // The descriptor is one of a method.
+    let described = read_desc(alloc, desc).or(Err(NoMemory::Memory))?;
+    Ok(Instr::Interface {
+        index,
+        count: slots(&described) as u8 + 1,
+    })
 }
 
 /// A field or a method of this index.
@@ -161,7 +155,7 @@ fn alone(operation: &Operation<'_>) -> Instr
     }
 }
 
-/// An instruction that names one entry, fields and methods aside.
+/// An instruction that names one entry, except fields and methods.
 fn of_pool(alloc: Global, pool: &PoolBuilder, operation: &Operation<'_>) -> Result<Instr, NoMemory>
     requires { IsOfPool (operation_view operation.now) }
     ensures { IfOk result (λ instr. (body : List lines.Line) → IsInstrOf (places_of (found_index pool.now) body) (operation_view operation.now) instr) }
@@ -260,10 +254,7 @@ fn push_line(
     match line {
         Line::Does(operation) => {
             let instr = instr_of(alloc, labels, pool, operation)?;
-            match instrs.push(instr) {
-                Ok(()) => Ok(()),
-                Err(_) => Err(NoMemory::Memory),
-            }
+            instrs.push(instr).or(Err(NoMemory::Memory))
         }
         Line::Class { .. }
         | Line::Version { .. }

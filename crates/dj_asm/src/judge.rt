@@ -1,8 +1,8 @@
-//! The first line of a source that is too large for a class file by anything but its entries.
+//! The first line of a source that is too large for a class file for another reason than its entries.
 ghost use Rattle.std.specs.Prelude.{◌≡◌, ◌<◌, ◌^◌, ℕ, length, map, IfOk};
 ghost use Rattle.dj_source.specs.LineViews.{line_view};
 ghost use Rattle.dj_source.specs.LabelReading.{sections_of};
-ghost use Rattle.dj_source.specs.Sources.{Source};
+ghost use Rattle.dj_source.specs.trusted.Sources.{Source};
 ghost use Rattle.dj_asm.specs.Assembling.{IsJudged, IsFirstBeside};
 ghost use Rattle.dj_asm.specs.Judging.{IsFirstOf, earliest, past_table, is_large_in, in_sections, is_judged};
 
@@ -81,7 +81,7 @@ fn first_judged(
     Ok(earliest(table, earliest(alone, section)))
 }
 
-/// The first line that is too large, but for lines whose entries have no room.
+/// The first line that is too large, lines whose entries have no room not counted.
 pub(crate) fn first_large(
     alloc: Global,
     lines: &[Line<'_>],

@@ -1,4 +1,4 @@
-//! The assembler: a text of lines and words means one class file, or its first fault is told.
+//! The assembler: a text of lines and words means one class file, or its first fault is reported.
 #![tactic(auto)]
 
 mod assembling;

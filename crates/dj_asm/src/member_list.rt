@@ -29,10 +29,7 @@ fn push_member<'b>(
         desc: pool.utf8_index(desc.as_slice()),
         attributes,
     };
-    match members.push(member) {
-        Ok(()) => Ok(()),
-        Err(_) => Err(NoMemory::Memory),
-    }
+    members.push(member).or(Err(NoMemory::Memory))
 }
 
 /// One attribute.
@@ -40,10 +37,10 @@ fn one_attribute<'b>(alloc: Global, name: u16, body: &'b [u8]) -> Result<Attribu
     ensures { IfOk result (λ attributes. attributes ≡ one_attribute name body.now) }
 {
     let mut attributes = Attributes::new(alloc);
-    match attributes.push(Attribute { name, body }) {
-        Ok(()) => Ok(attributes),
-        Err(_) => Err(NoMemory::Memory),
-    }
+    attributes
+        .push(Attribute { name, body })
+        .or(Err(NoMemory::Memory))?;
+    Ok(attributes)
 }
 
 /// The attributes of the field or method that begins with the line.

@@ -4,7 +4,7 @@ ghost use Rattle.dj_source.specs.PairViews.{pair_view};
 ghost use Rattle.dj_source.specs.OperationViews.{operation_view};
 ghost use Rattle.dj_source.specs.LineViews.{frame_view, line_view};
 ghost use Rattle.dj_source.specs.TypeViews.{literal_view};
-ghost use Rattle.dj_entries.specs.Needs.{literal_entry};
+ghost use Rattle.dj_entries.specs.trusted.Needs.{literal_entry};
 ghost use Rattle.dj_entries.specs.Pooling.{found_index};
 ghost use Rattle.dj_asm.specs.Judging.{IsFirstOf, is_long_frame, is_table, rise_from, rise, is_lookup, has_many_slots, is_improper, is_alone, alone};
 

@@ -2,14 +2,14 @@
 ghost use Rattle.std.specs.Prelude.{◌≡◌, ◌++◌, List, map, IfOk};
 ghost use Rattle.std.specs.Option.{option_map};
 ghost use Rattle.std.specs.List.{flat_map};
-ghost use Rattle.dj_source.specs.Lines as lines;
-ghost use Rattle.dj_source.specs.Labels.{label_number};
+ghost use Rattle.dj_source.specs.trusted.Lines as lines;
+ghost use Rattle.dj_source.specs.trusted.Labels.{label_number};
 ghost use Rattle.dj_tokens.specs.Views.{units_of};
 ghost use Rattle.dj_tokens.specs.Texts.{text_view};
 ghost use Rattle.dj_source.specs.LineViews.{line_view};
 ghost use Rattle.dj_entries.specs.Pooling.{found_index};
-ghost use Rattle.dj_asm.specs.Codes.{catch_index, ranges_in};
-ghost use Rattle.dj_asm.specs.Files.{places_of};
+ghost use Rattle.dj_asm.specs.trusted.Codes.{catch_index, ranges_in};
+ghost use Rattle.dj_asm.specs.trusted.Files.{places_of};
 
 use dj_entries::PoolBuilder;
 use dj_labels::{Protected, Ranges};
@@ -27,7 +27,7 @@ fn catch_index(pool: &PoolBuilder, class: &Option<Text<'_>>) -> u16
     }
 }
 
-/// How many instructions stand before a label.
+/// How many instructions come before a label.
 fn number_of(labels: &MethodLabels<'_, '_>, label: Word<'_>) -> u32
     ensures { result ≡ label_number labels.now (units_of label.entry) }
 {
@@ -69,10 +69,8 @@ fn push_line(
             handler,
         } => {
             let range = range_of(labels, *from, *to, *handler, catch_index(pool, class));
-            match ranges.push(range) {
-                Ok(()) => Ok(()),
-                Err(_) => Err(NoMemory::Memory),
-            }
+            ranges.push(range).or(Err(NoMemory::Memory))?;
+            Ok(())
         }
         Line::Class { .. }
         | Line::Version { .. }

@@ -1,7 +1,7 @@
 //! Jumps whose targets are too far away, and code that is too long.
 ghost use Rattle.std.specs.Prelude.{◌≡◌, ◌<◌, ◌^◌, Some, length, map, slice_index, IfOk};
 ghost use Rattle.std.specs.List.{list_all};
-ghost use Rattle.dj_source.specs.Labels.{is_instruction, label_number};
+ghost use Rattle.dj_source.specs.trusted.Labels.{is_instruction, label_number};
 ghost use Rattle.dj_tokens.specs.Views.{units_of};
 ghost use Rattle.dj_source.specs.PairViews.{pair_view};
 ghost use Rattle.dj_source.specs.OperationViews.{operation_view};
@@ -112,7 +112,7 @@ fn is_reached(
     }
 }
 
-/// Whether the line after so many instructions is a far jump, or the end of long code.
+/// Whether the line after this many instructions is a far jump, or the end of long code.
 fn is_wide_line(
     labels: &MethodLabels<'_, '_>,
     starts: &[u64],
@@ -189,11 +189,7 @@ pub(crate) fn first_wide_line(alloc: Global, lines: &[Line<'_>]) -> Result<Optio
     requires { length lines.now < 2 ^ 32 }
     ensures { IfOk result (λ first. IsFirstOf (wide_code (map line_view lines.now)) (length lines.now) first) }
 {
-    match MethodLabels::of(alloc, lines) {
-        Ok(labels) => {
-            let (starts, stop) = starts_of(alloc, lines)?;
-            Ok(first_wide(&labels, &starts, stop, lines))
-        }
-        Err(_) => Err(NoMemory::Memory),
-    }
+    let labels = MethodLabels::of(alloc, lines).or(Err(NoMemory::Memory))?;
+    let (starts, stop) = starts_of(alloc, lines)?;
+    Ok(first_wide(&labels, &starts, stop, lines))
 }

@@ -2,7 +2,7 @@
 ghost use Rattle.std.specs.Prelude.{◌≡◌, ◌+◌, ◌≤◌, [], ◌∷◌, map, IfOk, IfSome, IfNone};
 ghost use Rattle.dj_source.specs.OperationViews.{operation_view};
 ghost use Rattle.dj_source.specs.LineViews.{line_view};
-ghost use Rattle.dj_asm.specs.Codes.{operation_in};
+ghost use Rattle.dj_asm.specs.trusted.Codes.{operation_in};
 ghost use Rattle.dj_asm.specs.Judging.{wide_size, switch_size, size_at, half_of, AreStarts};
 
 use dj_pool::NoMemory;
@@ -22,7 +22,7 @@ fn wide_size(wide: bool, long: u64, short: u64) -> u64
     if wide { long } else { short }
 }
 
-/// The bytes of a switch with so many bytes before the entries, and of so many entries, where they can be counted.
+/// The bytes of a switch with this many bytes before the entries, and of this many entries, where they can be counted.
 fn switch_size(at: u64, head: u64, count: usize, each: u64) -> Option<u64>
     requires { head ≤ 12 }
     ensures { IfSome result (λ size. size ≡ switch_size at head count each) }

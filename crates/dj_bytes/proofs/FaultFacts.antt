@@ -1,6 +1,6 @@
 -- Faults at plain values, and where there is none.
 use Rattle.std.proofs.Common.{◌≡◌, ℕ, ◌<◌, [], ◌∷◌, refl, arith}
-use Rattle.dj_bytes.specs.Spelling.{u1}
+use Rattle.dj_bytes.specs.trusted.Spelling.{u1}
 use Rattle.dj_bytes.specs.Reading.{Cursor}
 use Rattle.dj_bytes.specs.Faults.{IsCut, IsDenied, IsAfter, IsAmong, IsLeft}
 

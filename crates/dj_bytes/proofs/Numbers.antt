@@ -1,17 +1,17 @@
--- Bytes and numbers: what is read is spelled so, what is spelled so is read, and what doesn't fit is told by its place.
+-- Bytes and numbers: what is read is spelled so, what is spelled so is read, and what doesn't fit is reported by its place.
 use Rattle.std.proofs.Common.{◌≡◌, ℕ, ◌+◌, ◌^◌, ◌<◌, ◌≤◌, false, ltb, List, [], ◌∷◌, length, take, drop, Ok, Err, refl, sym, ap, subst, subst₂, ap₂, ◌∙◌, arith}
 use Rattle.std.specs.Int.{Width, w8, w16, w32, w64, byte_len, from_be_bytes, to_be_bytes}
 use Rattle.std.proofs.lemmas.Bool.{ltb-true, ltb-false, le-ltb, lt-ltb}
 use Rattle.std.proofs.lemmas.List.{take_at, drop_at, take-append-drop, length-append, length-take}
 use Rattle.std.proofs.lemmas.Nat.{be_bytes_2, be_bytes_4, be_bytes_8, from_be_bytes-to_be_bytes_2, from_be_bytes-to_be_bytes_4, from_be_bytes-to_be_bytes_8}
 use Rattle.dj_bytes.specs.declared.cursor.Cut.{Cut}
-use Rattle.dj_bytes.specs.Spelling.{u1, u2, u4, u8}
+use Rattle.dj_bytes.specs.trusted.Spelling.{u1, u2, u4, u8}
 use Rattle.dj_bytes.specs.Reading.{Cursor, bytes_at, number_at, block_at, u1_at, u2_at, u4_at, u8_at}
 use Rattle.dj_bytes.proofs.Bytes.{IsBytes, IsBytes-before}
 use Rattle.dj_bytes.proofs.Steps.{bind_ok, bind_again, bind_err, bind_fails, cond_either, cond_true, cond_false}
 use Rattle.dj_bytes.proofs.Spans.{Spans, Reads, Reads-spelled, lifted_reads}
 
--- ---- so many bytes
+-- ---- this many bytes
 
 pub bytes_reads : (n : ℕ) → Reads (bytes_at n) (λ t. t) (λ t. length t ≡ n)
 bytes_reads n = record {
@@ -34,7 +34,7 @@ bytes_reads n = record {
 
 -- ---- numbers
 
--- numbers of this width are spelled by so many bytes, each number in one way, and are below the limit
+-- numbers of this width are spelled by this many bytes, each number in one way, and are below the limit
 pub record IsWide (w : Width) (limit : ℕ) : Type 0 where
   pub len : (n : ℕ) → length (to_be_bytes w n) ≡ byte_len w
   pub back : (bytes : List ℕ) → length bytes ≡ byte_len w → IsBytes bytes → to_be_bytes w (from_be_bytes w bytes) ≡ bytes
@@ -116,7 +116,7 @@ u8_reads cut = lifted_reads (λ x. cut x.0) (number_reads w64 (2 ^ 64) wide64)
 
 -- ---- what doesn't fit
 
--- a cut is told where so many bytes don't fit
+-- a cut is reported where this many bytes don't fit
 pub bytes_cut : (n : ℕ) (c : Cursor) (e : Cut) → bytes_at n c ≡ Err e → (length c.rest < n) × (e.0 ≡ c.place)
 bytes_cut n c e h =
     cond_either (ltb (length c.rest) n) _ _ h

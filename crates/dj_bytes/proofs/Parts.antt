@@ -1,7 +1,7 @@
 -- Many parts, and tables: what is read is spelled so, what is spelled so is read, and where reading stops.
 use Rattle.std.proofs.Common.{◌≡◌, ℕ, zero, suc, ◌^◌, ◌<◌, List, [], ◌∷◌, ◌++◌, length, Result, Ok, Err, refl, sym, ap, subst, ◌∙◌, arith}
 use Rattle.std.specs.List.{flat_map, AllByRecursion}
-use Rattle.dj_bytes.specs.Spelling.{u2, table_bytes}
+use Rattle.dj_bytes.specs.trusted.Spelling.{u2, table_bytes}
 use Rattle.dj_bytes.specs.Reading.{Cursor, many_at, table_at}
 use Rattle.dj_bytes.specs.Faults.{AreFew}
 use Rattle.dj_bytes.proofs.Bytes.{IsBytes}
@@ -62,7 +62,7 @@ table_reads cut {part} {bytes_of} {P} reads = record { takes = table_takes cut p
 
 -- ---- where reading many parts stops
 
--- after fewer good parts than so many, the next part fails
+-- after fewer good parts than this many, the next part fails
 pub record Stops {A E : Type 0} (part : Cursor → Result (A × Cursor) E) (bytes_of : A → List ℕ) (IsGood : A → Type 0) (n : ℕ) (c : Cursor) (e : E) : Type 0 where
   pub front : List A
   pub mid : Cursor

@@ -1,15 +1,15 @@
--- What is faulty where a reader stands: the first item that is not there whole, or that its place does not allow. A fault is a relation between where
--- the reader stands and what is told; an item before the faulty one is whole and good.
+-- What is faulty at a place: the first item that is not there whole, or that its place does not allow. A fault is a relation between the place
+-- and what is reported; the items before the faulty one are whole and good.
 use Rattle.std.specs.Prelude.{◌≡◌, ℕ, ◌+◌, ◌^◌, ◌<◌, ◌⊎◌, List, [], ◌++◌, length}
 use Rattle.std.specs.List.{flat_map, AllByRecursion}
-use Rattle.dj_bytes.specs.Spelling.{u2}
+use Rattle.dj_bytes.specs.trusted.Spelling.{u2}
 use Rattle.dj_bytes.specs.Reading.{Cursor}
 
--- where the reader stands after these bytes, with this left
+-- where the reader is after these bytes, with this left
 abbrev pub after : Cursor → List ℕ → List ℕ → Cursor
 after c bytes rest = record { place = c.place + length bytes; rest = rest }
 
--- an item of so many bytes begins here, and not all of them are there
+-- an item of this many bytes begins here, and not all of them are there
 pub record IsCut {E : Type 0} (cut : ℕ → E) (n : ℕ) (c : Cursor) (e : E) : Type 0 where
   pub short : length c.rest < n
   pub told : e ≡ cut c.place
@@ -31,7 +31,7 @@ pub record IsAfter {A E : Type 0} (bytes_of : A → List ℕ) (IsGood : A → Ty
   pub good : IsGood value
   pub fault : Fault value (after c (bytes_of value) rest) e
 
--- good parts begin here, fewer than so many, and the next is faulty
+-- good parts begin here, fewer than this many, and the next is faulty
 pub record IsAmong {A E : Type 0} (bytes_of : A → List ℕ) (IsGood : A → Type 0) (Fault : Cursor → E → Type 0) (n : ℕ) (c : Cursor) (e : E) : Type 0 where
   pub front : List A
   pub rest : List ℕ
@@ -52,11 +52,11 @@ Fits2 n = n < 2 ^ 16
 abbrev pub Fits4 : ℕ → Type 0
 Fits4 n = n < 2 ^ 32
 
--- as many as a count of two bytes can tell, each of them good
+-- as many parts as a count of two bytes can count, each of them good
 abbrev pub AreFew : {A : Type 0} → (A → Type 0) → List A → Type 0
 AreFew IsGood parts = (length parts < 2 ^ 16) × AllByRecursion IsGood parts
 
--- a table: its count of two bytes is cut, or one of so many parts is faulty
+-- a table: its count of two bytes is cut, or one of this many parts is faulty
 abbrev pub InTable : {A E : Type 0} → (ℕ → E) → (A → List ℕ) → (A → Type 0) → (Cursor → E → Type 0) → Cursor → E → Type 0
 InTable cut bytes_of IsGood Fault = InTurn (IsCut cut 2) u2 Fits2 (IsAmong bytes_of IsGood Fault)
 

@@ -1,6 +1,6 @@
-pub mod Spelling
 pub mod Steps
 pub mod Options
 pub mod Reading
 pub mod Faults
 pub mod Views
+pub mod trusted

@@ -1,10 +1,10 @@
--- Reading lists of bytes from left to right: the first item that doesn't fit is told by its place.
+-- Reading lists of bytes from left to right: the first item that doesn't fit is reported by its place.
 use Rattle.std.specs.Prelude.{ℕ, zero, suc, ◌+◌, ◌==◌, Bool, List, [], ◌∷◌, length, take, drop, Result, Ok, Err, nat_lt, if◌then◌else◌}
 use Rattle.std.specs.Int.{Width, w8, w16, w32, w64, byte_len, from_be_bytes}
 use Rattle.dj_bytes.specs.declared.cursor.Cut.{Cut}
 use Rattle.dj_bytes.specs.Steps.{◌>>=◌, lifted}
 
--- where a reader stands: a place, and the bytes from there on
+-- where a reader is: a place, and the bytes from there on
 pub record Cursor : Type 0 where
   pub place : ℕ
   pub rest : List ℕ
@@ -23,7 +23,7 @@ at_end c = length c.rest == 0
 
 -- ---- bytes and numbers
 
--- so many bytes
+-- this many bytes
 abbrev pub bytes_at : ℕ → Cursor → Result (List ℕ × Cursor) Cut
 bytes_at n c =
     if nat_lt (length c.rest) n then Err (record { 0 = c.place })
@@ -54,7 +54,7 @@ u8_at cut c = lifted (λ x. cut x.0) (number_at w64 c)
 
 -- ---- parts
 
--- so many parts, one after the other
+-- this many parts, one after the other
 unfoldable pub many_at : {A E : Type 0} → (Cursor → Result (A × Cursor) E) → ℕ → Cursor → Result (List A × Cursor) E
 many_at part zero c = Ok ([], c)
 many_at part (suc n) c = do
@@ -62,7 +62,7 @@ many_at part (suc n) c = do
   others ← many_at part n first.1
   Ok (first.0 ∷ others.0, others.1)
 
--- a count of two bytes, and so many parts
+-- a count of two bytes, and this many parts
 unfoldable pub table_at : {A E : Type 0} → (ℕ → E) → (Cursor → Result (A × Cursor) E) → Cursor → Result (List A × Cursor) E
 table_at cut part c = do
   count ← u2_at cut c

@@ -4,7 +4,7 @@ ghost use Rattle.std.specs.Prelude.{◌≡◌, ℕ, ◌+◌, ◌^◌, ◌<◌, l
 #[derive(Clone, Copy)]
 pub struct Cut(pub u32);
 
-/// Where a reader stands: a place, and the bytes from there on.
+/// Where a reader is: a place, and the bytes from there on.
 #[derive(Clone, Copy)]
 pub struct Cursor<'a> {
     pub rest: &'a [u8],
@@ -48,7 +48,7 @@ impl<'a> Cursor<'a> {
         self.rest.is_empty()
     }
 
-    /// So many bytes.
+    /// This many bytes.
     pub fn bytes_at(self, len: u32) -> Result<(&'a [u8], Cursor<'a>), Cut>
         ensures { Gives never (λ x. (x.0.now, cursor_of x.1)) result
             (bytes_at len (cursor_of self.entry)) }

@@ -9,11 +9,11 @@ use Rattle.dj_names.specs.declared.descriptor.Kind.{Kind}
 use Rattle.dj_names.specs.declared.descriptor.Kind.TheVariants as kinds
 use Rattle.dj_names.specs.declared.run.Value.{Value}
 use Rattle.dj_names.specs.declared.run.Value.TheVariants as values
-use Rattle.dj_names.specs.Values.{value_kind}
+use Rattle.dj_names.specs.trusted.Values.{value_kind}
 use Rattle.dj_names.specs.declared.native.NativeId.{NativeId}
 use Rattle.dj_heap.specs.Heaps.{LimitedHeap, object_in}
-use Rattle.dj_model.specs.Natives.{reference}
-use Rattle.dj_model.specs.Numbers.{is_of_kind}
+use Rattle.dj_model.specs.trusted.Natives.{reference}
+use Rattle.dj_model.specs.trusted.Numbers.{is_of_kind}
 use Rattle.dj_calls.specs.Known.{AreArguments, IsOfChars}
 use Rattle.dj_call_tests.specs.Arguments.{IsTaken}
 
@@ -28,7 +28,7 @@ kind_is kinds.Ref (values.Int z) e = absurd cc
 kind_is kinds.Ref (values.Long z) e = absurd cc
 kind_is kinds.Ref (values.Ref r) e = refl
 
--- the first so many values are of these kinds
+-- the first n values are of these kinds
 abbrev pub AreOfKinds : List Value → List Kind → ℕ → Type 0
 AreOfKinds vs ks n = (k : ℕ) (v : Value) (kind : Kind) → k < n → slice_get vs k ≡ Some v → slice_get ks k ≡ Some kind → value_kind v ≡ kind
 

@@ -6,15 +6,15 @@ use Rattle.std.proofs.lemmas.Bool.{cases_lt, ltb-true, ne_eqb}
 use Rattle.std.proofs.lemmas.List.Elements.{All-from_recursion, All-get_or}
 use Rattle.std.proofs.lemmas.Option.{none-some, same_Some, slice_get_within, get_or_from_slice_get}
 use Rattle.dj_names.specs.declared.descriptor.Ty.{Ty}
-use Rattle.dj_names.specs.Types.{class_type, component_type}
+use Rattle.dj_names.specs.trusted.Types.{class_type, component_type}
 use Rattle.dj_names.specs.declared.run.Element.{Element}
 use Rattle.dj_names.specs.declared.run.Element.TheVariants as elements
-use Rattle.dj_names.specs.Heaps.{Object, Instance, Array, Text, class_of}
+use Rattle.dj_names.specs.trusted.Heaps.{Object, Instance, Array, Text, class_of}
 use Rattle.dj_heap.specs.declared.object.Made.{Made}
 use Rattle.dj_heap.specs.declared.object.Made.TheVariants as made
 use Rattle.dj_heap.specs.Calls.{made_as}
 use Rattle.dj_heap.specs.Heaps.{LimitedHeap, object_in}
-use Rattle.dj_model.specs.Program.{Program, Class}
+use Rattle.dj_model.specs.trusted.Program.{Program, Class}
 use Rattle.dj_natives.specs.Numbered.{IsNumberOf, type_at, holds_references, component_of}
 use Rattle.dj_calls.specs.Known.{AreKnown, IsKnown, IsClassType}
 use Rattle.dj_members.specs.Numbering.{AreNumbered}
@@ -97,7 +97,7 @@ known_references types h r class component own few is numbered (Array k element 
 
 -- ---- all objects
 
--- the first so many objects are known
+-- the first n objects are known
 abbrev pub AreKnownTo : List Ty → LimitedHeap → ℕ → Type 0
 AreKnownTo types h n = (k : ℕ) (object : Object ℕ) → k < n → slice_get h.heap.objects k ≡ Some object → IsKnown types object
 

@@ -5,8 +5,8 @@ use Rattle.dj_names.specs.declared.run.Element.{Element}
 use Rattle.dj_names.specs.declared.run.Outcome.TheVariants as outcomes
 use Rattle.dj_names.specs.declared.run.Value.{Value}
 use Rattle.dj_names.specs.declared.run.Value.TheVariants as values
-use Rattle.dj_names.specs.Heaps.{Heap, Object, Instance, array_size, object_size, with_new, next_number}
-use Rattle.dj_model.specs.Arrays.{make_array, make_elements, make, passes_limit, flows, with_value}
+use Rattle.dj_names.specs.trusted.Heaps.{Heap, Object, Instance, array_size, object_size, with_new, next_number}
+use Rattle.dj_model.specs.trusted.Arrays.{make_array, make_elements, make, passes_limit, flows, with_value}
 use Rattle.dj_heap.specs.Heaps.{LimitedHeap}
 use Rattle.dj_stack.specs.Frames.{StackFrame, top_operands, top_room}
 use Rattle.dj_effects.specs.DoesOnHeap.{FitsOnHeap, FitsOnHeapIn}

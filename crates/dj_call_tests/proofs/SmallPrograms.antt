@@ -1,4 +1,4 @@
--- What is told of the two small programs, by computing.
+-- What is known of the two small programs, by computing.
 use Rattle.std.proofs.Common.{◌≡◌, ℕ, zero, suc, ◌<◌, Bool, true, false, List, [], ◌∷◌, map, length, Option, Some, None, unwrap_or, refl, sym, ap, subst, ◌∙◌, arith}
 use Rattle.std.specs.Borrow.{Bor}
 use Rattle.std.specs.Prelude.{slice_get, get_or}
@@ -6,9 +6,9 @@ use Rattle.std.specs.Option.{option_map}
 use Rattle.std.proofs.lemmas.List.{length-map}
 use Rattle.std.proofs.lemmas.Option.{none-some, same_Some, slice_get-map, slice_get-get_or, unwrap_or-slice_get}
 use Rattle.dj_names.specs.declared.descriptor.Ty.{Ty}
-use Rattle.dj_names.specs.Types.{Name, class_type, component_type}
-use Rattle.dj_model.specs.Linking.{is_subtype}
-use Rattle.dj_model.specs.Natives.{class_name}
+use Rattle.dj_names.specs.trusted.Types.{Name, class_type, component_type}
+use Rattle.dj_model.specs.trusted.Linking.{is_subtype}
+use Rattle.dj_model.specs.trusted.Natives.{class_name}
 use Rattle.dj_natives.specs.Numbered.{type_at, holds_references, begins_array, ArePlain, HasNumber, HaveComponents}
 use Rattle.dj_call_tests.specs.Few.{AllAt, EachBelow, few_types, few_program, few_prefix, few_names, few_below, lent_lists}
 
@@ -33,7 +33,7 @@ mapped_at f [] k fill y e = absurd (none-some y e)
 mapped_at f (x ∷ xs) zero fill y e = sym (same_Some (f x) y e)
 mapped_at f (x ∷ xs) (suc k) fill y e = mapped_at f xs k fill y e
 
--- ---- what is told by lists
+-- ---- what lists contain
 
 pub type_there : (types : List Ty) (k : ℕ) → k < length types → slice_get types k ≡ Some (type_at types k)
 type_there types k less =

@@ -5,8 +5,8 @@ use Rattle.std.proofs.lemmas.List.{length-set}
 use Rattle.std.proofs.lemmas.Option.{none-some, same_Some}
 use Rattle.dj_names.specs.declared.descriptor.Kind.{Kind}
 use Rattle.dj_names.specs.declared.run.Value.{Value}
-use Rattle.dj_names.specs.Heaps.{field_bits}
-use Rattle.dj_model.specs.Numbers.{is_of_kind}
+use Rattle.dj_names.specs.trusted.Heaps.{field_bits}
+use Rattle.dj_model.specs.trusted.Numbers.{is_of_kind}
 use Rattle.dj_stack.specs.Frames.{StackFrame, top_operands}
 use Rattle.dj_effects.specs.declared.way.Way.{Way}
 use Rattle.dj_members.specs.Statics.{OnStatics, leaves, put_static_by, DoesOnStatics}

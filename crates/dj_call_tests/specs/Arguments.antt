@@ -5,9 +5,9 @@ use Rattle.dj_names.specs.declared.descriptor.Kind.{Kind}
 use Rattle.dj_names.specs.declared.descriptor.Ty.{Ty}
 use Rattle.dj_names.specs.declared.native.NativeId.{NativeId}
 use Rattle.dj_names.specs.declared.run.Value.{Value}
-use Rattle.dj_names.specs.Heaps.{Object}
+use Rattle.dj_names.specs.trusted.Heaps.{Object}
 use Rattle.dj_heap.specs.Heaps.{LimitedHeap, object_in}
-use Rattle.dj_model.specs.Natives.{asks, reference}
+use Rattle.dj_model.specs.trusted.Natives.{asks, reference}
 use Rattle.dj_model.specs.NativeKinds.{native_signature}
 use Rattle.dj_stack.specs.Frames.{StackFrame, top_operands, top_room}
 use Rattle.dj_calls.specs.Known.{IsFitting, IsOfChars, IsKnown}

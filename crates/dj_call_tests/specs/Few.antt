@@ -3,12 +3,12 @@ use Rattle.std.specs.Borrow.{Bor}
 use Rattle.std.specs.Prelude.{◌≡◌, ℕ, zero, suc, ⊤, ◌&&◌, Bool, true, false, List, [], ◌∷◌, ◌++◌, map, length, Option, Some, None, codes, nat_lt}
 use Rattle.dj_names.specs.declared.descriptor.Base.TheVariants as bases
 use Rattle.dj_names.specs.declared.descriptor.Ty.{Ty}
-use Rattle.dj_names.specs.Library.{stop_class}
-use Rattle.dj_names.specs.Types.{Name, class_type, base_array, array_type}
-use Rattle.dj_model.specs.Linking.{is_subtype}
-use Rattle.dj_model.specs.Natives.{class_name}
-use Rattle.dj_model.specs.Program.{Class, Program}
-use Rattle.dj_model.specs.Types.{Prefix, object_name, string_name}
+use Rattle.dj_names.specs.trusted.Library.{stop_class}
+use Rattle.dj_names.specs.trusted.Types.{Name, class_type, base_array, array_type}
+use Rattle.dj_model.specs.trusted.Linking.{is_subtype}
+use Rattle.dj_model.specs.trusted.Natives.{class_name}
+use Rattle.dj_model.specs.trusted.Program.{Class, Program}
+use Rattle.dj_model.specs.trusted.Types.{Prefix, object_name, string_name}
 use Rattle.dj_natives.specs.Numbered.{type_at, IsNumberOf, superclass_type, component_of}
 
 abbrev pub class_of : Name → Option Name → Class
@@ -75,12 +75,12 @@ few_arrays true = boxed_arrays
 abbrev pub few_types : Bool → List Ty
 few_types boxed = map (λ (c : Class). class_type c.name) (few_program boxed) ++ few_arrays boxed
 
--- ---- what is told of all of them
+-- ---- all of them
 
 abbrev pub few_names : Bool → List Name
 few_names boxed = map class_name (few_types boxed)
 
--- of each whether it is a subtype of each
+-- for each whether it is a subtype of each
 abbrev pub few_below : Bool → List (List Bool)
 few_below boxed = map (λ (a : Ty). map (is_subtype (few_program boxed) (few_prefix boxed) a) (few_types boxed)) (few_types boxed)
 
@@ -90,16 +90,16 @@ few_has boxed declaring class =
     nat_lt declaring (length (few_types boxed))
     && is_subtype (few_program boxed) (few_prefix boxed) (type_at (few_types boxed) class) (type_at (few_types boxed) declaring)
 
--- what lent lists are
+-- what borrowed lists are
 abbrev pub lent_lists : {A : Type 0} → List (Bor (List A)) → List (List A)
 lent_lists lists = map (λ list. list.now) lists
 
--- of each item with its place
+-- for each item with its place
 abbrev pub AllAt : {A : Type 0} → (ℕ → A → Type 0) → List A → Type 0
 AllAt P [] = ⊤
 AllAt P (x ∷ xs) = P 0 x × AllAt (λ k. P (suc k)) xs
 
--- of each number below n
+-- for each number below n
 abbrev pub EachBelow : (ℕ → Type 0) → ℕ → Type 0
 EachBelow P zero = ⊤
 EachBelow P (suc n) = P 0 × EachBelow (λ k. P (suc k)) n

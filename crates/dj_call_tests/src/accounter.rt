@@ -15,7 +15,7 @@ pub enum Call {
     Text(u32),
 }
 
-/// A call with its answer, or what is told then.
+/// A call with its answer.
 #[derive(Clone, Copy)]
 pub enum Step {
     Fine(Call),

@@ -28,7 +28,7 @@ fn text_or_null(alloc: Global, few: &Few, heap: &mut Heap, text: Option<Text>) -
     }
 }
 
-// Makes an instance of the class with so many fields, the first of which is a text.
+// Makes an instance of the class with this many fields, the first of which is a text.
 fn instance_made(
     alloc: Global,
     few: &Few,

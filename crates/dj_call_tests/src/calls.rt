@@ -11,7 +11,7 @@ use dj_names::{NativeId, Value};
 use dj_natives::Classes;
 use std::alloc::Global;
 
-// ---- what is told
+// ---- expected answers
 
 fn are_units(alloc: Global, heap: &Heap, r: u32, text: Text) -> bool {
     match units(alloc, text) {
@@ -31,7 +31,7 @@ fn is_object(few: &Few, heap: &Heap, r: u32, class: &[u8]) -> bool {
     }
 }
 
-// Whether the object that is given is what is told.
+// Whether this object is the expected one.
 fn is_reference(alloc: Global, few: &Few, heap: &Heap, given: u32, told: &Told) -> bool {
     match told {
         Told::GivesNull => given == 0,
@@ -54,7 +54,7 @@ fn is_value(alloc: Global, few: &Few, heap: &Heap, value: Value, told: &Told) ->
     }
 }
 
-// Whether the answer is what is told.
+// Whether the answer is the expected one.
 fn is_told(alloc: Global, few: &Few, heap: &Heap, answer: NativeAnswer, told: &Told) -> bool {
     match answer {
         NativeAnswer::Nothing => matches!(told, Told::Nothing),
@@ -128,7 +128,7 @@ fn charged(
     Some((answer, accounter.costs().alloc))
 }
 
-// Whether the call does what the row tells; none where it can't be made.
+// Whether the call does what the row says; none where it can't be made.
 fn does(alloc: Global, few: &Few, row: &Row) -> Option<bool> {
     let (most, limit) = row.1;
     let mut heap = Heap::new(alloc, limit.min(1 << 31));
@@ -158,7 +158,7 @@ fn is_kept(alloc: Global, few: &Few, row: &Kept) -> bool {
     )
 }
 
-/// Whether each of the calls does what its row tells.
+/// Whether each of the calls does what its row says.
 pub fn are_done(alloc: Global, few: &Few, rows: &[Row]) -> bool {
     rows.iter().all(|row| is_done(alloc, few, row))
 }

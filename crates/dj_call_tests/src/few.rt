@@ -90,7 +90,7 @@ const PLAIN_COMPONENTS: [Option<u32>; 19] = [
 
 const BOXED_COMPONENTS: [Option<u32>; 7] = [None, None, None, None, None, None, Some(3)];
 
-// Of each class and array whether it is a subtype of each.
+// For each class and array whether it is a subtype of each.
 const PLAIN_BELOW: [&[bool]; 19] = [
     &[
         true, false, false, false, true, false, false, false, false, false, false, false, false,

@@ -1,6 +1,6 @@
 ghost use Rattle.std.specs.Prelude.{◌≡◌, ◌<◌, IsTrue, IsSome, length, Some};
 ghost use Rattle.std.specs.Option.{option_map};
-ghost use Rattle.dj_names.specs.Heaps.{class_of};
+ghost use Rattle.dj_names.specs.trusted.Heaps.{class_of};
 ghost use Rattle.dj_names.specs.declared.run.Element.TheVariants as elements;
 ghost use Rattle.dj_heap.specs.Calls.{made_as};
 ghost use Rattle.dj_heap.specs.Heaps.{object_in};

@@ -39,7 +39,7 @@ pub enum Told {
     GivesChars(u32, &'static [i64]),
     Raises(Raised),
     Stops,
-    /// So many bytes are used, and so many more are wanted.
+    /// This many bytes are used, and this many more are wanted.
     Full(u64, u64),
 }
 

@@ -1,8 +1,8 @@
 ghost use Rattle.std.specs.Prelude.{◌≡◌, map, IsTrue, IfSome};
 ghost use Rattle.std.specs.List.{AllByRecursion};
-ghost use Rattle.dj_names.specs.Values.{value_kind};
+ghost use Rattle.dj_names.specs.trusted.Values.{value_kind};
 ghost use Rattle.dj_heap.specs.Heaps.{object_in};
-ghost use Rattle.dj_model.specs.Natives.{reference};
+ghost use Rattle.dj_model.specs.trusted.Natives.{reference};
 ghost use Rattle.dj_calls.specs.Known.{AreArguments, IsOfChars};
 ghost use Rattle.dj_call_tests.specs.Arguments.{IsTaken};
 

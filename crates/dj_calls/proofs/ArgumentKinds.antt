@@ -7,7 +7,7 @@ use Rattle.dj_names.specs.declared.descriptor.Kind.{Kind}
 use Rattle.dj_names.specs.declared.descriptor.Kind.TheVariants as kinds
 use Rattle.dj_names.specs.declared.run.Value.{Value}
 use Rattle.dj_names.specs.declared.native.NativeId.{NativeId}
-use Rattle.dj_names.specs.Values.{value_kind}
+use Rattle.dj_names.specs.trusted.Values.{value_kind}
 use Rattle.dj_model.specs.NativeKinds.{native_signature}
 
 pub kind_at : (args : List Value) (ks : List Kind) (i : ℕ) → map value_kind args ≡ ks → option_map value_kind (slice_get args i) ≡ slice_get ks i

@@ -8,12 +8,12 @@ use Rattle.dj_names.specs.declared.descriptor.Base.TheVariants as bases
 use Rattle.dj_names.specs.declared.descriptor.Of.{Of}
 use Rattle.dj_names.specs.declared.descriptor.Of.TheVariants as ofs
 use Rattle.dj_names.specs.declared.descriptor.Ty.{Ty}
-use Rattle.dj_names.specs.Descriptors.{type_text}
-use Rattle.dj_names.specs.Types.{Name, base_array, class_type}
-use Rattle.dj_model.specs.Types.{Prefix}
-use Rattle.dj_model.specs.Program.{Program}
-use Rattle.dj_model.specs.Linking.{is_subtype}
-use Rattle.dj_model.specs.Natives.{class_name}
+use Rattle.dj_names.specs.trusted.Descriptors.{type_text}
+use Rattle.dj_names.specs.trusted.Types.{Name, base_array, class_type}
+use Rattle.dj_model.specs.trusted.Types.{Prefix}
+use Rattle.dj_model.specs.trusted.Program.{Program}
+use Rattle.dj_model.specs.trusted.Linking.{is_subtype}
+use Rattle.dj_model.specs.trusted.Natives.{class_name}
 use Rattle.dj_natives.specs.Numbered.{type_at, begins_array, ArePlain}
 
 abbrev typed : ℕ → Of → Ty

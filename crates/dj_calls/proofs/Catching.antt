@@ -5,14 +5,15 @@ use Rattle.dj_names.specs.declared.descriptor.Base.TheVariants as bases
 use Rattle.dj_names.specs.declared.descriptor.Ty.{Ty}
 use Rattle.dj_names.specs.declared.run.Value.{Value}
 use Rattle.dj_names.specs.declared.native.NativeId.TheVariants as natives
-use Rattle.dj_names.specs.Types.{base_array}
-use Rattle.dj_names.specs.Heaps.{Object, class_of, object_map}
+use Rattle.dj_names.specs.trusted.Types.{base_array}
+use Rattle.dj_names.specs.trusted.Heaps.{Object, class_of}
+use Rattle.dj_names.specs.Heaps.{object_map}
 use Rattle.dj_heap.specs.Heaps.{LimitedHeap, object_in}
-use Rattle.dj_model.specs.Types.{Prefix, is_stop}
-use Rattle.dj_model.specs.Program.{Program}
-use Rattle.dj_model.specs.State.{Terms, Part, Flow, Goes, Next, Catch, goes}
-use Rattle.dj_model.specs.Natives.{Rethrows, reference, answer}
-use Rattle.dj_model.specs.Performing.{class_in, class_at_number, perform}
+use Rattle.dj_model.specs.trusted.Types.{Prefix, is_stop}
+use Rattle.dj_model.specs.trusted.Program.{Program}
+use Rattle.dj_model.specs.trusted.State.{Terms, Part, Flow, Goes, Next, Catch, goes}
+use Rattle.dj_model.specs.trusted.Natives.{Rethrows, reference, answer}
+use Rattle.dj_model.specs.trusted.Performing.{class_in, class_at_number, perform}
 use Rattle.dj_model.proofs.MappedHeaps.{object_at_mapped, class_of_mapped}
 use Rattle.dj_natives.specs.Numbered.{type_at, is_number, TellsStop}
 use Rattle.dj_calls.specs.declared.answer.NativeAnswer.{NativeAnswer}

@@ -3,9 +3,9 @@ use Rattle.std.proofs.Common.{◌≡◌, ℕ, ◌+◌, ◌^◌, ◌<◌, ◌≤�
 use Rattle.dj_names.specs.declared.run.Charge.{Charge}
 use Rattle.dj_names.specs.declared.run.Costs.{Costs}
 use Rattle.dj_names.specs.declared.run.Thresholds.{Thresholds}
-use Rattle.dj_model.specs.State.{Account}
-use Rattle.dj_model.specs.Charging as model
-use Rattle.dj_model.specs.Charging.{Fine, Over, added, passes, charge_one}
+use Rattle.dj_model.specs.trusted.State.{Account}
+use Rattle.dj_model.specs.trusted.Charging as model
+use Rattle.dj_model.specs.trusted.Charging.{Fine, Over, added, passes, charge_one}
 use Rattle.dj_model.specs.Laws.{IsToldBy}
 use Rattle.dj_model.proofs.Fits.{ChargedTold, charge_told}
 use Rattle.dj_calls.specs.declared.accounter.Charged.TheVariants as charged
@@ -39,7 +39,7 @@ pub adds_over : (limits : Thresholds) (c now : Costs) (exceeded : Option Charge)
 unfolding charge_one
 adds_over limits c now exceeded charge n none sum e = rw (none, sum) (record { limits = refl; account = rw (← sum, e) refl; answer = refl })
 
--- ---- what the accounter tells after it
+-- ---- what the accounter reports after it
 
 compared_told : (limits : Thresholds) (c : Costs) (charge : Charge) (n : ℕ) → IsToldBy limits c None
     → ChargedTold limits (account c None) (compared charge (added c charge n) (passes limits (added c charge n) charge))

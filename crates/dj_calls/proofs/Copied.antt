@@ -9,13 +9,14 @@ use Rattle.dj_names.specs.declared.run.Element.{Element}
 use Rattle.dj_names.specs.declared.run.Element.TheVariants as elements
 use Rattle.dj_names.specs.declared.run.Raised.{Raised}
 use Rattle.dj_names.specs.declared.run.Raised.TheVariants as raises
-use Rattle.dj_names.specs.Heaps.{Object, Array, object_map, with_object}
+use Rattle.dj_names.specs.trusted.Heaps.{Object, Array, with_object}
+use Rattle.dj_names.specs.Heaps.{object_map}
 use Rattle.dj_heap.specs.Heaps.{LimitedHeap, object_in}
-use Rattle.dj_model.specs.Types.{Prefix}
-use Rattle.dj_model.specs.Program.{Program}
-use Rattle.dj_model.specs.State.{Part}
-use Rattle.dj_model.specs.Natives.{Answer, SetsElements, copied}
-use Rattle.dj_model.specs.Performing.{set_elements, set_object, with_elements_in, raises_after, perform}
+use Rattle.dj_model.specs.trusted.Types.{Prefix}
+use Rattle.dj_model.specs.trusted.Program.{Program}
+use Rattle.dj_model.specs.trusted.State.{Part}
+use Rattle.dj_model.specs.trusted.Natives.{Answer, SetsElements, copied}
+use Rattle.dj_model.specs.trusted.Performing.{set_elements, set_object, with_elements_in, raises_after, perform}
 use Rattle.dj_model.proofs.MappedHeaps.{object_at_mapped, object_set}
 use Rattle.dj_natives.specs.Numbered.{type_at}
 use Rattle.dj_calls.specs.declared.answer.NativeAnswer.TheVariants as told

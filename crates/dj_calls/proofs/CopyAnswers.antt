@@ -2,8 +2,8 @@
 use Rattle.std.proofs.Common.{◌≡◌, ℕ, ◌+◌, Bool, true, false, ℤ, pos, negsuc, List, length, Option, Some, None, nat_eq, refl, inl, inr}
 use Rattle.std.specs.Prelude.{nat_le, ◌&&◌, if◌then◌else◌}
 use Rattle.dj_names.specs.declared.run.Raised.TheVariants as raises
-use Rattle.dj_names.specs.Heaps.{same_element}
-use Rattle.dj_model.specs.Natives.{Answer, Raises, SetsElements, Seen, Elements, unless_null, copied, copy_within, copy_between, copy_array, is_reference}
+use Rattle.dj_names.specs.trusted.Heaps.{same_element}
+use Rattle.dj_model.specs.trusted.Natives.{Answer, Raises, SetsElements, Seen, Elements, unless_null, copied, copy_within, copy_between, copy_array, is_reference}
 use Rattle.dj_model.proofs.MappedNames.{either}
 use Rattle.dj_calls.specs.Counting.{owed}
 

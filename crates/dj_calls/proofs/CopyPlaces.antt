@@ -9,13 +9,13 @@ use Rattle.dj_names.specs.declared.run.Element.{Element}
 use Rattle.dj_names.specs.declared.run.Element.TheVariants as elements
 use Rattle.dj_names.specs.declared.run.Raised.TheVariants as raises
 use Rattle.dj_names.specs.declared.run.Value.{Value}
-use Rattle.dj_names.specs.Heaps.{Object, Instance, Array, Text, same_element}
+use Rattle.dj_names.specs.trusted.Heaps.{Object, Instance, Array, Text, same_element}
 use Rattle.dj_heap.specs.Heaps.{LimitedHeap, object_in}
 use Rattle.dj_heap.specs.Lengths.{object_length}
-use Rattle.dj_model.specs.Natives as model
-use Rattle.dj_model.specs.Natives.{Answer, Raises, Elements, copied, copy_within, copy_between, unless_null, reference, number, is_reference, taken_before}
-use Rattle.dj_model.specs.Program.{Program}
-use Rattle.dj_model.specs.Types.{Prefix}
+use Rattle.dj_model.specs.trusted.Natives as model
+use Rattle.dj_model.specs.trusted.Natives.{Answer, Raises, Elements, copied, copy_within, copy_between, unless_null, reference, number, is_reference, taken_before}
+use Rattle.dj_model.specs.trusted.Program.{Program}
+use Rattle.dj_model.specs.trusted.Types.{Prefix}
 use Rattle.dj_calls.specs.Calls.{seen_of}
 use Rattle.dj_calls.specs.Copies.{copy_answer, takes_at, as_place, contents_held, contents_at, fits_at, HasPlaces, IsPlaces}
 use Rattle.dj_calls.specs.Seen.{elements_at, elements_held, element_of}

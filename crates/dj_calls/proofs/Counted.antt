@@ -7,15 +7,15 @@ use Rattle.dj_names.specs.declared.run.Charge.{Charge}
 use Rattle.dj_names.specs.declared.run.Charge.TheVariants as charges
 use Rattle.dj_names.specs.declared.run.Value.{Value}
 use Rattle.dj_names.specs.declared.native.NativeId.{NativeId}
-use Rattle.dj_names.specs.Heaps.{Object, object_size, rounded}
+use Rattle.dj_names.specs.trusted.Heaps.{Object, object_size, rounded}
 use Rattle.dj_heap.specs.Heaps.{LimitedHeap}
-use Rattle.dj_model.specs.Types.{Prefix}
-use Rattle.dj_model.specs.Program.{Program}
-use Rattle.dj_model.specs.State.{Terms, Counting, Uncounted, Accounted, Part, Flow, Goes, Stop, Effect, goes}
-use Rattle.dj_model.specs.Charging as charging
-use Rattle.dj_model.specs.Charging.{charge_one}
-use Rattle.dj_model.specs.Natives.{Answer, Returns, Raises, MakesText, KeepsText, MakesChars, SetsFields, SetsElements, Adds, Rethrows, Seen, answer, asks}
-use Rattle.dj_model.specs.Performing.{Counted, Within, Halts, counted, thrown_by, with_account, making_then, returns_made, keeps_made, goes_on, text_object, chars_object, seen, perform, native, native_asked}
+use Rattle.dj_model.specs.trusted.Types.{Prefix}
+use Rattle.dj_model.specs.trusted.Program.{Program}
+use Rattle.dj_model.specs.trusted.State.{Terms, Counting, Uncounted, Accounted, Part, Flow, Goes, Stop, Effect, goes}
+use Rattle.dj_model.specs.trusted.Charging as charging
+use Rattle.dj_model.specs.trusted.Charging.{charge_one}
+use Rattle.dj_model.specs.trusted.Natives.{Answer, Returns, Raises, MakesText, KeepsText, MakesChars, SetsFields, SetsElements, Adds, Rethrows, Seen, answer, asks}
+use Rattle.dj_model.specs.trusted.Performing.{Counted, Within, Halts, counted, thrown_by, with_account, making_then, returns_made, keeps_made, goes_on, text_object, chars_object, seen, perform, native, native_asked}
 use Rattle.dj_calls.specs.declared.accounter.Charged.{Charged}
 use Rattle.dj_calls.specs.declared.accounter.Charged.TheVariants as charged
 use Rattle.dj_calls.specs.declared.answer.Answer as calls

@@ -6,9 +6,9 @@ use Rattle.dj_names.specs.declared.run.Thresholds.{Thresholds}
 use Rattle.dj_names.specs.declared.run.Raised.TheVariants as raises
 use Rattle.dj_names.specs.declared.run.Value.TheVariants as values
 use Rattle.dj_names.specs.declared.native.NativeId.TheVariants as natives
-use Rattle.dj_model.specs.Charging.{charge_one}
-use Rattle.dj_model.specs.Natives as model
-use Rattle.dj_model.specs.State.{Stop, Catch, Goes, Next, Raise}
+use Rattle.dj_model.specs.trusted.Charging.{charge_one}
+use Rattle.dj_model.specs.trusted.Natives as model
+use Rattle.dj_model.specs.trusted.State.{Stop, Catch, Goes, Next, Raise}
 use Rattle.dj_calls.specs.declared.accounter.Charged.TheVariants as charged
 use Rattle.dj_calls.specs.declared.answer.NativeAnswer.TheVariants as told
 use Rattle.dj_calls.specs.Counting as counting

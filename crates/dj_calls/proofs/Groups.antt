@@ -4,8 +4,8 @@ use Rattle.dj_names.specs.declared.native.NativeId.{NativeId}
 use Rattle.dj_names.specs.declared.native.NativeId.TheVariants as natives
 use Rattle.dj_names.specs.declared.run.Charge.{Charge}
 use Rattle.dj_names.specs.declared.run.Value.{Value}
-use Rattle.dj_model.specs.Natives.{Seen, answer}
-use Rattle.dj_model.specs.State.{Stop}
+use Rattle.dj_model.specs.trusted.Natives.{Seen, answer}
+use Rattle.dj_model.specs.trusted.State.{Stop}
 use Rattle.dj_calls.specs.Answers.{is_answered, is_adding, is_on_numbers, is_on_texts, is_making_text, is_on_builders, is_on_throwables, is_on_objects}
 use Rattle.dj_calls.specs.Counting.{owed}
 use Rattle.dj_calls.specs.Calls.{stop_told}

@@ -13,7 +13,7 @@ use Rattle.dj_calls.specs.Calls.{SetsField, set_in, with_reference, IsFillable, 
 use Rattle.std.proofs.lemmas.List.{length-set, get_or-set_same, length-append, set-get_or, length-replicate, length-map, take_all, length-drop, length-take-le}
 use Rattle.std.proofs.lemmas.Option.{slice_get-get_or, slice_get_within, get_or_from_slice_get, slice_get-map}
 use Rattle.std.proofs.Math.Seq.{set-append_seam, set_out, get_or-append_seam, paste, paste-suc, paste-zero}
-use Rattle.dj_names.specs.Heaps.{Object, Instance, Array, Text, object_at, with_new, with_object, next_number, object_size}
+use Rattle.dj_names.specs.trusted.Heaps.{Object, Instance, Array, Text, object_at, with_new, with_object, next_number, object_size}
 use Rattle.dj_heap.specs.Heaps as heaps
 use Rattle.dj_heap.specs.Heaps.{LimitedHeap, object_in, Replaces, with_field, with_number, low_bits, element_in, contents_of}
 
@@ -123,7 +123,7 @@ fillable_found h r n class e = record { class = class; contents = replicate n (p
 pub fillable : (old new : LimitedHeap) (r n class : ℕ) → heaps.Makes old new (Array class elements.Char (replicate n (pos 0))) r → IsFillable new r n
 fillable old new r n class makes = fillable_found new r n class (made_there old new (Array class elements.Char (replicate n (pos 0))) r makes)
 
--- so many elements are filled
+-- this many elements are filled
 abbrev pub FillsTo : LimitedHeap → LimitedHeap → ℕ → List ℕ → ℕ → Type 0
 FillsTo old new r units at = (class : ℕ) (contents : List ℤ) → object_in old r ≡ Some (Array class elements.Char contents) → length contents ≡ length units
     → new ≡ record old { heap = with_object old.heap r (Array class elements.Char (paste contents 0 (map pos units) at)) }

@@ -7,7 +7,7 @@ use Rattle.std.proofs.lemmas.Option.{slice_get-get_or, slice_get_within, get_or_
 use Rattle.std.proofs.Math.ListN.{drop_of_length-le}
 use Rattle.std.proofs.Math.Seq.{set-append_seam, paste, paste-suc, paste-zero}
 use Rattle.dj_names.specs.declared.run.Element.{Element}
-use Rattle.dj_names.specs.Heaps.{Object, Array, object_at, with_object}
+use Rattle.dj_names.specs.trusted.Heaps.{Object, Array, object_at, with_object}
 use Rattle.dj_heap.specs.Heaps.{LimitedHeap, object_in, element_in, contents_of, low_bits, IsKeptIn, Replaces, with_number}
 use Rattle.dj_model.proofs.MappedNames.{either}
 use Rattle.dj_calls.specs.declared.arrays.Copy.{Copy}

@@ -9,12 +9,12 @@ use Rattle.dj_names.specs.declared.descriptor.Base.TheVariants as bases
 use Rattle.dj_names.specs.declared.descriptor.Of.{Of}
 use Rattle.dj_names.specs.declared.descriptor.Of.TheVariants as ofs
 use Rattle.dj_names.specs.declared.descriptor.Ty.{Ty}
-use Rattle.dj_names.specs.Descriptors.{of_text, type_text}
-use Rattle.dj_names.specs.Heaps.{Object, class_of}
-use Rattle.dj_names.specs.Types.{of_map}
+use Rattle.dj_names.specs.trusted.Descriptors.{of_text, type_text}
+use Rattle.dj_names.specs.trusted.Heaps.{Object, class_of}
+use Rattle.dj_names.specs.trusted.Types.{of_map}
 use Rattle.dj_heap.specs.Heaps.{LimitedHeap, object_in}
-use Rattle.dj_model.specs.Types.{Prefix}
-use Rattle.dj_model.specs.Natives.{class_name, plain_class, plain_name, shown_class}
+use Rattle.dj_model.specs.trusted.Types.{Prefix}
+use Rattle.dj_model.specs.trusted.Natives.{class_name, plain_class, plain_name, shown_class}
 use Rattle.dj_natives.specs.Numbered.{type_at, ArePlain, begins_array}
 use Rattle.dj_calls.specs.Names.{after_brackets, plain_elements, plain_text, shown_held, shown_at}
 

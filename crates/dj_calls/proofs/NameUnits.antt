@@ -3,11 +3,12 @@ use Rattle.std.proofs.Common.{◌≡◌, ◌≢◌, ℕ, zero, suc, ◌<◌, ◌
 use Rattle.std.specs.Prelude.{is_some}
 use Rattle.std.specs.List.{AllByRecursion}
 use Rattle.std.proofs.lemmas.List.{length-append}
-use Rattle.dj_names.specs.ModifiedUtf8.{unit_text, units_text, Spells}
-use Rattle.dj_names.specs.UnitReading.{unit_read}
-use Rattle.dj_names.specs.Tests.{units_read, modified_utf8_test}
+use Rattle.dj_names.specs.trusted.ModifiedUtf8.{unit_text, units_text, SpellsUnits}
+use Rattle.dj_names.specs.trusted.UnitReading.{unit_read}
+use Rattle.dj_names.specs.trusted.Tests.{units_read}
+use Rattle.dj_names.specs.Tests.{modified_utf8_test}
 use Rattle.dj_names.proofs.UnitLaws.{unit_again, unit_some}
-use Rattle.dj_model.specs.Natives.{name_units, units_or_none}
+use Rattle.dj_model.specs.trusted.Natives.{name_units, units_or_none}
 
 units_step : (n : ℕ) (bytes : List ℕ) (u : ℕ) (rest us : List ℕ) → unit_read bytes ≡ Some (u, rest) → units_read n rest ≡ Some us → units_read (suc n) bytes ≡ Some (u ∷ us)
 unfolding unit_read units_read
@@ -33,7 +34,7 @@ units_long (u ∷ us) fit =
     let others : length us ≤ length (units_text us) = units_long us fit.1 in
     omega (arith, length-append (unit_text u) (units_text us))
 
-pub spelled : (text units : List ℕ) → Spells text units → units ≡ name_units text
+pub spelled : (text units : List ℕ) → SpellsUnits text units → units ≡ name_units text
 spelled text units s =
     let long : length units ≤ length text = omega (arith, units_long units s.units_fit, ap length s.text_is) in
     sym (ap units_or_none (ap (units_read (length text)) s.text_is ∙ units_again units (length text) s.units_fit long))

@@ -6,7 +6,7 @@ use Rattle.std.proofs.lemmas.Option.{none-some, same_Some}
 use Rattle.dj_names.specs.declared.descriptor.Base.TheVariants as bases
 use Rattle.dj_names.specs.declared.descriptor.Of.TheVariants as ofs
 use Rattle.dj_names.specs.declared.descriptor.Ty.{Ty}
-use Rattle.dj_names.specs.Types.{class_type}
+use Rattle.dj_names.specs.trusted.Types.{class_type}
 use Rattle.dj_natives.specs.Numbered.{ArePlain, HasNumber, HaveComponents}
 
 abbrev int_arrays : ℕ → Ty

@@ -16,17 +16,18 @@ use Rattle.dj_names.specs.declared.run.Value.{Value}
 use Rattle.dj_names.specs.declared.run.Value.TheVariants as values
 use Rattle.dj_names.specs.declared.run.Raised.{Raised}
 use Rattle.dj_names.specs.declared.run.Charge.{Charge}
-use Rattle.dj_names.specs.Heaps.{Object, Instance, Array, Text, object_map, object_at, object_size, with_new, with_object, next_number, heap_map, class_of, array_size}
-use Rattle.dj_names.specs.Types.{class_type, base_array}
+use Rattle.dj_names.specs.trusted.Heaps.{Object, Instance, Array, Text, object_at, object_size, with_new, with_object, next_number, class_of, array_size}
+use Rattle.dj_names.specs.Heaps.{object_map, heap_map}
+use Rattle.dj_names.specs.trusted.Types.{class_type, base_array}
 use Rattle.dj_heap.specs.Heaps as heaps
 use Rattle.dj_heap.specs.Heaps.{LimitedHeap, object_in, Refuses}
 use Rattle.dj_heap.specs.declared.errors.HeapError.{HeapError}
 use Rattle.dj_heap.specs.declared.errors.HeapError.TheVariants as errors
-use Rattle.dj_model.specs.Types.{Prefix, string_name}
-use Rattle.dj_model.specs.State.{Part, Next, Goes, End, goes}
-use Rattle.dj_model.specs.Arrays.{passes_limit}
-use Rattle.dj_model.specs.Natives.{Answer, Returns, Raises, MakesText, KeepsText, MakesChars, SetsFields, Adds, is_reference}
-use Rattle.dj_model.specs.Performing.{Making, Made, NotMade, making, returns_made, keeps_made, returns, text_object, chars_object, set_fields, set_object, with_fields, with_fields_in, perform}
+use Rattle.dj_model.specs.trusted.Types.{Prefix, string_name}
+use Rattle.dj_model.specs.trusted.State.{Part, Next, Goes, End, goes}
+use Rattle.dj_model.specs.trusted.Arrays.{passes_limit}
+use Rattle.dj_model.specs.trusted.Natives.{Answer, Returns, Raises, MakesText, KeepsText, MakesChars, SetsFields, Adds, is_reference}
+use Rattle.dj_model.specs.trusted.Performing.{Making, Made, NotMade, making, returns_made, keeps_made, returns, text_object, chars_object, set_fields, set_object, with_fields, with_fields_in, perform}
 use Rattle.dj_model.proofs.MappedHeaps.{object_at_mapped, size_alike, new_mapped, number_alike, object_set}
 use Rattle.dj_natives.specs.Numbered.{type_at}
 use Rattle.dj_calls.specs.declared.answer.NativeAnswer.{NativeAnswer}

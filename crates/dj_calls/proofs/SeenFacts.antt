@@ -1,11 +1,12 @@
--- What the model sees of a heap, told by the numbers of classes.
+-- What the model sees of a heap, given by the numbers of classes.
 use Rattle.std.proofs.Common.{◌≡◌, ℕ, List, Option, Some, None, refl, ap, ◌∙◌}
 use Rattle.std.specs.Option.{option_map}
 use Rattle.dj_names.specs.declared.descriptor.Ty.{Ty}
-use Rattle.dj_names.specs.Heaps.{Object, Instance, Array, Text, object_map, object_at}
+use Rattle.dj_names.specs.trusted.Heaps.{Object, Instance, Array, Text, object_at}
+use Rattle.dj_names.specs.Heaps.{object_map}
 use Rattle.dj_heap.specs.Heaps.{LimitedHeap, object_in}
-use Rattle.dj_model.specs.Types.{Prefix}
-use Rattle.dj_model.specs.Performing.{units_in, is_text_in, field_in, elements_in, shown_in}
+use Rattle.dj_model.specs.trusted.Types.{Prefix}
+use Rattle.dj_model.specs.trusted.Performing.{units_in, is_text_in, field_in, elements_in, shown_in}
 use Rattle.dj_model.proofs.MappedHeaps.{object_at_mapped, class_of_mapped}
 use Rattle.dj_natives.specs.Numbered.{type_at}
 use Rattle.dj_calls.specs.Seen.{units_held, is_text_held, field_held, elements_held, units_at, is_text_at, field_at, elements_at}

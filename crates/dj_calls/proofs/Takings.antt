@@ -6,13 +6,13 @@ use Rattle.std.proofs.lemmas.Option.{slice_get-get_or, slice_get_within, get_or_
 use Rattle.std.proofs.Math.ListN.{drop_of_length-le}
 use Rattle.dj_names.specs.declared.run.Element.TheVariants as elements
 use Rattle.dj_names.specs.declared.run.Element.{Element}
-use Rattle.dj_names.specs.Heaps.{Object, Array}
+use Rattle.dj_names.specs.trusted.Heaps.{Object, Array}
 use Rattle.dj_heap.specs.Heaps.{LimitedHeap, object_in, element_in, contents_of}
-use Rattle.dj_model.specs.Natives as model
+use Rattle.dj_model.specs.trusted.Natives as model
 use Rattle.dj_calls.specs.declared.arrays.Copy.{Copy}
 use Rattle.dj_calls.specs.Copies.{IsCopy, Takes}
 
--- so many are taken, and the rest decides
+-- this many are taken, and the rest decides
 abbrev pub TakesTo : (ℕ → Bool) → LimitedHeap → Copy → ℕ → Type 0
 TakesTo takes h copy at = (class : ℕ) (contents : List ℤ) → object_in h copy.source ≡ Some (Array class elements.Ref contents)
     → model.taken_before takes (slice_range contents copy.from (copy.from + copy.count))

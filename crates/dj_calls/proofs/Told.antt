@@ -1,4 +1,4 @@
--- What is told of an answer, where there was memory for it.
+-- What is known of an answer, where there was memory for it.
 use Rattle.std.specs.Prelude.{slice_range, nat_le, ◌&&◌, if◌then◌else◌}
 use Rattle.std.proofs.lemmas.Bool.{ne_eqb, le-leb, leb-true, both_ways}
 use Rattle.dj_names.specs.declared.run.Raised.TheVariants as raises
@@ -8,10 +8,10 @@ use Rattle.dj_names.specs.declared.lists.NoMemory.{NoMemory}
 use Rattle.dj_names.specs.declared.native.NativeId.{NativeId}
 use Rattle.dj_names.specs.declared.run.Value.{Value}
 use Rattle.dj_heap.specs.Heaps.{LimitedHeap}
-use Rattle.dj_model.specs.Types.{Prefix}
-use Rattle.dj_model.specs.Program.{Program}
-use Rattle.dj_model.specs.Natives as model
-use Rattle.dj_model.specs.Natives.{Seen, answer}
+use Rattle.dj_model.specs.trusted.Types.{Prefix}
+use Rattle.dj_model.specs.trusted.Program.{Program}
+use Rattle.dj_model.specs.trusted.Natives as model
+use Rattle.dj_model.specs.trusted.Natives.{Seen, answer}
 use Rattle.dj_calls.specs.declared.answer.Answer as calls
 use Rattle.dj_calls.specs.Answers.{answered_by, IsAppended, Tells, is_answered, is_on_objects}
 use Rattle.dj_calls.specs.Calls.{seen_of}

@@ -9,8 +9,8 @@ use Rattle.std.proofs.lemmas.List.{take_all, take_more, drop_more, get_or-drop, 
 use Rattle.std.proofs.lemmas.Option.{slice_get_within, get_or_from_slice_get}
 use Rattle.std.proofs.lemmas.Bool.{eq-eqb, ne_eqb}
 use Rattle.std.proofs.Math.Nat.{mod-eq_of_lt}
-use Rattle.dj_names.specs.Types.{same_name}
-use Rattle.dj_model.specs.Natives.{hash_onto, difference}
+use Rattle.dj_names.specs.trusted.Types.{same_name}
+use Rattle.dj_model.specs.trusted.Natives.{hash_onto, difference}
 
 -- ---- one unit more
 

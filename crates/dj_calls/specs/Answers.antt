@@ -7,8 +7,8 @@ use Rattle.dj_names.specs.declared.run.Value.TheVariants as values
 use Rattle.dj_names.specs.declared.native.NativeId.{NativeId}
 use Rattle.dj_names.specs.declared.native.NativeId.TheVariants as natives
 use Rattle.dj_heap.specs.Heaps.{LimitedHeap}
-use Rattle.dj_model.specs.Natives as model
-use Rattle.dj_model.specs.Natives.{Seen, answer}
+use Rattle.dj_model.specs.trusted.Natives as model
+use Rattle.dj_model.specs.trusted.Natives.{Seen, answer}
 use Rattle.dj_calls.specs.Counting.{owed}
 use Rattle.dj_calls.specs.Seen.{units_at, field_at}
 use Rattle.dj_calls.specs.declared.answer.Answer.{Answer}
@@ -26,12 +26,12 @@ answer_view (answers.SetsFields object first second) = Some (model.SetsFields ob
 answer_view (answers.Adds due) = Some (model.Adds due.charge due.amount)
 answer_view answers.Memory = None
 
--- what is answered by units, where there was memory for them
+-- what is answered with units, where there was memory for them
 abbrev pub answered_by : (List ℕ → model.Answer) → Result (List ℕ) NoMemory → Option model.Answer
 answered_by f (Ok units) = Some (f units)
 answered_by f (Err error) = None
 
--- a builder's units and more; where there was no memory for those there is no answer
+-- a builder's units and then more; where there was no memory for these there is no answer
 abbrev pub IsAppended : LimitedHeap → ℕ → Result (List ℕ) NoMemory → Option model.Answer → Type 0
 IsAppended h r (Ok more) told = IfSome told (λ a. model.KeepsText r (units_at h (field_at h r 0) ++ more) ≡ a)
 IsAppended h r (Err error) told = told ≡ None
@@ -61,7 +61,7 @@ is_adding natives.RecordAllocation = true
 is_adding natives.RecordArray = true
 is_adding id = false
 
--- those that the host answers are here for null alone
+-- methods that the host answers are here for null alone
 abbrev pub is_on_objects : NativeId → Bool
 is_on_objects natives.ObjectNew = true
 is_on_objects natives.ObjectEquals = true
@@ -83,7 +83,7 @@ is_on_throwables natives.GetMessage = true
 is_on_throwables natives.GetCause = true
 is_on_throwables id = false
 
--- what is asked of texts
+-- what is looked up in texts
 abbrev pub is_on_texts : NativeId → Bool
 is_on_texts natives.StringLength = true
 is_on_texts natives.StringIsEmpty = true
@@ -130,7 +130,7 @@ is_answered id = true
 
 -- ---- what is charged
 
--- it adds so much to this sum
+-- it adds this amount to this sum
 abbrev pub AddsSo : Charge → ℕ → Option Answer → Type 0
 AddsSo charge amount None = ⊥
 AddsSo charge amount (Some told) = answer_view told ≡ Some (model.Adds charge amount)

@@ -1,4 +1,4 @@
--- What a call of a native method does to a heap whose classes are told by numbers, and to the accounter.
+-- What a call of a native method does to a heap whose objects have classes by numbers, and to the accounter.
 use Rattle.std.specs.Prelude.{◌≡◌, ℕ, ⊤, true, false, ℤ, pos, List, [], ◌∷◌, ◌++◌, map, length, Option, Some, None, set}
 use Rattle.dj_names.specs.declared.descriptor.Ty.{Ty}
 use Rattle.dj_names.specs.declared.run.Value.{Value}
@@ -6,16 +6,17 @@ use Rattle.dj_names.specs.declared.run.Element.TheVariants as elements
 use Rattle.dj_names.specs.declared.run.Outcome.TheVariants as outcomes
 use Rattle.dj_names.specs.declared.native.NativeId.{NativeId}
 use Rattle.dj_names.specs.declared.native.NativeId.TheVariants as natives
-use Rattle.dj_names.specs.Heaps.{Object, Instance, Array, Heap, heap_map, with_object}
+use Rattle.dj_names.specs.trusted.Heaps.{Object, Instance, Array, Heap, with_object}
+use Rattle.dj_names.specs.Heaps.{heap_map}
 use Rattle.dj_heap.specs.Heaps.{LimitedHeap, object_in}
 use Rattle.dj_heap.specs.declared.errors.HeapError.{HeapError}
 use Rattle.dj_heap.specs.declared.errors.HeapError.TheVariants as errors
-use Rattle.dj_model.specs.Types.{Prefix, is_stop}
-use Rattle.dj_model.specs.Program.{Program}
-use Rattle.dj_model.specs.State.{Terms, Counting, Uncounted, Accounted, Part, Flow, Next, Raise, Goes, Catch, Stop, End, Effect, goes}
-use Rattle.dj_model.specs.Natives as model
-use Rattle.dj_model.specs.Natives.{Seen, reference}
-use Rattle.dj_model.specs.Performing.{class_at_number, seen, perform, native, with_fields}
+use Rattle.dj_model.specs.trusted.Types.{Prefix, is_stop}
+use Rattle.dj_model.specs.trusted.Program.{Program}
+use Rattle.dj_model.specs.trusted.State.{Terms, Counting, Uncounted, Accounted, Part, Flow, Next, Raise, Goes, Catch, Stop, End, Effect, goes}
+use Rattle.dj_model.specs.trusted.Natives as model
+use Rattle.dj_model.specs.trusted.Natives.{Seen, reference}
+use Rattle.dj_model.specs.trusted.Performing.{class_at_number, seen, perform, native, with_fields}
 use Rattle.dj_calls.specs.declared.answer.Answer.{Answer}
 use Rattle.dj_calls.specs.declared.answer.NativeAnswer.{NativeAnswer}
 use Rattle.dj_calls.specs.declared.answer.NativeAnswer.TheVariants as told
@@ -26,7 +27,7 @@ use Rattle.dj_calls.specs.Answers.{answer_view}
 
 -- ---- what the model of a run has in the place of the heap and the accounter
 
--- the classes of objects are told by types
+-- the heap, with types in place of the numbers of classes
 abbrev pub typed_heap : List Ty → LimitedHeap → Heap Ty
 typed_heap types h = heap_map (type_at types) h.heap
 
@@ -40,7 +41,7 @@ counting_of (Some c) = Accounted c.limits
 abbrev pub terms_of : LimitedHeap → Option Counter → Terms
 terms_of h counter = record { limit = Some h.limit; counting = counting_of counter }
 
--- without an accounter nobody counts
+-- without an accounter no charges are counted
 abbrev pub with_counter : Option Counter → Part → Part
 with_counter None p = p
 with_counter (Some c) p = record p { account = c.account }
@@ -48,7 +49,7 @@ with_counter (Some c) p = record p { account = c.account }
 abbrev pub part_with : List Ty → LimitedHeap → Option Counter → Part → Part
 part_with types h counter p = with_counter counter (record p { heap = typed_heap types h })
 
--- ---- what a call tells
+-- ---- what a call answers
 
 abbrev pub given : NativeAnswer → List Value
 given (told.Gives v) = v ∷ []
@@ -71,7 +72,7 @@ abbrev pub effect_with : List Ty → LimitedHeap → Option Counter → NativeAn
 effect_with types h counter result p flow =
     record { part = record (part_with types h counter p) { operands = given result ++ p.operands }; flow = flow }
 
--- the model's native method has this effect, whatever the rest of the run is; nothing is told of one that had no memory
+-- the model's native method has this effect, whatever the rest of the run is; nothing is said where there was no memory
 abbrev pub Does : Program → Prefix → List Ty → LimitedHeap → LimitedHeap → Option Counter → Option Counter → NativeId → List Value → NativeAnswer → Option Flow → Type 0
 Does program prefix types old new before after id args result None = ⊤
 Does program prefix types old new before after id args result (Some flow) =
@@ -108,14 +109,14 @@ flow_of told.Stop = Stop
 flow_of (told.Full used size) = End (outcomes.HeapFull used size)
 flow_of told.Memory = Goes Next
 
--- where nobody counts, such an answer of the model has this effect; nothing is told of one that had no memory
+-- where nobody counts charges, such an answer of the model has this effect; nothing is said where there was no memory
 abbrev pub Performs : Prefix → List Ty → LimitedHeap → LimitedHeap → model.Answer → NativeAnswer → Type 0
 Performs prefix types old new answer told.Memory = ⊤
 Performs prefix types old new answer told.Stop = ⊥
 Performs prefix types old new answer result =
     (p : Part) → perform prefix (terms_of old None) (part_with types old None p) answer ≡ effect_with types new None result p (flow_of result)
 
--- what came of an answer of the model, with all that a call has to tell of the heap
+-- the result of an answer of the model, with all that a call says of the heap
 pub record Done (prefix : Prefix) (types : List Ty) (old new : LimitedHeap) (answer : model.Answer) (result : NativeAnswer) : Type 0 where
   pub does : Performs prefix types old new answer result
   pub heap : KeepsHeap old new result

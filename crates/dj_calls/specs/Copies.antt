@@ -3,11 +3,11 @@ use Rattle.std.specs.Prelude.{◌≡◌, ℕ, ◌+◌, ◌^◌, ◌<◌, ◌≤�
 use Rattle.dj_names.specs.declared.descriptor.Ty.{Ty}
 use Rattle.dj_names.specs.declared.run.Element.{Element}
 use Rattle.dj_names.specs.declared.run.Value.{Value}
-use Rattle.dj_names.specs.Heaps.{Object, Array, with_object}
+use Rattle.dj_names.specs.trusted.Heaps.{Object, Array, with_object}
 use Rattle.dj_heap.specs.Heaps.{LimitedHeap, object_in}
-use Rattle.dj_model.specs.Types.{Prefix}
-use Rattle.dj_model.specs.Program.{Program}
-use Rattle.dj_model.specs.Natives as model
+use Rattle.dj_model.specs.trusted.Types.{Prefix}
+use Rattle.dj_model.specs.trusted.Program.{Program}
+use Rattle.dj_model.specs.trusted.Natives as model
 use Rattle.dj_names.specs.declared.run.Element.TheVariants as elements
 use Rattle.dj_names.specs.declared.run.Raised.TheVariants as raises
 use Rattle.dj_calls.specs.declared.answer.NativeAnswer.{NativeAnswer}
@@ -24,7 +24,7 @@ abbrev pub as_place : ℤ → Option ℕ
 as_place (pos n) = Some n
 as_place (negsuc n) = None
 
--- the elements of an array; of what is no array there are none
+-- the elements of an array; none where there is no array
 abbrev pub contents_held : Option (Object ℕ) → List ℤ
 contents_held (Some (Array class element contents)) = contents
 contents_held _ = []
@@ -32,11 +32,11 @@ contents_held _ = []
 abbrev pub contents_at : LimitedHeap → ℕ → List ℤ
 contents_at h r = contents_held (object_in h r)
 
--- so many elements stand there from this place on
+-- the array has this many elements from this place on
 abbrev pub fits_at : LimitedHeap → ℕ → ℕ → ℕ → Bool
 fits_at h r from count = nat_le (from + count) (length (contents_at h r))
 
--- an array of such elements, with so many of them from this place on
+-- an array of such elements, with this many of them from this place on
 pub record HasPlaces (h : LimitedHeap) (r : ℕ) (element : Element) (from count : ℕ) : Type 0 where
   pub class : ℕ
   pub contents : List ℤ
@@ -62,29 +62,29 @@ abbrev pub CopiesSo : Program → Prefix → List Ty → LimitedHeap → Element
 CopiesSo program prefix types h element copy answer = (class other : ℕ) (contents old : List ℤ) → object_in h copy.source ≡ Some (Array class element contents)
     → object_in h copy.target ≡ Some (Array other element old) → answer ≡ model.copied copy.target old copy.to (moved_of program prefix types h element copy contents) copy.count
 
--- so many elements are moved
+-- this many elements are moved
 abbrev pub MovesSo : Program → Prefix → List Ty → LimitedHeap → Element → Copy → ℕ → Type 0
 MovesSo program prefix types h element copy n = (class : ℕ) (contents : List ℤ) → object_in h copy.source ≡ Some (Array class element contents)
     → moved_of program prefix types h element copy contents ≡ take n (drop copy.from contents)
 
--- so many elements stand in the target now, and all else is as it was
+-- the target has this many of the elements now, and all else is as it was
 abbrev pub Moves : LimitedHeap → LimitedHeap → Copy → ℕ → Type 0
 Moves old new copy n = (class other : ℕ) (element : Element) (contents olds : List ℤ) → object_in old copy.source ≡ Some (Array class element contents)
     → object_in old copy.target ≡ Some (Array other element olds)
     → new ≡ record old { heap = with_object old.heap copy.target (Array other element (take copy.to olds ++ take n (drop copy.from contents) ++ drop (copy.to + n) olds)) }
 
--- what came of it is what came of the model's answer
+-- the copy did what the model's answer says
 abbrev pub CopiesAll : Program → Prefix → List Ty → LimitedHeap → LimitedHeap → Element → Copy → NativeAnswer → Type 0
 CopiesAll program prefix types old new element copy result =
     (answer : model.Answer) → CopiesSo program prefix types old element copy answer → Done prefix types old new answer result
 
--- the places that the arguments tell, where they are inside of both arrays
+-- the places that the arguments give, where they are inside of both arrays
 abbrev pub IsPlaces : LimitedHeap → Element → List Value → Option Copy → Type 0
 IsPlaces h element args None = (program : Program) (prefix : Prefix) (types : List Ty) → copy_answer program prefix types h args ≡ model.Raises raises.ArrayIndexOutOfBounds
 IsPlaces h element args (Some copy) = IsCopy h element copy
     × ((program : Program) (prefix : Prefix) (types : List Ty) → CopiesSo program prefix types h element copy (copy_answer program prefix types h args))
 
--- so many stand before the first reference that isn't taken
+-- this many come before the first reference that isn't taken
 abbrev pub Takes : (ℕ → Bool) → LimitedHeap → Copy → ℕ → Type 0
 Takes takes h copy n = (class : ℕ) (contents : List ℤ) → object_in h copy.source ≡ Some (Array class elements.Ref contents)
     → model.taken_before takes (slice_range contents copy.from (copy.from + copy.count)) ≡ take n (drop copy.from contents)

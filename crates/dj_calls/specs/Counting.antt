@@ -5,11 +5,11 @@ use Rattle.std.proofs.Common.{inl, inr}
 use Rattle.dj_names.specs.declared.run.Charge.{Charge}
 use Rattle.dj_names.specs.declared.run.Charge.TheVariants as charges
 use Rattle.dj_names.specs.declared.run.Thresholds.{Thresholds}
-use Rattle.dj_names.specs.Heaps.{rounded}
-use Rattle.dj_model.specs.State.{Account}
-use Rattle.dj_model.specs.Charging as model
-use Rattle.dj_model.specs.Charging.{charge_one}
-use Rattle.dj_model.specs.Natives as answered
+use Rattle.dj_names.specs.trusted.Heaps.{rounded}
+use Rattle.dj_model.specs.trusted.State.{Account}
+use Rattle.dj_model.specs.trusted.Charging as model
+use Rattle.dj_model.specs.trusted.Charging.{charge_one}
+use Rattle.dj_model.specs.trusted.Natives as answered
 use Rattle.dj_calls.specs.declared.amount.Amount.{Amount}
 use Rattle.dj_calls.specs.declared.accounter.Charged.{Charged}
 use Rattle.dj_calls.specs.declared.accounter.Charged.TheVariants as charged
@@ -35,13 +35,13 @@ abbrev pub told : Option Charge → Charged
 told None = charged.Fine
 told (Some charge) = charged.Stop
 
--- a charge was added as the model of a run has it: the account is the one that it tells, and the answer whether the run goes on
+-- a charge was added as in the model of a run: the account is the model's, and the answer is whether the run goes on
 pub record Adds (charge : Charge) (n : ℕ) (old new : Counter) (result : Charged) : Type 0 where
   pub limits : new.limits ≡ old.limits
   pub account : charge_one old.limits old.account charge n ≡ charged_by new.account new.account.exceeded
   pub answer : result ≡ told new.account.exceeded
 
--- what a text of so many units is charged
+-- what a text of this many units is charged
 abbrev pub text_amount : ℕ → ℕ
 text_amount units = 16 + rounded (2 * units)
 
@@ -64,7 +64,7 @@ Counts (Some due) None after result = (after ≡ None) × (result ≡ charged.Fi
 Counts (Some due) (Some before) None result = ⊥
 Counts (Some due) (Some before) (Some after) result = Adds due.0 due.1 before after result
 
--- ---- an accounter that is lent for a call, where there is one
+-- ---- an accounter that is borrowed for a call, where there is one
 
 abbrev pub lent : Option (MutBor Counter) → Option Counter
 lent None = None

@@ -6,11 +6,11 @@ use Rattle.dj_names.specs.declared.run.Element.TheVariants as elements
 use Rattle.dj_names.specs.declared.run.Value.{Value}
 use Rattle.dj_names.specs.declared.native.NativeId.{NativeId}
 use Rattle.dj_names.specs.declared.native.NativeId.TheVariants as natives
-use Rattle.dj_names.specs.Heaps.{Object, Instance, Array, Text, class_of}
-use Rattle.dj_names.specs.Types.{Name, class_type}
-use Rattle.dj_names.specs.Values.{value_kind}
+use Rattle.dj_names.specs.trusted.Heaps.{Object, Instance, Array, Text, class_of}
+use Rattle.dj_names.specs.trusted.Types.{Name, class_type}
+use Rattle.dj_names.specs.trusted.Values.{value_kind}
 use Rattle.dj_heap.specs.Heaps.{LimitedHeap, object_in}
-use Rattle.dj_model.specs.Natives.{is_reference, reference, asks}
+use Rattle.dj_model.specs.trusted.Natives.{is_reference, reference, asks}
 use Rattle.dj_model.specs.NativeKinds.{native_signature}
 use Rattle.dj_natives.specs.Numbered.{type_at, holds_references}
 
@@ -18,7 +18,7 @@ use Rattle.dj_natives.specs.Numbered.{type_at, holds_references}
 abbrev pub IsClassType : Ty → Type 0
 IsClassType ty = (name : Name) × (ty ≡ class_type name)
 
--- an instance is of no array, and an array of references is of a class of such arrays
+-- an instance's class is no array, and the class of an array of references is one of such arrays
 abbrev pub HoldsKnown : List Ty → Object ℕ → Type 0
 HoldsKnown types (Instance class fields) = IsClassType (type_at types class)
 HoldsKnown types (Array class element contents) = IsTrue (is_reference element) → holds_references (type_at types class) ≡ true

@@ -1,9 +1,9 @@
--- What native methods see of a heap whose classes are told by numbers.
+-- What native methods see of a heap whose objects have classes by numbers.
 use Rattle.std.specs.Prelude.{◌≡◌, ℕ, ◌<◌, ◌≤◌, Bool, true, false, List, [], length, Option, Some, None, IsSome, slice_index, codes, nat_eq, nat_le, ℤ, pos, negsuc, if◌then◌else◌}
 use Rattle.dj_names.specs.declared.run.Element.{Element}
-use Rattle.dj_names.specs.Heaps.{Object, Instance, Array, Text}
+use Rattle.dj_names.specs.trusted.Heaps.{Object, Instance, Array, Text}
 use Rattle.dj_heap.specs.Heaps.{LimitedHeap, object_in}
-use Rattle.dj_model.specs.Natives.{Elements}
+use Rattle.dj_model.specs.trusted.Natives.{Elements}
 
 abbrev pub units_held : Option (Object ℕ) → List ℕ
 units_held (Some (Text class units)) = units
@@ -21,18 +21,18 @@ abbrev pub elements_held : Option (Object ℕ) → Option Elements
 elements_held (Some (Array class element contents)) = Some (record { element = element; contents = contents })
 elements_held _ = None
 
--- the units of a text, and none of anything else
+-- the units of a text; none for anything else
 abbrev pub units_at : LimitedHeap → ℕ → List ℕ
 units_at h r = units_held (object_in h r)
 
--- the units of a text, and those of its name for null
+-- the units of a text; for null those of `null`
 abbrev pub null_or_units : LimitedHeap → ℕ → List ℕ
 null_or_units h r = if nat_eq r 0 then codes "null" else units_at h r
 
 abbrev pub is_text_at : LimitedHeap → ℕ → Bool
 is_text_at h r = is_text_held (object_in h r)
 
--- the 64 bits of the field at this place, and 0 where there is none
+-- the 64 bits of the field at this place; 0 where there is none
 abbrev pub field_at : LimitedHeap → ℕ → ℕ → ℕ
 field_at h r place = field_held (object_in h r) place
 
@@ -43,7 +43,7 @@ abbrev pub element_of : Option Elements → Option Element
 element_of None = None
 element_of (Some a) = Some a.element
 
--- a place in a text of so many units, or at its end
+-- a place in a text of this many units, or at its end
 abbrev pub place_within : ℕ → ℤ → Option ℕ
 place_within count (pos n) = if nat_le n count then Some n else None
 place_within count (negsuc n) = None

@@ -1,12 +1,12 @@
 ghost use Rattle.std.specs.Prelude.{◌≡◌, ◌<◌, ◌↔◌, IsTrue, codes, length};
 ghost use Rattle.dj_names.specs.declared.descriptor.Base.TheVariants as bases;
-ghost use Rattle.dj_names.specs.Types.{base_array};
+ghost use Rattle.dj_names.specs.trusted.Types.{base_array};
 ghost use Rattle.dj_natives.specs.Numbered.{type_at};
-ghost use Rattle.dj_model.specs.Linking.{is_subtype};
+ghost use Rattle.dj_model.specs.trusted.Linking.{is_subtype};
 
 use dj_natives::Classes;
 
-/// Whether a reference that is of no object counts as one of the class of a number: it does so as an array of booleans does.
+/// Whether a reference that is of no object counts as one of the class of this number: it counts as an array of booleans.
 pub fn takes_absent<C: Classes>(classes: &C, class: u32) -> bool
     requires { class < length (C.types classes.now) }
     ensures { result ≡ is_subtype (C.program classes.now) (C.prefix classes.now) (base_array bases.Boolean) (type_at (C.types classes.now) class) }
@@ -22,7 +22,7 @@ pub fn takes_absent<C: Classes>(classes: &C, class: u32) -> bool
     }
 }
 
-// Whether arrays of chars are of the class.
+// Whether the arrays of chars are a subtype of the class.
 #[tactic(auto, using(crate::proofs::BooleanArrays::chars_within, crate::proofs::BooleanArrays::chars_at))]
 fn takes_chars<C: Classes>(classes: &C, class: u32) -> bool
     requires { class < length (C.types classes.now) }

@@ -1,14 +1,14 @@
 ghost use Rattle.std.specs.Prelude.{◌≡◌, ◌≤◌, ◌+◌, ◌^◌, pos};
 ghost use Rattle.dj_names.specs.declared.run.Charge.TheVariants as charges;
-ghost use Rattle.dj_model.specs.Charging as model;
-ghost use Rattle.dj_model.specs.Natives.{allocation_amount, array_amount};
+ghost use Rattle.dj_model.specs.trusted.Charging as model;
+ghost use Rattle.dj_model.specs.trusted.Natives.{allocation_amount, array_amount};
 ghost use Rattle.dj_calls.specs.Counting.{AreLow, Adds, text_amount};
 
 use crate::amounts::{added, allocated, array_bytes, passes, text_bytes};
 use dj_names::{Charge, Costs, Thresholds};
 use std::marker::Model;
 
-/// What came of a charge.
+/// Whether a charge passed its threshold.
 #[derive(Clone, Copy, Debug, PartialEq, Eq)]
 pub enum Charged {
     /// No sum is above its threshold.
@@ -17,7 +17,7 @@ pub enum Charged {
     Stop,
 }
 
-/// The sums of what a run is charged, and what each may come to at most.
+/// The sums of what a run is charged, and the threshold of each.
 #[derive(Debug, Drop)]
 pub struct Accounter {
     limits: Thresholds,
@@ -75,21 +75,21 @@ impl Accounter {
         self.add(Charge::Throw, 1)
     }
 
-    /// Adds so many bytes, and nothing where the number is negative.
+    /// Adds this many bytes, and nothing where the number is negative.
     pub fn record_allocation(&mut self, size: i32) -> Charged
         ensures { Adds charges.Alloc (allocation_amount size) self.old self.new result }
     {
         self.add(Charge::Alloc, allocated(size))
     }
 
-    /// Adds the bytes of an array of so many elements of this size, and nothing where one of the numbers is negative.
+    /// Adds the bytes of an array of this many elements of this size, and nothing where one of the numbers is negative.
     pub fn record_array(&mut self, length: i32, element: i32) -> Charged
         ensures { Adds charges.Alloc (array_amount length element) self.old self.new result }
     {
         self.add(Charge::Alloc, array_bytes(length, element))
     }
 
-    /// Adds the bytes of a text of so many units.
+    /// Adds the bytes of a text of this many units.
     pub fn record_text(&mut self, units: u32) -> Charged
         ensures { Adds charges.Alloc (text_amount units) self.old self.new result }
     {

@@ -1,7 +1,7 @@
 ghost use Rattle.std.specs.Prelude.{◌≡◌, ◌+◌, ◌^◌, ◌<◌, ◌≤◌};
-ghost use Rattle.dj_names.specs.Heaps as heaps;
-ghost use Rattle.dj_model.specs.Charging as model;
-ghost use Rattle.dj_model.specs.Natives.{allocation_amount, array_amount};
+ghost use Rattle.dj_names.specs.trusted.Heaps as heaps;
+ghost use Rattle.dj_model.specs.trusted.Charging as model;
+ghost use Rattle.dj_model.specs.trusted.Natives.{allocation_amount, array_amount};
 ghost use Rattle.dj_calls.specs.Counting.{text_amount};
 
 use dj_names::{Charge, Costs, Thresholds};
@@ -45,7 +45,7 @@ pub fn rounded(n: u64) -> u64
     (n + 7) / 8 * 8
 }
 
-// So many bytes, and none where the number is negative.
+// This many bytes, and none where the number is negative.
 pub fn allocated(size: i32) -> u64
     ensures exact { result ≡ allocation_amount size }
     ensures few { result < 2 ^ 31 }
@@ -53,7 +53,7 @@ pub fn allocated(size: i32) -> u64
     if size < 0 { 0 } else { size as u64 }
 }
 
-// The bytes of an array of so many elements of this size, and none where one of the numbers is negative.
+// The bytes of an array of this many elements of this size, and none where one of the numbers is negative.
 pub fn array_bytes(length: i32, element: i32) -> u64
     ensures exact { result ≡ array_amount length element }
     ensures few { result ≤ 2 ^ 63 + 16 }
@@ -65,7 +65,7 @@ pub fn array_bytes(length: i32, element: i32) -> u64
     }
 }
 
-// The bytes of a text of so many units.
+// The bytes of a text of this many units.
 pub fn text_bytes(units: u64) -> u64
     requires { units < 2 ^ 62 }
     ensures exact { result ≡ text_amount units }

@@ -1,19 +1,19 @@
 ghost use Rattle.std.specs.Prelude.{◌≡◌, pos, Some, IfSome};
-ghost use Rattle.dj_model.specs.Natives as model;
+ghost use Rattle.dj_model.specs.trusted.Natives as model;
 ghost use Rattle.dj_calls.specs.Answers.{answer_view};
 ghost use Rattle.dj_calls.specs.declared.answer.Answer.TheVariants as answers;
 
 use crate::amount::Amount;
 use dj_names::{Raised, Units, Value};
 
-/// What came of a call of a native method.
+/// What a call of a native method did.
 #[derive(Clone, Copy, Debug, PartialEq, Eq)]
 pub enum NativeAnswer {
-    /// It returns without a value.
+    /// It returned without a value.
     Nothing,
     Gives(Value),
     Raise(Raised),
-    /// The object that stops the run is thrown.
+    /// The object that stops the run is to be thrown.
     Stop,
     /// An object of this size doesn't fit beside the used bytes.
     Full { used: u64, size: u64 },
@@ -42,7 +42,7 @@ pub enum Answer {
     Memory,
 }
 
-// It returns this number, which is small, as the number of an object is.
+// It returns this number, which is small, such as the number of an object.
 pub fn gives_int(n: u32) -> Answer
     ensures { IfSome (answer_view result) (λ a. a ≡ model.gives_int (pos n)) }
 {
@@ -59,7 +59,7 @@ pub fn gives_reference(r: u32) -> Answer
     Answer::Returns(Some(Value::Ref(r)))
 }
 
-// It returns whether it is so.
+// It returns this truth value.
 pub fn gives_truth(b: bool) -> Answer
     ensures { answer_view result ≡ Some (model.gives_truth b) }
 {

@@ -1,8 +1,8 @@
 ghost use Rattle.std.specs.Prelude.{◌≡◌, Some, slice_get};
 ghost use Rattle.std.specs.Option.{option_map};
 ghost use Rattle.dj_names.specs.declared.descriptor.Kind.TheVariants as kinds;
-ghost use Rattle.dj_names.specs.Values.{value_kind};
-ghost use Rattle.dj_model.specs.Natives as model;
+ghost use Rattle.dj_names.specs.trusted.Values.{value_kind};
+ghost use Rattle.dj_model.specs.trusted.Natives as model;
 
 use dj_names::Value;
 

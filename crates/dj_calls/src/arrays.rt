@@ -1,11 +1,11 @@
 ghost use Rattle.std.specs.Prelude.{◌≡◌, ◌<◌, ◌≤◌, ◌^◌, ◌&&◌, Some, IsSome, length, map, slice_get, unsigned_abs};
 ghost use Rattle.std.specs.Option.{option_map};
 ghost use Rattle.dj_names.specs.declared.descriptor.Kind.TheVariants as kinds;
-ghost use Rattle.dj_names.specs.Values.{value_kind};
+ghost use Rattle.dj_names.specs.trusted.Values.{value_kind};
 ghost use Rattle.dj_names.specs.declared.native.NativeId.TheVariants.{ArrayCopy};
 ghost use Rattle.dj_names.specs.declared.run.Element.TheVariants as elements;
 ghost use Rattle.dj_model.specs.NativeKinds.{native_signature};
-ghost use Rattle.dj_model.specs.Natives as model;
+ghost use Rattle.dj_model.specs.trusted.Natives as model;
 ghost use Rattle.dj_calls.specs.Calls.{Acts, Done};
 ghost use Rattle.dj_calls.specs.Copies.{as_place, contents_at, fits_at, IsCopy, Moves, MovesSo, CopiesAll, IsPlaces, Takes, copy_answer, takes_at};
 ghost use Rattle.dj_calls.specs.Known.{AreKnown};
@@ -19,7 +19,7 @@ use dj_heap::{Heap, Made};
 use dj_names::{Element, Raised, Value};
 use dj_natives::Classes;
 
-// What is copied: so many elements from a place of one array to a place of another.
+// What is copied: this many elements from a place of one array to a place of another.
 #[derive(Clone, Copy)]
 pub struct Copy {
     pub source: u32,
@@ -97,7 +97,7 @@ fn copy_like<C: Classes>(
     }
 }
 
-// What the elements of an array are; of what is no array there is none.
+// What the elements of an array are; none where there is no array.
 fn element_of(heap: &Heap, r: u32) -> Option<Element>
     ensures { result ≡ element_of (elements_at heap.now r) }
 {
@@ -176,7 +176,7 @@ fn both_fit(heap: &Heap, copy: Copy) -> bool
     first && second
 }
 
-// Whether so many elements stand in an array from this place on.
+// Whether an array has this many elements from this place on.
 fn fits(heap: &Heap, r: u32, from: u32, count: u32) -> bool
     requires { IsSome (elements_at heap.now r) }
     ensures fit { result ≡ fits_at heap.now r from count }
@@ -215,7 +215,7 @@ fn copy_elements<C: Classes>(
     }
 }
 
-// How many elements stand before the first one that the target doesn't take.
+// How many elements come before the first one that the target doesn't take.
 fn taken_of<C: Classes>(classes: &C, heap: &Heap, element: Element, copy: Copy) -> u32
     requires known { AreKnown (C.types classes.now) heap.now }
     requires copy { IsCopy heap.now element copy }
@@ -228,7 +228,7 @@ fn taken_of<C: Classes>(classes: &C, heap: &Heap, element: Element, copy: Copy) 
     }
 }
 
-// How many references stand before the first one that the target doesn't take.
+// How many references come before the first one that the target doesn't take.
 fn taken_before<C: Classes>(classes: &C, heap: &Heap, copy: Copy) -> u32
     requires known { AreKnown (C.types classes.now) heap.now }
     requires copy { IsCopy heap.now elements.Ref copy }
@@ -260,7 +260,7 @@ fn takes<C: Classes>(classes: &C, heap: &Heap, array: u32, r: i64) -> bool
     }
 }
 
-// Copies the first so many elements.
+// Copies the first n elements.
 fn move_elements(heap: &mut Heap, element: Element, copy: Copy, count: u32)
     requires copy { IsCopy heap.old element copy }
     requires few { count ≤ copy.count }

@@ -1,9 +1,9 @@
 ghost use Rattle.std.specs.Prelude.{◌≡◌, ◌++◌, [], ◌∷◌, List, Some, IfOk, IfSome};
 ghost use Rattle.dj_names.specs.declared.run.Value.TheVariants as values;
 ghost use Rattle.dj_names.specs.declared.descriptor.Ty.{Ty};
-ghost use Rattle.dj_model.specs.Types.{Prefix};
-ghost use Rattle.dj_model.specs.Program.{Program};
-ghost use Rattle.dj_model.specs.Natives as model;
+ghost use Rattle.dj_model.specs.trusted.Types.{Prefix};
+ghost use Rattle.dj_model.specs.trusted.Program.{Program};
+ghost use Rattle.dj_model.specs.trusted.Natives as model;
 ghost use Rattle.dj_calls.specs.Answers.{answer_view, answered_by, IsAppended, Tells, is_on_builders};
 ghost use Rattle.dj_calls.specs.Calls.{seen_of};
 ghost use Rattle.dj_calls.specs.Seen.{units_at, field_at, null_or_units};
@@ -18,7 +18,7 @@ use dj_names::{NativeId, NoMemory, Raised, Units, Value};
 use std::alloc::Global;
 
 // The answer of a method of StringBuilder: its field is a text, or null for no units.
-#[tactic(auto, using(crate::proofs::Others::no_on_builders), unfolding(dj_model::specs::Natives::answer))]
+#[tactic(auto, using(crate::proofs::Others::no_on_builders), unfolding(dj_model::specs::trusted::Natives::answer))]
 pub fn on_builders(alloc: Global, heap: &Heap, id: NativeId, args: &[Value]) -> Option<Answer>
     ensures { (program : Program) (prefix : Prefix) (types : List Ty) → Tells is_on_builders id (seen_of program prefix types heap.now) args.now result }
 {
@@ -54,7 +54,7 @@ pub fn on_builders(alloc: Global, heap: &Heap, id: NativeId, args: &[Value]) -> 
     }
 }
 
-// The text becomes the first field of the object; null is asked first.
+// The text becomes the first field of the object; null is tested first.
 fn keeps(r: u32, text: u32) -> Answer
     ensures { answer_view result ≡ Some (model.unless_null text (model.SetsFields r (values.Ref text ∷ []))) }
 {
@@ -65,7 +65,7 @@ fn keeps(r: u32, text: u32) -> Answer
     }
 }
 
-// The units of a text, and those of its name for null.
+// The units of a text; for null those of `null`.
 fn text_or_null(alloc: Global, heap: &Heap, r: u32) -> Result<Units, NoMemory>
     ensures { IfOk result (λ units. units ≡ null_or_units heap.now r) }
 {

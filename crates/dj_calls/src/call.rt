@@ -21,7 +21,7 @@ use dj_names::{NativeId, Value};
 use dj_natives::Classes;
 use std::alloc::Global;
 
-/// Calls a native method that the host doesn't answer. What it makes is charged before, where there is an accounter.
+/// Calls a native method that the host doesn't answer. What it makes is charged first, where there is an accounter.
 pub fn call_native<C: Classes>(
     alloc: Global,
     classes: &C,
@@ -60,7 +60,7 @@ fn call_counted<C: Classes>(
     }
 }
 
-// The same, where nobody counts.
+// The same, where no charges are counted.
 fn call_plain<C: Classes>(
     alloc: Global,
     classes: &C,
@@ -110,7 +110,7 @@ fn answer_of<C: Classes>(
     on_objects(alloc, classes, heap, id, args)
 }
 
-// What is done of it, where it is charged.
+// Does what the answer says, where that is charged.
 fn finish<C: Classes>(
     classes: &C,
     heap: &mut Heap,

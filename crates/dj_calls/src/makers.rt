@@ -1,8 +1,8 @@
 ghost use Rattle.std.specs.Prelude.{◌≡◌, ◌<◌, ◌≤◌, ◌++◌, ◌∷◌, [], List, Some, IfSome, IfOk, OnOk, length, pos, slice_get, slice_range};
 ghost use Rattle.dj_names.specs.declared.descriptor.Ty.{Ty};
-ghost use Rattle.dj_model.specs.Types.{Prefix};
-ghost use Rattle.dj_model.specs.Program.{Program};
-ghost use Rattle.dj_model.specs.Natives as model;
+ghost use Rattle.dj_model.specs.trusted.Types.{Prefix};
+ghost use Rattle.dj_model.specs.trusted.Program.{Program};
+ghost use Rattle.dj_model.specs.trusted.Natives as model;
 ghost use Rattle.dj_calls.specs.Answers.{answer_view, answered_by, Tells, is_making_text};
 ghost use Rattle.dj_calls.specs.Calls.{seen_of};
 ghost use Rattle.dj_calls.specs.Known.{HoldsChars, IsFitting, IsOfChars};
@@ -17,7 +17,7 @@ use dj_names::{NativeId, NoMemory, Raised, Units, Value};
 use std::alloc::Global;
 
 // The answer of a method of String that makes a text or an array of chars.
-#[tactic(auto, using(crate::proofs::Others::no_making_text), unfolding(dj_model::specs::Natives::answer))]
+#[tactic(auto, using(crate::proofs::Others::no_making_text), unfolding(dj_model::specs::trusted::Natives::answer))]
 pub fn making_text(alloc: Global, heap: &Heap, id: NativeId, args: &[Value]) -> Option<Answer>
     requires fits { IsFitting id heap.now args.now }
     ensures { (program : Program) (prefix : Prefix) (types : List Ty) → Tells is_making_text id (seen_of program prefix types heap.now) args.now result }
@@ -112,7 +112,7 @@ fn part_from(alloc: Global, heap: &Heap, r: u64, from: u32, to: i64) -> Answer
     }
 }
 
-// The number as a place in a text of so many units, or at its end.
+// The number as a place in a text of this many units, or at its end.
 fn place_in(z: i64, length: u32) -> Option<u32>
     ensures { place_within length z ≡ result }
 {
@@ -154,7 +154,7 @@ fn units_between(alloc: Global, heap: &Heap, r: u64, from: u32, to: u32) -> Resu
     Ok(units)
 }
 
-// A text of the elements of an array of chars; null is asked first.
+// A text of the elements of an array of chars; null is tested first.
 fn value_of_chars(alloc: Global, heap: &Heap, r: u32) -> Answer
     requires chars { IsOfChars (object_in heap.now r) }
     ensures { IfSome (answer_view result) (λ a. model.unless_null r (model.MakesText (model.elements_units (elements_at heap.now r))) ≡ a) }
@@ -165,7 +165,7 @@ fn value_of_chars(alloc: Global, heap: &Heap, r: u32) -> Answer
     made(chars_of(alloc, heap, r))
 }
 
-// The elements of an array of chars, and nothing of what is no array.
+// The elements of an array of chars; none where there is no such array.
 fn chars_of(alloc: Global, heap: &Heap, r: u32) -> Result<Units, NoMemory>
     requires chars { IsOfChars (object_in heap.now r) }
     ensures { IfOk result (λ units. units ≡ model.elements_units (elements_at heap.now r)) }

@@ -1,6 +1,6 @@
 ghost use Rattle.std.specs.Prelude.{◌≡◌, ◌<◌, ◌≤◌, ◌++◌, IfOk, OnOk, length};
-ghost use Rattle.dj_model.specs.Natives as model;
-ghost use Rattle.dj_model.specs.Natives.{class_name, plain_class};
+ghost use Rattle.dj_model.specs.trusted.Natives as model;
+ghost use Rattle.dj_model.specs.trusted.Natives.{class_name, plain_class};
 ghost use Rattle.dj_natives.specs.Numbered.{type_at};
 ghost use Rattle.dj_calls.specs.Names.{after_brackets, plain_elements, plain_text};
 
@@ -8,7 +8,7 @@ use dj_names::{Name, NoMemory, Units, is_modified_utf8, units_of};
 use dj_natives::Classes;
 use std::alloc::Global;
 
-// What stands before the names of the library's classes.
+// What comes before the names of the library's classes.
 fn prefix_of<C: Classes>(classes: &C) -> &[u8]
     ensures { result.now ≡ C.prefix classes.now }
 {
@@ -16,7 +16,7 @@ fn prefix_of<C: Classes>(classes: &C) -> &[u8]
     &string[..string.len() - b"java/lang/String".len()]
 }
 
-// The name of a class, or the descriptor of an array, without what stands before the names of the library's classes.
+// The name of a class, or the descriptor of an array, without what comes before the names of the library's classes.
 pub fn plain_name<C: Classes>(alloc: Global, classes: &C, class: u32) -> Result<Name, NoMemory>
     requires { class < length (C.types classes.now) }
     ensures { IfOk result (λ name. name ≡ class_name (plain_class (C.prefix classes.now) (type_at (C.types classes.now) class))) }
@@ -38,7 +38,7 @@ fn plain_text(alloc: Global, text: &[u8], prefix: &[u8]) -> Result<Name, NoMemor
     Ok(plain)
 }
 
-// Appends what stands after the brackets of a descriptor.
+// Appends what comes after the brackets of a descriptor.
 fn put_elements(plain: &mut Name, elements: &[u8], prefix: &[u8]) -> Result<(), NoMemory>
     ensures { OnOk result (plain.new ≡ plain.old ++ plain_elements prefix.now elements.now) }
 {

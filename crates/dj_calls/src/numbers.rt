@@ -1,8 +1,8 @@
 ghost use Rattle.std.specs.Prelude.{◌≡◌, map, pos};
 ghost use Rattle.std.specs.Int.{w32, w64, int_wrap};
-ghost use Rattle.dj_names.specs.Values.{value_kind};
+ghost use Rattle.dj_names.specs.trusted.Values.{value_kind};
 ghost use Rattle.dj_model.specs.NativeKinds.{native_signature};
-ghost use Rattle.dj_model.specs.Natives.{Seen};
+ghost use Rattle.dj_model.specs.trusted.Natives.{Seen};
 ghost use Rattle.dj_calls.specs.Answers.{Tells, is_on_numbers};
 ghost use Rattle.std.specs.Prelude.{unsigned_abs};
 
@@ -11,7 +11,7 @@ use crate::arguments::{int, number};
 use dj_names::{NativeId, Value};
 
 // The answer of a method of Math, which sees nothing of the heap.
-#[tactic(auto, using(crate::proofs::Others::no_on_numbers), unfolding(dj_model::specs::Natives::answer))]
+#[tactic(auto, using(crate::proofs::Others::no_on_numbers), unfolding(dj_model::specs::trusted::Natives::answer))]
 pub fn on_numbers(id: NativeId, args: &[Value]) -> Option<Answer>
     requires { map value_kind args.now ≡ (native_signature id).parameters }
     ensures { (heap : Seen) → Tells is_on_numbers id heap args.now result }
@@ -27,7 +27,7 @@ pub fn on_numbers(id: NativeId, args: &[Value]) -> Option<Answer>
     }
 }
 
-// Without its sign, but for the least int, which stays.
+// The number without its sign; the least int stays as it is.
 #[tactic(auto, using(crate::proofs::Units::wrapped_32))]
 fn abs_int(z: i32) -> i32
     ensures { result ≡ int_wrap w32 (pos (unsigned_abs z)) }
@@ -35,7 +35,7 @@ fn abs_int(z: i32) -> i32
     z.wrapping_abs()
 }
 
-// Without its sign, but for the least long, which stays.
+// The number without its sign; the least long stays as it is.
 #[tactic(auto, using(crate::proofs::Units::wrapped_64))]
 fn abs_long(z: i64) -> i64
     ensures { result ≡ int_wrap w64 (pos (unsigned_abs z)) }

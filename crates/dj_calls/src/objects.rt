@@ -1,12 +1,12 @@
 ghost use Rattle.std.specs.Prelude.{◌≡◌, IfOk, IfSome};
-ghost use Rattle.dj_model.specs.Natives.{MakesText, object_text};
+ghost use Rattle.dj_model.specs.trusted.Natives.{MakesText, object_text};
 ghost use Rattle.dj_calls.specs.Answers.{answer_view, Tells, is_on_objects};
 ghost use Rattle.dj_calls.specs.Names.{shown_at};
 ghost use Rattle.dj_calls.specs.Calls.{Acts, Done, seen_of, typed_heap};
 ghost use Rattle.dj_names.specs.declared.native.NativeId.TheVariants.{CheckCatch};
-ghost use Rattle.dj_model.specs.Types.{is_stop};
+ghost use Rattle.dj_model.specs.trusted.Types.{is_stop};
 ghost use Rattle.dj_natives.specs.Numbered.{is_number};
-ghost use Rattle.dj_model.specs.Performing.{class_at_number};
+ghost use Rattle.dj_model.specs.trusted.Performing.{class_at_number};
 ghost use Rattle.dj_calls.specs.Known.{AreKnown};
 
 use crate::answer::{Answer, NativeAnswer, given, gives_int, gives_reference, gives_truth};
@@ -19,8 +19,8 @@ use dj_names::{NativeId, NoMemory, Units, Value};
 use dj_natives::Classes;
 use std::alloc::Global;
 
-// The answer of a method of Object or System; of one that the host answers, for null alone.
-#[tactic(auto, using(crate::proofs::Others::no_on_objects), unfolding(dj_model::specs::Natives::answer))]
+// The answer of a method of Object or System; where the host answers the method, only that for null.
+#[tactic(auto, using(crate::proofs::Others::no_on_objects), unfolding(dj_model::specs::trusted::Natives::answer))]
 pub fn on_objects<C: Classes>(
     alloc: Global,
     classes: &C,
@@ -81,7 +81,7 @@ fn is_number(number: Option<u32>, k: u32) -> bool
     }
 }
 
-// What toString gives: the name of the object's class with dots, and its number.
+// What toString returns: the name of the object's class with dots, and its number.
 fn text_of<C: Classes>(alloc: Global, classes: &C, heap: &Heap, r: u32) -> Answer
     requires known { AreKnown (C.types classes.now) heap.now }
     ensures { IfSome (answer_view result) (λ a. MakesText (object_text (shown_at (C.prefix classes.now) (C.types classes.now) heap.now r) r) ≡ a) }
@@ -92,7 +92,7 @@ fn text_of<C: Classes>(alloc: Global, classes: &C, heap: &Heap, r: u32) -> Answe
     }
 }
 
-/// Makes the text that toString gives of an object: the name of its class with dots, and this word.
+/// Makes the text that toString returns for an object: the name of its class with dots, and this word.
 pub fn make_object_text<C: Classes>(
     alloc: Global,
     classes: &C,
@@ -126,7 +126,7 @@ fn object_units<C: Classes>(
     Ok(units)
 }
 
-// The name of the object's class with dots, without what stands before the names of the library's classes; nothing of what is no object.
+// The name of the object's class with dots, without what comes before the names of the library's classes; none where there is no object.
 fn shown<C: Classes>(alloc: Global, classes: &C, heap: &Heap, r: u32) -> Result<Units, NoMemory>
     requires known { AreKnown (C.types classes.now) heap.now }
     ensures { IfOk result (λ units. units ≡ shown_at (C.prefix classes.now) (C.types classes.now) heap.now r) }

@@ -1,6 +1,6 @@
 ghost use Rattle.std.specs.Prelude.{◌≡◌, ◌<◌, ◌≤◌, ◌^◌, [], ◌∷◌, IfOk, OnErr, length, Some};
 ghost use Rattle.dj_names.specs.declared.run.Value.TheVariants as values;
-ghost use Rattle.dj_model.specs.Natives as model;
+ghost use Rattle.dj_model.specs.trusted.Natives as model;
 ghost use Rattle.dj_calls.specs.Answers.{answer_view};
 ghost use Rattle.dj_calls.specs.Calls.{Done, Finished, Fills, IsFillable, SetsField, refused_as, returned};
 ghost use Rattle.dj_calls.specs.Known.{AreKnown};
@@ -11,7 +11,7 @@ use dj_heap::{Heap, HeapError};
 use dj_names::{Element, Units, Value};
 use dj_natives::Classes;
 
-// What is done of an answer, where what it owes is charged.
+// Does what an answer says, once its charge is paid.
 pub fn perform<C: Classes>(classes: &C, heap: &mut Heap, answer: Answer) -> NativeAnswer
     requires { AreKnown (C.types classes.now) heap.old }
     ensures { Finished (C.prefix classes.now) (C.types classes.now) heap.old heap.new (answer_view answer) result }
@@ -84,7 +84,7 @@ fn make_chars<C: Classes>(classes: &C, heap: &mut Heap, units: &Units) -> Native
     make_array(classes, heap, units.as_slice())
 }
 
-// The same, of a slice.
+// The same for a slice.
 fn make_array<C: Classes>(classes: &C, heap: &mut Heap, units: &[u16]) -> NativeAnswer
     requires { AreKnown (C.types classes.now) heap.old }
     ensures { Done (C.prefix classes.now) (C.types classes.now) heap.old heap.new (model.MakesChars units.now) result }

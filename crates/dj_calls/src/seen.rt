@@ -36,7 +36,7 @@ pub fn is_text(heap: &Heap, r: u64) -> bool
     }
 }
 
-// How many units a text has, and 0 of anything else.
+// How many units a text has; 0 for anything else.
 pub fn text_length(heap: &Heap, r: u64) -> u32
     ensures { result ≡ length (units_at heap.now r) }
 {
@@ -68,7 +68,7 @@ pub fn instance_with(heap: &Heap, r: u32, at: u32) -> Option<u32>
     }
 }
 
-// The 64 bits of a field, and 0 where there is none.
+// The 64 bits of a field; 0 where there is none.
 pub fn field(heap: &Heap, r: u32, at: u32) -> u64
     ensures { result ≡ field_at heap.now r at }
 {

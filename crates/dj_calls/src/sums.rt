@@ -1,8 +1,8 @@
 ghost use Rattle.std.specs.Prelude.{◌≡◌, ◌≤◌, ◌+◌, ◌^◌, map, length, Some};
 ghost use Rattle.dj_names.specs.declared.run.Charge.TheVariants as charges;
-ghost use Rattle.dj_names.specs.Values.{value_kind};
+ghost use Rattle.dj_names.specs.trusted.Values.{value_kind};
 ghost use Rattle.dj_model.specs.NativeKinds.{native_signature};
-ghost use Rattle.dj_model.specs.Natives.{Seen};
+ghost use Rattle.dj_model.specs.trusted.Natives.{Seen};
 ghost use Rattle.dj_calls.specs.Answers.{Tells, is_adding, AddsSo, IsDue};
 ghost use Rattle.dj_calls.specs.Counting.{Counts, due_view, text_amount};
 
@@ -14,7 +14,7 @@ use crate::arguments::int;
 use dj_names::{Charge, NativeId, Units, Value};
 
 // The answer of a method of the accounter that adds to a sum.
-#[tactic(auto, using(crate::proofs::Others::no_adding), unfolding(dj_model::specs::Natives::answer))]
+#[tactic(auto, using(crate::proofs::Others::no_adding), unfolding(dj_model::specs::trusted::Natives::answer))]
 pub fn on_sums(id: NativeId, args: &[Value]) -> Option<Answer>
     requires { map value_kind args.now ≡ (native_signature id).parameters }
     ensures { (heap : Seen) → Tells is_adding id heap args.now result }
@@ -29,7 +29,7 @@ pub fn on_sums(id: NativeId, args: &[Value]) -> Option<Answer>
     }
 }
 
-// It adds so much.
+// It adds this amount.
 fn adds(charge: Charge, amount: u64) -> Option<Answer>
     requires { amount ≤ 2 ^ 63 + 16 }
     ensures { AddsSo charge amount result }
@@ -50,7 +50,7 @@ pub fn due(answer: &Option<Answer>) -> Option<Amount>
     }
 }
 
-// So many units, which a text or an array of chars holds.
+// The charge for an object with these units, a text or an array of chars.
 fn units_due(units: &Units) -> Option<Amount>
     ensures { due_view result ≡ Some (charges.Alloc, text_amount (length units.now)) }
 {

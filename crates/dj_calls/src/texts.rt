@@ -2,10 +2,10 @@ ghost use Rattle.std.specs.Prelude.{◌≡◌, ◌<◌, ◌≤◌, List, Some, I
 ghost use Rattle.std.specs.Int.{w32, int_wrap};
 ghost use Rattle.std.specs.List.{starts_with};
 ghost use Rattle.dj_names.specs.declared.descriptor.Ty.{Ty};
-ghost use Rattle.dj_names.specs.Types.{same_name};
-ghost use Rattle.dj_model.specs.Types.{Prefix};
-ghost use Rattle.dj_model.specs.Program.{Program};
-ghost use Rattle.dj_model.specs.Natives as model;
+ghost use Rattle.dj_names.specs.trusted.Types.{same_name};
+ghost use Rattle.dj_model.specs.trusted.Types.{Prefix};
+ghost use Rattle.dj_model.specs.trusted.Program.{Program};
+ghost use Rattle.dj_model.specs.trusted.Natives as model;
 ghost use Rattle.dj_calls.specs.Answers.{answer_view, Tells, is_on_texts};
 ghost use Rattle.dj_calls.specs.Calls.{seen_of};
 ghost use Rattle.dj_calls.specs.Seen.{units_at, is_text_at};
@@ -17,7 +17,7 @@ use dj_heap::Heap;
 use dj_names::{NativeId, Raised, Value};
 
 // The answer of a method of String that makes no object.
-#[tactic(auto, using(crate::proofs::Others::no_on_texts), unfolding(dj_model::specs::Natives::answer))]
+#[tactic(auto, using(crate::proofs::Others::no_on_texts), unfolding(dj_model::specs::trusted::Natives::answer))]
 pub fn on_texts(heap: &Heap, id: NativeId, args: &[Value]) -> Option<Answer>
     ensures { (program : Program) (prefix : Prefix) (types : List Ty) → Tells is_on_texts id (seen_of program prefix types heap.now) args.now result }
 {
@@ -62,7 +62,7 @@ fn equal(heap: &Heap, r: u64, other: u64) -> bool
     is_text(heap, other) && same_text(heap, r, other)
 }
 
-// Whether a text begins with another; null is asked first.
+// Whether a text begins with another; null is tested first.
 fn starts(heap: &Heap, r: u64, other: u64) -> Answer
     ensures { answer_view result ≡ Some (model.unless_null other (model.gives_truth (starts_with nat_eq (units_at heap.now r) (units_at heap.now other)))) }
 {
@@ -112,7 +112,7 @@ fn agree(heap: &Heap, a: u64, b: u64, count: u32) -> bool
     true
 }
 
-// Each unit by the power of 31 that stands for its place from the end.
+// Each unit times 31 to the power of how many units follow it.
 #[tactic(auto, using(crate::proofs::Units::hashed, crate::proofs::Units::low_step, crate::proofs::Units::hash_taken))]
 fn hash_of(heap: &Heap, r: u64) -> i32
     ensures { result ≡ int_wrap w32 (pos (model.hash_onto 0 (units_at heap.now r))) }
@@ -142,7 +142,7 @@ fn compared(heap: &Heap, r: u64, other: u64) -> Answer
     }
 }
 
-// Of the first units that differ, else of the lengths.
+// The difference of the first units that differ, or else of the lengths.
 #[tactic(auto, using(crate::proofs::Units::difference_apart, crate::proofs::Units::difference_alike, crate::proofs::Units::difference_past))]
 fn difference(heap: &Heap, a: u64, b: u64) -> i64
     ensures { result ≡ model.difference (units_at heap.now a) (units_at heap.now b) }
@@ -157,7 +157,7 @@ fn difference(heap: &Heap, a: u64, b: u64) -> i64
     minus(long, other)
 }
 
-// What is left of the first, where the second is taken away.
+// The first number less the second.
 fn minus(a: u32, b: u32) -> i64
     ensures { result ≡ pos a -ℤ pos b }
 {

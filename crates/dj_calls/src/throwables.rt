@@ -3,8 +3,8 @@ ghost use Rattle.dj_calls.specs.Seen.{field_at};
 ghost use Rattle.dj_calls.specs.Answers.{Tells, is_on_throwables};
 ghost use Rattle.dj_calls.specs.Calls.{seen_of};
 ghost use Rattle.dj_names.specs.declared.descriptor.Ty.{Ty};
-ghost use Rattle.dj_model.specs.Types.{Prefix};
-ghost use Rattle.dj_model.specs.Program.{Program};
+ghost use Rattle.dj_model.specs.trusted.Types.{Prefix};
+ghost use Rattle.dj_model.specs.trusted.Program.{Program};
 ghost use Rattle.std.specs.Prelude.{List};
 
 use crate::answer::{Answer, gives_reference};
@@ -14,7 +14,7 @@ use dj_heap::Heap;
 use dj_names::{NativeId, Value};
 
 // The answer of a method of Throwable: its fields are the message and the cause.
-#[tactic(auto, using(crate::proofs::Others::no_on_throwables), unfolding(dj_model::specs::Natives::answer))]
+#[tactic(auto, using(crate::proofs::Others::no_on_throwables), unfolding(dj_model::specs::trusted::Natives::answer))]
 pub fn on_throwables(heap: &Heap, id: NativeId, args: &[Value]) -> Option<Answer>
     ensures { (program : Program) (prefix : Prefix) (types : List Ty) → Tells is_on_throwables id (seen_of program prefix types heap.now) args.now result }
 {
@@ -31,7 +31,7 @@ pub fn on_throwables(heap: &Heap, id: NativeId, args: &[Value]) -> Option<Answer
     }
 }
 
-// The reference in a field, which its low 32 bits tell.
+// The reference in a field, which is in its low 32 bits.
 fn reference_in(heap: &Heap, r: u32, at: u32) -> u32
     ensures { result ≡ field_at heap.now r at % 2 ^ 32 }
 {

@@ -1,16 +1,16 @@
 -- Rule 1 at plain bodies of code and values of fields.
 use Rattle.std.proofs.Common.{◌≡◌, ℕ, ◌+◌, ◌*◌, ◌^◌, ◌<◌, List, [], ◌∷◌, get_or, refl, sym, ap, subst, inl, inr, arith, codes, pos, Some}
 use Rattle.dj_ops.specs.declared.instruction.Instr.TheVariants as instrs
-use Rattle.dj_ops.specs.Forms.{form_of}
-use Rattle.dj_bytes.specs.Spelling.{u2}
-use Rattle.dj_pool.specs.Pool.{Constant, Utf8, Integer, Class, constant_at}
-use Rattle.dj_class.specs.ClassFile.{AttributeInfo, MemberInfo}
-use Rattle.dj_class.specs.Code.{CodeInfo, code_info_bytes, IsCode}
+use Rattle.dj_ops.specs.trusted.Forms.{form_of}
+use Rattle.dj_bytes.specs.trusted.Spelling.{u2}
+use Rattle.dj_pool.specs.trusted.Pool.{Constant, Utf8, Integer, Class, constant_at}
+use Rattle.dj_class.specs.trusted.ClassFile.{AttributeInfo, MemberInfo}
+use Rattle.dj_class.specs.trusted.Code.{CodeInfo, code_info_bytes, IsCode}
 use Rattle.dj_class.proofs.CodeLaws.{one_code}
 use Rattle.dj_labels.specs.declared.labelled.Labelled.{Labelled}
-use Rattle.dj_labels.specs.Labels.{IsLabelled}
+use Rattle.dj_labels.specs.trusted.Labels.{IsLabelled}
 use Rattle.dj_report.proofs.Sorted.{contains_none, contains_cases}
-use Rattle.dj_check.specs.Malformed.{IsNoBody, HasTwoMaps, IsFaultyCode, IsFaultyBody, IsFaultyMethod, FitsField, IsValueFor, IsFaultyField}
+use Rattle.dj_check.specs.trusted.Malformed.{IsNoBody, HasTwoMaps, IsFaultyCode, IsFaultyBody, IsFaultyMethod, FitsField, IsValueFor, IsFaultyField}
 
 -- 1 to 3 are names of attributes, 4 and 7 descriptors of fields, 5 an int, 6 a class
 pool : List Constant

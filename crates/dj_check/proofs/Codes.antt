@@ -2,30 +2,30 @@
 use Rattle.std.proofs.Common.{◌≡◌, ℕ, ◌≤◌, false, List, [], ◌∷◌, length, Option, Some, None, Bor, Ok, Err, Contains, refl, sym, ap, ◌∙◌, subst, inl, inr, arith}
 use Rattle.dj_ops.specs.declared.rows.CatchRow.{CatchRow}
 use Rattle.dj_pool.specs.declared.pool.PoolError.TheVariants as pool_errors
-use Rattle.dj_pool.specs.Pool.{Constant}
+use Rattle.dj_pool.specs.trusted.Pool.{Constant}
 use Rattle.dj_class.specs.declared.class.ClassError.{ClassError}
 use Rattle.dj_class.specs.declared.class.ClassError.TheVariants as class_errors
-use Rattle.dj_class.specs.ClassFile.{MemberInfo}
-use Rattle.dj_class.specs.Code.{CodeInfo, IsCode}
+use Rattle.dj_class.specs.trusted.ClassFile.{MemberInfo}
+use Rattle.dj_class.specs.trusted.Code.{CodeInfo, IsCode}
 use Rattle.dj_class.specs.CodeViews.{ReadsCode}
 use Rattle.dj_class.specs.Memory.{is_memory}
 use Rattle.dj_class.proofs.CodeLaws.{one_code, faulty_is_no_code}
 use Rattle.dj_labels.specs.declared.labelled.Labelled.{Labelled}
 use Rattle.dj_labels.specs.declared.errors.CodeError.{CodeError}
 use Rattle.dj_labels.specs.declared.errors.CodeError.TheVariants as code_errors
-use Rattle.dj_labels.specs.Labels.{IsLabelled}
+use Rattle.dj_labels.specs.trusted.Labels.{IsLabelled}
 use Rattle.dj_labels.specs.Faults.{Yields}
 use Rattle.dj_report.proofs.Sorted.{contains_none, contains_cases}
 use Rattle.dj_check.specs.declared.code.WholeCode.{WholeCode}
 use Rattle.dj_check.specs.declared.code.MethodCode.{MethodCode}
 use Rattle.dj_check.specs.declared.code.MethodCode.TheVariants as methods
-use Rattle.dj_check.specs.Attributes.{codes_of, maps_of}
-use Rattle.dj_check.specs.Malformed.{IsBodiless, IsFaultyCode, IsFaultyBody, IsFaultyMethod}
+use Rattle.dj_check.specs.trusted.Attributes.{codes_of, maps_of}
+use Rattle.dj_check.specs.trusted.Malformed.{IsBodiless, IsFaultyCode, IsFaultyBody, IsFaultyMethod}
 use Rattle.dj_check.specs.Passes.{lacks_memory, bodies_in, IsWholeCode, IsMappedView, IsCodeView, IsWholeBody, IsWholeMethod, IsBodilessView, IsOwnView, IsMethodView}
 
 -- ---- labels
 
--- where another error than want of memory was told there are no labels
+-- where another error than want of memory was reported there are no labels
 pub no_labels : (code : List ℕ) (table : List CatchRow) (e : CodeError) → lacks_memory e ≡ false
     → ((l : Labelled) → IsLabelled code table l → Yields (Err e) (Ok l)) → (l : Labelled) → IsLabelled code table l → ⊥
 no_labels code table code_errors.Memory other all l is = absurd cc

@@ -3,21 +3,22 @@ use Rattle.std.proofs.Common.{◌≡◌, ℕ, zero, suc, ◌+◌, ◌<◌, ◌�
 use Rattle.std.proofs.lemmas.Bool.{cases_lt, cases_eq}
 use Rattle.std.proofs.lemmas.Option.{slice_get_read, slice_get_past, slice_get-get_or, get_or_from_slice_get}
 use Rattle.std.proofs.lemmas.List.{length-append}
-use Rattle.dj_edge.specs.Held.{File}
-use Rattle.dj_class.specs.ClassFile.{ClassFile}
+use Rattle.dj_edge.specs.trusted.Held.{File}
+use Rattle.dj_class.specs.trusted.ClassFile.{ClassFile}
 use Rattle.dj_class.proofs.ClassLaws.{one_class_file}
 use Rattle.dj_pool.proofs.Decides.{tests_decide}
 use Rattle.dj_labels.proofs.Lists.{contains_at}
 use Rattle.dj_report.specs.declared.report.Violation.{Violation}
 use Rattle.dj_report.specs.declared.report.PathFile.{PathFile}
-use Rattle.dj_report.specs.Lines.{Gains, Adds, IsLineAmong, file_line}
+use Rattle.dj_report.specs.trusted.Lines.{file_line}
+use Rattle.dj_report.specs.Lines.{Gains, Adds, IsLineAmong}
 use Rattle.dj_report.proofs.Adding.{adds_same, adds_nothing}
-use Rattle.dj_rules.specs.Violations.{this_name}
+use Rattle.dj_rules.specs.trusted.Violations.{this_name}
 use Rattle.dj_rules.specs.Views.{path_file_view}
 use Rattle.dj_check.specs.declared.doubles.NamedFile.{NamedFile}
-use Rattle.dj_check.specs.Malformed.{IsGood}
+use Rattle.dj_check.specs.trusted.Malformed.{IsGood}
 use Rattle.dj_check.specs.Passes.{TellsName}
-use Rattle.dj_check.specs.Rules.{HasDouble, IsDuplicateLine}
+use Rattle.dj_check.specs.trusted.Rules.{HasDouble, IsDuplicateLine}
 use Rattle.dj_check.specs.Doubles.{IsText, IsBelow, IsNameAt, IsAgainAt, IsRepeated, IsNamedAmong, IsLineAmongNames, IsRepeatedLine, IsNamedAs, AreNamed}
 use Rattle.dj_check.proofs.Anys.{slice_get_push}
 use Rattle.dj_check.proofs.FileLaws.{refused_not_good}
@@ -129,7 +130,7 @@ lines_by_names files names a b are = adds_same (IsLineAmong (IsLineAmongNames na
 
 -- ---- names of files
 
--- the name that is told is that of the class
+-- the name that is reported is that of the class
 of_name : (file : PathFile) (name : Option (Bor (List ℕ))) (text : List ℕ) → TellsName file name → IsText name text → (c : ClassFile) × IsGood file.bytes.now c × (this_name c ≡ text)
 of_name file None text tells is = absurd is
 of_name file (Some name) text (c, good, e) is = (c, good, sym (is ∙ e))

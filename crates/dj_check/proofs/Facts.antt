@@ -6,16 +6,16 @@ use Rattle.dj_names.specs.declared.descriptor.Ty.{Ty}
 use Rattle.dj_names.specs.declared.descriptor.Desc.TheVariants as descs
 use Rattle.dj_ops.specs.declared.instruction.Instr.TheVariants as instrs
 use Rattle.dj_ops.specs.declared.frames.VType.TheVariants as types
-use Rattle.dj_pool.specs.Pool.{Constant, Utf8, Integer, Float, Long, Double, Class, Text, Method, NameAndType, Handle, MethodType}
-use Rattle.dj_class.specs.ClassFile.{AttributeInfo, MemberInfo, ClassFile}
-use Rattle.dj_check.specs.Opcodes.{is_float_op, is_float_base, is_short_literal, is_subroutine_jump}
-use Rattle.dj_check.specs.Floats.{IsFloating, HasFloat, IsFloatArray}
-use Rattle.dj_check.specs.Malformed.{LacksCode, HasNeedlessCode, FitsField, NamesValue}
-use Rattle.dj_check.specs.Classes.{IsReserved, IsReflective, NamesGetClass}
-use Rattle.dj_check.specs.Code.{IsFloatType}
-use Rattle.dj_check.specs.Members.{IsFloatConstant, HasInterfaceCode}
-use Rattle.dj_check.specs.Instructions.{NamesSuchMember, IsDynamic, IsReflection, IsFloat, IsSubroutine, IsBreakpoint, IsMultiArray}
-use Rattle.dj_check.specs.Methods.{CatchesError}
+use Rattle.dj_pool.specs.trusted.Pool.{Constant, Utf8, Integer, Float, Long, Double, Class, Text, Method, NameAndType, Handle, MethodType}
+use Rattle.dj_class.specs.trusted.ClassFile.{AttributeInfo, MemberInfo, ClassFile}
+use Rattle.dj_check.specs.trusted.Opcodes.{is_float_op, is_float_base, is_short_literal, is_subroutine_jump}
+use Rattle.dj_check.specs.trusted.Floats.{IsFloating, HasFloat, IsFloatArray}
+use Rattle.dj_check.specs.trusted.Malformed.{LacksCode, HasNeedlessCode, FitsField, NamesValue}
+use Rattle.dj_check.specs.trusted.Classes.{IsReserved, IsReflective, NamesGetClass}
+use Rattle.dj_check.specs.trusted.Code.{IsFloatType}
+use Rattle.dj_check.specs.trusted.Members.{IsFloatConstant, HasInterfaceCode}
+use Rattle.dj_check.specs.trusted.Instructions.{NamesSuchMember, IsDynamic, IsReflection, IsFloat, IsSubroutine, IsBreakpoint, IsMultiArray}
+use Rattle.dj_check.specs.trusted.Methods.{CatchesError}
 
 -- ---- a pool
 

@@ -1,22 +1,23 @@
 -- The lines of a file.
 use Rattle.std.proofs.Common.{◌≡◌, ℕ, ◌⊎◌, ◌↔◌, Bool, List, [], ◌++◌, Option, Some, None, refl, sym, ap, ◌∙◌, subst, inl, inr, IsTrue, unwrap_or}
-use Rattle.dj_pool.specs.Pool.{Constant, text_at}
+use Rattle.dj_pool.specs.trusted.Pool.{Constant, text_at}
 use Rattle.dj_pool.proofs.Decides.{tests_decide}
-use Rattle.dj_class.specs.ClassFile.{MemberInfo, ClassFile}
+use Rattle.dj_class.specs.trusted.ClassFile.{MemberInfo, ClassFile}
 use Rattle.dj_class.proofs.ClassLaws.{one_class_file}
 use Rattle.dj_report.specs.declared.report.Violation.{Violation}
-use Rattle.dj_report.specs.Lines.{file_line, Adds}
+use Rattle.dj_report.specs.trusted.Lines.{file_line}
+use Rattle.dj_report.specs.Lines.{Adds}
 use Rattle.dj_report.proofs.Adding.{adds_same, adds_both}
-use Rattle.dj_rules.specs.Violations.{member_text, this_name}
+use Rattle.dj_rules.specs.trusted.Violations.{member_text, this_name}
 use Rattle.dj_rules.specs.Lines.{pair_text}
 use Rattle.dj_check.specs.declared.judged.JudgedText.{JudgedText}
 use Rattle.dj_check.specs.declared.marks.Place.{Place}
 use Rattle.dj_check.specs.declared.marks.Mark.{Mark}
 use Rattle.dj_check.specs.Judged.{IsTextAt, AreTexts, first_in, first_of}
-use Rattle.dj_check.specs.Malformed.{IsFaulty, IsRefused, IsGood}
-use Rattle.dj_check.specs.Classes.{IsReserved}
-use Rattle.dj_check.specs.Members.{HasFloatConstant}
-use Rattle.dj_check.specs.Rules.{line_at, IsMemberLine, IsNamingLine}
+use Rattle.dj_check.specs.trusted.Malformed.{IsFaulty, IsRefused, IsGood}
+use Rattle.dj_check.specs.trusted.Classes.{IsReserved}
+use Rattle.dj_check.specs.trusted.Members.{HasFloatConstant}
+use Rattle.dj_check.specs.trusted.Rules.{line_at, IsMemberLine, IsNamingLine}
 use Rattle.dj_check.specs.Marks.{place_of, AreMarksOf, names_in, IsMarkLine}
 
 pub naming_lines : (path : List ℕ) (c : ClassFile) (reserved float : Bool) (x0 x1 x2 : List Violation) → (IsTrue reserved ↔ IsReserved (this_name c)) → (IsTrue float ↔ HasFloatConstant c)

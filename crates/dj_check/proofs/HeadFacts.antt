@@ -5,25 +5,25 @@ use Rattle.std.specs.List.{list_all}
 use Rattle.std.proofs.Math.Facts.{sfits_lit}
 use Rattle.std.proofs.lemmas.Int.{ints}
 use Rattle.std.proofs.lemmas.Bool.{eqb-true}
-use Rattle.dj_edge.specs.Held.{File}
+use Rattle.dj_edge.specs.trusted.Held.{File}
 use Rattle.dj_ops.specs.declared.instruction.Instr.TheVariants as instrs
-use Rattle.dj_ops.specs.Forms.{form_of}
-use Rattle.dj_pool.specs.Pool.{Constant, Utf8, Class, text_at}
+use Rattle.dj_ops.specs.trusted.Forms.{form_of}
+use Rattle.dj_pool.specs.trusted.Pool.{Constant, Utf8, Class, text_at}
 use Rattle.dj_pool.proofs.Decides.{tests_decide}
-use Rattle.dj_class.specs.ClassFile.{MemberInfo, ClassFile}
-use Rattle.dj_class.specs.Code.{CodeInfo}
+use Rattle.dj_class.specs.trusted.ClassFile.{MemberInfo, ClassFile}
+use Rattle.dj_class.specs.trusted.Code.{CodeInfo}
 use Rattle.dj_class.proofs.ClassLaws.{one_class_file}
 use Rattle.dj_labels.specs.declared.errors.CodeError.TheVariants as errors
 use Rattle.dj_labels.specs.Faults.{Refuses}
 use Rattle.dj_labels.proofs.Once.{no_labels}
 use Rattle.dj_report.specs.declared.report.Violation.{Violation}
-use Rattle.dj_report.specs.Lines.{file_line}
+use Rattle.dj_report.specs.trusted.Lines.{file_line}
 use Rattle.dj_report.proofs.Sorted.{contains_none, contains_cases}
-use Rattle.dj_library.specs.Heads.{Head, library_heads}
-use Rattle.dj_hierarchy.specs.Hierarchy.{IsMissing, LacksSuperclass, IsBadSuperclass}
-use Rattle.dj_check.specs.Malformed.{IsNoBody, LacksLabels, IsRefused, IsGood}
-use Rattle.dj_check.specs.Heads.{head_of, StandsAmong, HasRepeats}
-use Rattle.dj_check.specs.Rules.{IsHierarchyLine}
+use Rattle.dj_library.specs.trusted.Heads.{Head, library_heads}
+use Rattle.dj_hierarchy.specs.trusted.Hierarchy.{IsMissing, LacksSuperclass, IsBadSuperclass}
+use Rattle.dj_check.specs.trusted.Malformed.{IsNoBody, LacksLabels, IsRefused, IsGood}
+use Rattle.dj_check.specs.trusted.Heads.{head_of, StandsAmong, HasRepeats}
+use Rattle.dj_check.specs.trusted.Rules.{IsHierarchyLine}
 use Rattle.dj_check.proofs.FileLaws.{refused_not_good}
 
 -- ---- heads

@@ -6,13 +6,13 @@ use Rattle.std.specs.Cmp.{nat_eq_equiv}
 use Rattle.std.proofs.lemmas.Bool.{eqb-true}
 use Rattle.std.proofs.lemmas.List.{map_push, take_all}
 use Rattle.std.proofs.lemmas.List.Elements.{Contains-append_left, Contains-append_right, Contains-append_cases, Contains-push, Contains-push_cases}
-use Rattle.dj_pool.specs.Pool.{Constant, class_text_of, constant_at, text_at, class_name_at}
+use Rattle.dj_pool.specs.trusted.Pool.{Constant, class_text_of, constant_at, text_at, class_name_at}
 use Rattle.dj_report.specs.Lines.{Gains}
 use Rattle.dj_report.proofs.Sorted.{contains_none, contains_first, contains_cases}
 use Rattle.dj_report.proofs.Adding.{adds_same, adds_nothing, adds_one_more, once_members}
 use Rattle.dj_check.specs.declared.judged.JudgedText.{JudgedText}
 use Rattle.dj_check.specs.Judged.{AreTexts, first_in}
-use Rattle.dj_check.specs.Heads.{names_in}
+use Rattle.dj_check.specs.trusted.Heads.{names_in}
 use Rattle.dj_check.specs.Gathered.{texts_of, IsOfOne, IsClassText, AreClassTexts, IsOwnText, AreTextsAt}
 use Rattle.dj_check.proofs.FileLaws.{first_text}
 
@@ -28,7 +28,7 @@ module _ {X : Type 0} (P : ℕ → X → Type 0) where
   abbrev pub IsFor : Option ℕ → X → Type 0
   IsFor found x = IsSomeAnd found (λ index. P index x)
 
-  -- what is told of the index that is there
+  -- what holds for the index that is there
   pub gains_some : (found : Option ℕ) (index : ℕ) (a b : List X) → found ≡ Some index → Gains (P index) a b → Gains (IsFor found) a b
   gains_some found index a b is = subst (λ (o : Option ℕ). Gains (P index) a b → Gains (IsFor o) a b) (sym is) (λ gains. gains)
 

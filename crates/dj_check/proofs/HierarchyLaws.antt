@@ -1,24 +1,25 @@
 -- The lines of the rule HIERARCHY.
 use Rattle.std.proofs.Common.{◌≡◌, ℕ, ◌+◌, ◌⊎◌, ◌↔◌, Bool, List, map, length, Some, refl, sym, ap, ◌∙◌, subst, inl, inr, Contains, IsTrue, slice_get, Bor, Option, None, option_map, option_copied}
 use Rattle.std.proofs.lemmas.Option.{slice_get_within, slice_get-get_or}
-use Rattle.dj_edge.specs.Held.{File}
+use Rattle.dj_edge.specs.trusted.Held.{File}
 use Rattle.dj_labels.proofs.Lists.{contains_at}
-use Rattle.dj_class.specs.ClassFile.{ClassFile}
+use Rattle.dj_class.specs.trusted.ClassFile.{ClassFile}
 use Rattle.dj_report.specs.declared.report.Violation.{Violation}
 use Rattle.dj_report.specs.declared.report.PathFile.{PathFile}
-use Rattle.dj_report.specs.Lines.{Adds, file_line}
+use Rattle.dj_report.specs.trusted.Lines.{file_line}
+use Rattle.dj_report.specs.Lines.{Adds}
 use Rattle.dj_report.proofs.Adding.{adds_same, adds_both, contains_map, from_contains_map}
 use Rattle.dj_rules.specs.Views.{path_file_view}
-use Rattle.dj_library.specs.Heads.{Head}
+use Rattle.dj_library.specs.trusted.Heads.{Head}
 use Rattle.dj_hierarchy.specs.declared.head.ClassHead.{ClassHead}
 use Rattle.dj_hierarchy.specs.Hierarchy.{Stands}
 use Rattle.dj_hierarchy.specs.Judged.{AreJudged}
 use Rattle.dj_hierarchy.specs.Views.{text_of, head_view}
 use Rattle.dj_hierarchy.proofs.Alike.{IsAlike, HaveAlike, alike_itself, alike_back, alike_violate}
 use Rattle.dj_check.specs.declared.hierarchy.Owner.{Owner}
-use Rattle.dj_check.specs.Malformed.{IsGood}
-use Rattle.dj_check.specs.Heads.{head_of, StandsAmong}
-use Rattle.dj_check.specs.Rules.{IsHierarchyLine}
+use Rattle.dj_check.specs.trusted.Malformed.{IsGood}
+use Rattle.dj_check.specs.trusted.Heads.{head_of, StandsAmong}
+use Rattle.dj_check.specs.trusted.Rules.{IsHierarchyLine}
 use Rattle.dj_check.specs.Gathered.{IsHeadOf}
 use Rattle.dj_check.specs.Kept.{IsMarkedAt, IsMarkedLine, IsOwnersLine, IsOwned, AreOwned}
 use Rattle.dj_check.proofs.DoubleLaws.{more_below, beside, from_slice_get_map, to_slice_get_map}
@@ -56,7 +57,7 @@ marked_more owners marks i owner mark a b c own marked before here =
       λ all. elim (below.0 all) [ inl old ↦ inl old | inr at ↦ inr (this.1 at) ],
     )) (adds_both (IsMarkedLine i owners marks) (IsHere owner mark) a b c before here)
 
--- marks that are told, as heads that violate the rule
+-- marked heads as those that violate the rule
 to_owners : (heads : List Head) (owners : List Owner) (marks : List Bool) (v : Violation) → length owners ≡ length heads → AreJudged heads marks → IsMarkedLine (length owners) owners marks v → IsOwnersLine heads owners v
 to_owners heads owners marks v same judged (place, lt, at) =
     let head = beside owners heads place at.owner (sym same) at.own in
@@ -101,7 +102,7 @@ head_alike c head is = record { name = is.name; flags = is.flags; superclass = s
 some_head : (a b : ClassHead) → Some a ≡ Some b → a ≡ b
 some_head a b e = cc
 
--- what is told of the head at a place
+-- what holds of the head at a place
 owned_at : (files : List PathFile) (heads : List ClassHead) (owners : List Owner) → AreOwned files heads owners → (place : ℕ) (head : ClassHead) (owner : Owner) → slice_get heads place ≡ Some head → slice_get owners place ≡ Some owner
     → (file : PathFile) × Contains files file × (c : ClassFile) × IsOwned file c head owner
 owned_at files heads owners are place head owner stands own =

@@ -1,4 +1,4 @@
--- What is told of texts, and of the values of fields.
+-- What is known of texts, and of the values of fields.
 use Rattle.std.proofs.Common.{◌≡◌, ℕ, zero, suc, ◌+◌, ◌<◌, ◌≤◌, ◌⊎◌, ◌↔◌, Bool, true, false, not, List, [], ◌∷◌, ◌++◌, replicate, length, get_or, slice_get, unwrap_or, Option, Some, None, IsSomeAnd, refl, sym, ap, ◌∙◌, subst, inl, inr, arith, Contains, IsTrue}
 use Rattle.std.proofs.lemmas.Option.{slice_get_past, slice_get-get_or}
 use Rattle.std.proofs.lemmas.Bool.{cases_lt}
@@ -9,15 +9,15 @@ use Rattle.dj_names.specs.declared.descriptor.Of.{Of}
 use Rattle.dj_names.specs.declared.descriptor.Of.TheVariants as ofs
 use Rattle.dj_names.specs.declared.descriptor.Desc.{Desc}
 use Rattle.dj_names.specs.declared.descriptor.Desc.TheVariants as descs
-use Rattle.dj_names.specs.Descriptors.{of_text, desc_text, Describes}
+use Rattle.dj_names.specs.trusted.Descriptors.{of_text, desc_text, Describes}
 use Rattle.dj_names.proofs.DescLaws.{described_once}
-use Rattle.dj_pool.specs.Pool.{Constant, text_of, text_at}
-use Rattle.dj_class.specs.ClassFile.{MemberInfo, ClassFile}
+use Rattle.dj_pool.specs.trusted.Pool.{Constant, text_of, text_at}
+use Rattle.dj_class.specs.trusted.ClassFile.{MemberInfo, ClassFile}
 use Rattle.dj_report.proofs.Sorted.{contains_none, contains_cases}
 use Rattle.dj_check.specs.declared.judged.JudgedText.{JudgedText}
-use Rattle.dj_check.specs.Floats.{MentionsFloat, HasFloat}
-use Rattle.dj_check.specs.Attributes.{values_of}
-use Rattle.dj_check.specs.Malformed.{IsValueFor, IsFaultyField}
+use Rattle.dj_check.specs.trusted.Floats.{MentionsFloat, HasFloat}
+use Rattle.dj_check.specs.trusted.Attributes.{values_of}
+use Rattle.dj_check.specs.trusted.Malformed.{IsValueFor, IsFaultyField}
 use Rattle.dj_check.specs.Judged.{BeginsFloat, IsTextAt, first_in, first_of, AreTexts, AreNumbered, IsMarked, AreMembersMarked, Indexes, noted_at, number_in, IsNumberedBy, IsJudgedText, AreFirstTexts}
 use Rattle.dj_check.proofs.Anys.{slice_get_push}
 

@@ -24,3 +24,6 @@ mod BodyFacts
 mod NameFacts
 mod RuleFacts
 mod HeadFacts
+mod PackageFacts
+mod FlagFacts
+mod InstrFacts

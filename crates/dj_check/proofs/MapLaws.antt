@@ -5,19 +5,19 @@ use Rattle.std.proofs.lemmas.List.Elements.{Contains-append_right, Contains-appe
 use Rattle.dj_ops.specs.declared.instruction.Instr.{Instr}
 use Rattle.dj_ops.specs.declared.frames.VType.{VType}
 use Rattle.dj_ops.specs.declared.frames.Frame.{Frame}
-use Rattle.dj_labels.specs.Labels.{IsCut}
+use Rattle.dj_labels.specs.trusted.Labels.{IsCut}
 use Rattle.dj_labels.specs.Passes.{AreStarts}
 use Rattle.dj_labels.proofs.Cuts.{whole_ends, one_cut, starts_rise}
 use Rattle.dj_frames.specs.declared.read.FrameError.{FrameError}
 use Rattle.dj_frames.specs.declared.read.FrameError.TheVariants as frame_errors
-use Rattle.dj_frames.specs.StackMaps.{IsStackMap}
+use Rattle.dj_frames.specs.trusted.StackMaps.{IsStackMap}
 use Rattle.dj_frames.specs.Refusals.{IsFault}
 use Rattle.dj_frames.specs.Answers.{ReadsFrames}
 use Rattle.dj_frames.proofs.WholeFaults.{no_stack_map_where_fault}
 use Rattle.dj_frames.proofs.WholeLaws.{one_stack_map}
 use Rattle.dj_report.proofs.Sorted.{contains_none, contains_cases}
 use Rattle.dj_check.specs.declared.code.WholeCode.{WholeCode}
-use Rattle.dj_check.specs.Code.{HaveFloats, HaveFloatType, IsFloatMapAt, IsFloatMap, AreFramesAt, HasFrames}
+use Rattle.dj_check.specs.trusted.Code.{HaveFloats, HaveFloatType, IsFloatMapAt, IsFloatMap, AreFramesAt, HasFrames}
 use Rattle.dj_check.specs.Passes.{lacks_memory_of_frames, bodies_in, HasFramesAt, HasFloatFrames, HasMapOf}
 
 -- two lists of types, of which the first has none
@@ -45,7 +45,7 @@ have_frames code starts (body ∷ maps) frames are has = record { starts = start
 
 -- ---- floats and doubles of the frames that were read
 
--- the same of a stack map with one body, by the starts for which its frames were read
+-- the same for a stack map with one body, by the starts for which its frames were read
 map_at : (code starts : List ℕ) (instrs : List Instr) (body : List ℕ) → IsCut code starts instrs (length code) → IsFloatMap code body → IsFloatMapAt starts body
 map_at code starts instrs body cut is =
     subst (λ (ss : List ℕ). IsFloatMapAt ss body) (one_cut code is.starts starts is.instrs instrs (length code) (length code) (whole_ends code) (whole_ends code) is.cut cut).starts is.map

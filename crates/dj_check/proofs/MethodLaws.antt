@@ -1,12 +1,12 @@
 -- What methods violate, by their code.
 use Rattle.std.proofs.Common.{◌≡◌, ◌≢◌, ℕ, ◌<◌, ◌^◌, ◌⊎◌, ◌↔◌, Bool, true, false, List, [], ◌∷◌, length, Option, None, refl, sym, ap, ◌∙◌, subst, inl, inr, arith, Contains, IsTrue}
 use Rattle.std.proofs.lemmas.List.{length-map}
-use Rattle.dj_pool.specs.Pool.{Constant}
-use Rattle.dj_class.specs.ClassFile.{MemberInfo, ClassFile}
-use Rattle.dj_class.specs.Code.{CodeInfo, IsCode}
+use Rattle.dj_pool.specs.trusted.Pool.{Constant}
+use Rattle.dj_class.specs.trusted.ClassFile.{MemberInfo, ClassFile}
+use Rattle.dj_class.specs.trusted.Code.{CodeInfo, IsCode}
 use Rattle.dj_class.proofs.CodeLaws.{one_code}
 use Rattle.dj_labels.specs.declared.labelled.Labelled.{Labelled}
-use Rattle.dj_labels.specs.Labels.{IsCut, IsLabelled, addressed}
+use Rattle.dj_labels.specs.trusted.Labels.{IsCut, IsLabelled, addressed}
 use Rattle.dj_labels.proofs.Once.{one_labelling_is}
 use Rattle.dj_labels.proofs.Cuts.{as_many}
 use Rattle.dj_labels.proofs.Whole.{few}
@@ -16,12 +16,12 @@ use Rattle.dj_report.proofs.Adding.{adds_same, adds_both}
 use Rattle.dj_check.specs.declared.code.WholeCode.{WholeCode}
 use Rattle.dj_check.specs.declared.marks.Place.{Place}
 use Rattle.dj_check.specs.declared.marks.Mark.{Mark}
-use Rattle.dj_check.specs.Attributes.{codes_of, maps_of}
-use Rattle.dj_check.specs.Code.{IsCodeOf, IsLabelledOf, IsFloatMap, HasFloatMap}
-use Rattle.dj_check.specs.Floats.{NamesFloat}
-use Rattle.dj_check.specs.Members.{IsFloatMethod, IsInterfaceMethod}
-use Rattle.dj_check.specs.Methods.{CodeViolates, ViolatesWithin, MethodViolates}
-use Rattle.dj_check.specs.Rules.{FieldViolates}
+use Rattle.dj_check.specs.trusted.Attributes.{codes_of, maps_of}
+use Rattle.dj_check.specs.trusted.Code.{IsCodeOf, IsLabelledOf, IsFloatMap, HasFloatMap}
+use Rattle.dj_check.specs.trusted.Floats.{NamesFloat}
+use Rattle.dj_check.specs.trusted.Members.{IsFloatMethod, IsInterfaceMethod}
+use Rattle.dj_check.specs.trusted.Methods.{CodeViolates, ViolatesWithin, MethodViolates}
+use Rattle.dj_check.specs.trusted.Rules.{FieldViolates}
 use Rattle.dj_check.specs.Passes.{bodies_in, IsWholeMethod, IsShortCode, HasMapOf}
 use Rattle.dj_check.specs.Marks.{mark_at, place_of, MarksOf, RuledWhole, CodeViolatesAt, CodeMark}
 use Rattle.dj_check.proofs.NamedBodies.{maps_short}
@@ -59,7 +59,7 @@ own_info pool m code is info own =
 is_own : (pool : List Constant) (m : MemberInfo) (code : WholeCode) (is : IsWholeMethod pool m code) → IsCodeOf pool m is.whole.info
 is_own pool m code is = record { body = is.body; own = subst (λ (xs : List (List ℕ)). Contains xs is.body) (sym is.one) (0, omega arith, refl); is = is.whole.is }
 
--- its labelled code is the one that is told
+-- its labelled code is this one
 pub one_labelled : (pool : List Constant) (m : MemberInfo) (code : WholeCode) (labelled : Labelled) → IsWholeMethod pool m code → IsLabelledOf pool m labelled → labelled ≡ code.labelled
 one_labelled pool m code labelled is own =
     let info = own_info pool m code is own.code own.own in

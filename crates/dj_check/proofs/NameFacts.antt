@@ -5,23 +5,23 @@ use Rattle.dj_names.specs.declared.descriptor.Of.TheVariants as ofs
 use Rattle.dj_names.specs.declared.descriptor.Ty.{Ty}
 use Rattle.dj_names.specs.declared.descriptor.Desc.{Desc}
 use Rattle.dj_names.specs.declared.descriptor.Desc.TheVariants as descs
-use Rattle.dj_names.specs.Names.{IsClassName}
-use Rattle.dj_names.specs.NameReading.{reads_class_name}
+use Rattle.dj_names.specs.trusted.Names.{IsClassName}
+use Rattle.dj_names.specs.trusted.NameReading.{reads_class_name}
 use Rattle.dj_names.specs.Tests.{class_name_test}
-use Rattle.dj_names.specs.Descriptors.{Describes}
+use Rattle.dj_names.specs.trusted.Descriptors.{Describes}
 use Rattle.dj_names.proofs.DescLaws.{described_once}
 use Rattle.dj_names.proofs.TestLaws.{class_name_test-decides}
-use Rattle.dj_edge.specs.Held.{File}
-use Rattle.dj_class.specs.ClassFile.{ClassFile}
+use Rattle.dj_edge.specs.trusted.Held.{File}
+use Rattle.dj_class.specs.trusted.ClassFile.{ClassFile}
 use Rattle.dj_class.proofs.ClassLaws.{one_class_file}
 use Rattle.dj_pool.proofs.Decides.{tests_decide}
-use Rattle.dj_pool.specs.Pool.{Constant, Utf8, Class, Method, NameAndType}
+use Rattle.dj_pool.specs.trusted.Pool.{Constant, Utf8, Class, Method, NameAndType}
 use Rattle.dj_report.specs.declared.report.Violation.{Violation}
-use Rattle.dj_report.specs.Lines.{file_line}
-use Rattle.dj_rules.specs.Violations.{this_name}
-use Rattle.dj_check.specs.Malformed.{IsGood, IsRefused}
-use Rattle.dj_check.specs.Classes.{IsReflective, IsReflectiveText, NamesReflective, element_class}
-use Rattle.dj_check.specs.Rules.{IsDuplicateLine}
+use Rattle.dj_report.specs.trusted.Lines.{file_line}
+use Rattle.dj_rules.specs.trusted.Violations.{this_name}
+use Rattle.dj_check.specs.trusted.Malformed.{IsGood, IsRefused}
+use Rattle.dj_check.specs.trusted.Classes.{IsReflective, IsReflectiveText, NamesReflective, element_class}
+use Rattle.dj_check.specs.trusted.Rules.{IsDuplicateLine}
 use Rattle.dj_check.proofs.FileLaws.{refused_not_good}
 
 -- ---- rule 5

@@ -4,11 +4,11 @@ use Rattle.std.specs.List.{flat_map, AllByRecursion}
 use Rattle.std.proofs.lemmas.List.{take_more, map_push}
 use Rattle.std.proofs.lemmas.Grind.{flat_map-append}
 use Rattle.dj_class.specs.declared.class.Attribute.{Attribute}
-use Rattle.dj_pool.specs.Pool.{Constant}
-use Rattle.dj_class.specs.ClassFile.{AttributeInfo, IsAttribute}
-use Rattle.dj_class.specs.Code.{CodeInfo, IsCodeAttribute}
+use Rattle.dj_pool.specs.trusted.Pool.{Constant}
+use Rattle.dj_class.specs.trusted.ClassFile.{AttributeInfo, IsAttribute}
+use Rattle.dj_class.specs.trusted.Code.{CodeInfo, IsCodeAttribute}
 use Rattle.dj_class.specs.Parts.{attribute_of}
-use Rattle.dj_check.specs.Attributes.{is_named, bodies_of, maps_of}
+use Rattle.dj_check.specs.trusted.Attributes.{is_named, bodies_of, maps_of}
 
 abbrev pub now_of : Bor (List ℕ) → List ℕ
 now_of b = b.now

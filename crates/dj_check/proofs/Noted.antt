@@ -7,10 +7,10 @@ use Rattle.std.specs.Map.{lookup}
 use Rattle.std.specs.BTreeMap.{is_at}
 use Rattle.std.specs.FinMap.{slice_cmp-IsAntisymmetric, nat_cmp-IsAntisymmetric}
 use Rattle.std.proofs.lemmas.Cmp.{nat_list_cmp_total, tied_itself}
-use Rattle.dj_pool.specs.Pool.{Constant, text_at}
+use Rattle.dj_pool.specs.trusted.Pool.{Constant, text_at}
 use Rattle.dj_check.specs.declared.judged.JudgedText.{JudgedText}
-use Rattle.dj_check.specs.Floats.{HasFloat, NamesFloat}
-use Rattle.dj_check.specs.Classes.{IsReflectiveText, NamesReflectiveText}
+use Rattle.dj_check.specs.trusted.Floats.{HasFloat, NamesFloat}
+use Rattle.dj_check.specs.trusted.Classes.{IsReflectiveText, NamesReflectiveText}
 use Rattle.dj_check.specs.Judged.{Indexes, noted_at, AreRight, Notes, IsToldText, IsJudgedText, AreFirstTexts}
 use Rattle.dj_check.proofs.Judging.{not_told}
 
@@ -96,7 +96,7 @@ none_noted pool marks indexes empty = record {
   right = λ text index e. (let none : None ≡ Some index = sym (ap (λ (es : List (Bor (List ℕ) × ℕ)). lookup (is_at (λ (key : Bor (List ℕ)). slice_cmp nat_cmp text key.now)) es) empty) ∙ e in absurd cc);
 }
 
--- ---- what is told of the text of an index
+-- ---- what is known of the text of an index
 
 some_text : (key text : List ℕ) → Some key ≡ Some text → key ≡ text
 some_text key text e = cc

@@ -5,11 +5,11 @@ use Rattle.std.proofs.lemmas.List.{length-append}
 use Rattle.std.proofs.lemmas.Option.{slice_get-get_or}
 use Rattle.std.specs.Prelude.{bytes_eq}
 use Rattle.std.proofs.lemmas.Slice.Eq.{bytes_eq-Decides}
-use Rattle.dj_pool.specs.Pool.{Constant, text_at}
-use Rattle.dj_class.specs.ClassFile.{ClassFile}
+use Rattle.dj_pool.specs.trusted.Pool.{Constant, text_at}
+use Rattle.dj_class.specs.trusted.ClassFile.{ClassFile}
 use Rattle.dj_check.specs.declared.judged.JudgedText.{JudgedText}
-use Rattle.dj_check.specs.Floats.{HasFloat, NamesFloat}
-use Rattle.dj_check.specs.Classes.{IsReflectiveText, NamesReflectiveText}
+use Rattle.dj_check.specs.trusted.Floats.{HasFloat, NamesFloat}
+use Rattle.dj_check.specs.trusted.Classes.{IsReflectiveText, NamesReflectiveText}
 use Rattle.dj_check.specs.Judged.{first_of, first_in, AreTexts, AreNumbered, IsMarked, AreMembersMarked, IsOwnText, AreOwnTexts}
 use Rattle.dj_check.specs.Prints.{AreDistinct}
 use Rattle.dj_check.proofs.Anys.{slice_get_push}
@@ -67,7 +67,7 @@ abbrev is_marked : Option Bool → Bool
 is_marked None = false
 is_marked (Some mark) = mark
 
--- the last marked index of the text among the first, so many
+-- the last marked index of the text among the first n
 index_of : List Constant → List Bool → ℕ → List ℕ → ℕ
 index_of pool marks zero text = 0
 index_of pool marks (suc count) text = cond (is_marked (slice_get marks count)) (cond (has_text (text_at pool count) text) count (index_of pool marks count text)) (index_of pool marks count text)

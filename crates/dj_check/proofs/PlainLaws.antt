@@ -3,14 +3,14 @@ use Rattle.std.proofs.Common.{◌≡◌, ℕ, Bool, true, false, not, ◌&&◌, 
 use Rattle.std.proofs.lemmas.Bool.{eq-eqb}
 use Rattle.dj_ops.specs.declared.instruction.Instr.{Instr}
 use Rattle.dj_ops.specs.declared.instruction.Instr.TheVariants as instrs
-use Rattle.dj_pool.specs.Pool.{Constant}
+use Rattle.dj_pool.specs.trusted.Pool.{Constant}
 use Rattle.dj_report.specs.Lines.{Gains}
 use Rattle.dj_report.proofs.Adding.{adds_nothing}
 use Rattle.dj_check.specs.declared.marks.Place.{Place}
 use Rattle.dj_check.specs.declared.marks.Mark.{Mark}
-use Rattle.dj_check.specs.Opcodes.{is_float_op, is_subroutine_jump}
+use Rattle.dj_check.specs.trusted.Opcodes.{is_float_op, is_subroutine_jump}
 use Rattle.dj_check.specs.Instructions.{is_plain}
-use Rattle.dj_check.specs.Methods.{InstrViolates}
+use Rattle.dj_check.specs.trusted.Methods.{InstrViolates}
 use Rattle.dj_check.specs.Marks.{MarksAt}
 
 -- neither of the two is so

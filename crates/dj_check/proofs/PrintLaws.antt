@@ -2,7 +2,7 @@
 use Rattle.std.proofs.Common.{◌≡◌, ℕ, zero, suc, ◌+◌, ◌<◌, ◌≤◌, ◌⊎◌, Bool, true, false, List, [], ◌∷◌, length, slice_get, Some, refl, sym, ap, ◌∙◌, inl, inr, arith, IsTrue}
 use Rattle.std.proofs.lemmas.Bool.{cases_lt}
 use Rattle.std.specs.BTreeSet.{BTreeSet}
-use Rattle.dj_pool.specs.Pool.{Constant, text_at}
+use Rattle.dj_pool.specs.trusted.Pool.{Constant, text_at}
 use Rattle.dj_check.specs.Judged.{IsMarked}
 use Rattle.dj_check.specs.Prints.{print_of, NotesPrint, AreDistinct, AreNoted}
 

@@ -11,15 +11,15 @@ use Rattle.std.proofs.lemmas.List.{length-map}
 use Rattle.std.proofs.lemmas.List.Elements.{All-from_recursion}
 use Rattle.std.proofs.lemmas.Option.{slice_get_within, slice_get-get_or, get_or_from_slice_get}
 use Rattle.std.proofs.lemmas.Map.Lookups.{exact_pairs, exact_unsigned}
-use Rattle.dj_pool.specs.Pool.{Constant, text_at}
+use Rattle.dj_pool.specs.trusted.Pool.{Constant, text_at}
 use Rattle.dj_class.specs.declared.class.MemberView.{MemberView}
-use Rattle.dj_class.specs.ClassFile.{MemberInfo, ClassFile, IsMember}
+use Rattle.dj_class.specs.trusted.ClassFile.{MemberInfo, ClassFile, IsMember}
 use Rattle.dj_labels.proofs.Lists.{contains_at}
 use Rattle.dj_class.specs.Members.{member_of}
 use Rattle.dj_check.specs.declared.judged.JudgedText.{JudgedText}
 use Rattle.dj_check.specs.Judged.{AreTexts, AreNumbered, IsMemberOf}
 use Rattle.dj_check.specs.Marks.{names_in}
-use Rattle.dj_check.specs.Heads.{AreRepeated}
+use Rattle.dj_check.specs.trusted.Heads.{AreRepeated}
 use Rattle.dj_check.specs.Gathered.{names_of, HasAgain}
 use Rattle.dj_check.specs.Doubles.{IsBelow}
 use Rattle.dj_check.proofs.FileLaws.{first_text}
@@ -69,7 +69,7 @@ more_new false c e = absurd cc
 abbrev pub IsPairAt : List Pair → Pair → ℕ → Type 0
 IsPairAt names pair place = slice_get names place ≡ Some pair
 
--- the pairs of the first members, so many, are in the set, and no two of them are the same
+-- the pairs of the first n members are in the set, and no two of them are the same
 pub record AreSeen (count : ℕ) (names : List Pair) (seen : BTreeSet Pair) : Type 0 where
   pub all : (pair : Pair) → IsSeen seen pair ↔ IsBelow count (IsPairAt names pair)
   pub apart : (again : HasAgain names) → again.other < count → ⊥

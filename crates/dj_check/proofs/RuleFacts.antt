@@ -5,26 +5,26 @@ use Rattle.dj_names.specs.declared.descriptor.Of.TheVariants as ofs
 use Rattle.dj_names.specs.declared.descriptor.Ty.{Ty}
 use Rattle.dj_names.specs.declared.descriptor.Desc.{Desc}
 use Rattle.dj_names.specs.declared.descriptor.Desc.TheVariants as descs
-use Rattle.dj_names.specs.Descriptors.{Describes}
+use Rattle.dj_names.specs.trusted.Descriptors.{Describes}
 use Rattle.dj_names.proofs.DescLaws.{described_once}
 use Rattle.dj_ops.specs.declared.instruction.Instr.TheVariants as instrs
 use Rattle.dj_ops.specs.declared.frames.VType.TheVariants as types
 use Rattle.dj_ops.specs.declared.frames.Form.TheVariants as forms
 use Rattle.dj_labels.specs.declared.labelled.Protected.{Protected}
 use Rattle.dj_labels.specs.declared.labelled.Labelled.{Labelled}
-use Rattle.dj_pool.specs.Pool.{Constant, Utf8, Class, NameAndType, MethodType}
-use Rattle.dj_class.specs.ClassFile.{AttributeInfo, MemberInfo, ClassFile}
+use Rattle.dj_pool.specs.trusted.Pool.{Constant, Utf8, Class, NameAndType, MethodType}
+use Rattle.dj_class.specs.trusted.ClassFile.{AttributeInfo, MemberInfo, ClassFile}
 use Rattle.dj_report.specs.declared.report.Violation.{Violation}
-use Rattle.dj_report.specs.Lines.{file_line}
+use Rattle.dj_report.specs.trusted.Lines.{file_line}
 use Rattle.dj_report.proofs.Sorted.{contains_none}
-use Rattle.dj_rules.specs.Violations.{this_name}
-use Rattle.dj_check.specs.Malformed.{IsRefused}
-use Rattle.dj_check.specs.Classes.{IsReserved, IsReflective, IsGetClass, IsUncatchable}
-use Rattle.dj_check.specs.Floats.{MentionsFloat, HasFloat}
-use Rattle.dj_check.specs.Code.{HasFloatType}
-use Rattle.dj_check.specs.Members.{IsFloatConstant, IsFloatField, IsFloatMethod, IsInterfaceMethod}
-use Rattle.dj_check.specs.Methods.{CodeViolates}
-use Rattle.dj_check.specs.Rules.{IsMemberLine, IsNamingLine, IsLoneLine, FieldViolates}
+use Rattle.dj_rules.specs.trusted.Violations.{this_name}
+use Rattle.dj_check.specs.trusted.Malformed.{IsRefused}
+use Rattle.dj_check.specs.trusted.Classes.{IsReserved, IsReflective, IsGetClass, IsUncatchable}
+use Rattle.dj_check.specs.trusted.Floats.{MentionsFloat, HasFloat}
+use Rattle.dj_check.specs.trusted.Code.{HasFloatType}
+use Rattle.dj_check.specs.trusted.Members.{IsFloatConstant, IsFloatField, IsFloatMethod, IsInterfaceMethod}
+use Rattle.dj_check.specs.trusted.Methods.{CodeViolates}
+use Rattle.dj_check.specs.trusted.Rules.{IsMemberLine, IsNamingLine, IsLoneLine, FieldViolates}
 use Rattle.dj_check.proofs.FileLaws.{refused_not_good}
 
 -- ---- names

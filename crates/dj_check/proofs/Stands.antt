@@ -4,13 +4,13 @@ use Rattle.std.specs.List.{starts_with}
 use Rattle.std.proofs.lemmas.Bool.{eqb-true}
 use Rattle.dj_names.specs.declared.descriptor.Ty.{Ty}
 use Rattle.dj_names.specs.declared.descriptor.Desc.TheVariants as descs
-use Rattle.dj_names.specs.Names.{IsClassName}
-use Rattle.dj_names.specs.Descriptors.{of_text, Describes}
+use Rattle.dj_names.specs.trusted.Names.{IsClassName}
+use Rattle.dj_names.specs.trusted.Descriptors.{of_text, Describes}
 use Rattle.dj_names.specs.Tests.{class_name_test}
-use Rattle.dj_names.specs.NameReading.{reads_class_name}
+use Rattle.dj_names.specs.trusted.NameReading.{reads_class_name}
 use Rattle.dj_names.proofs.TestLaws.{class_name_test-decides}
 use Rattle.dj_names.proofs.DescLaws.{described_once}
-use Rattle.dj_check.specs.Classes.{element_class, IsArrayOf, IsReflective, IsReflectiveText}
+use Rattle.dj_check.specs.trusted.Classes.{element_class, IsArrayOf, IsReflective, IsReflectiveText}
 
 bracket_no_name : (rest : List ℕ) → IsTrue (class_name_test (91 ∷ rest)) → ⊥
 unfolding class_name_test reads_class_name

@@ -1,10 +1,10 @@
--- The code's own: files with the names of their classes, and the names that several of them have.
+-- Used by the code alone: files with the names of their classes, and the names that several of them have.
 use Rattle.std.specs.Prelude.{◌≡◌, ℕ, ◌<◌, List, map, length, Contains, Option, Some, None, IsSomeAnd, slice_get}
 use Rattle.std.specs.Borrow.{Bor}
 use Rattle.std.specs.BTreeSet.{BTreeSet}
 use Rattle.dj_report.specs.declared.report.Violation.{Violation}
 use Rattle.dj_report.specs.declared.report.PathFile.{PathFile}
-use Rattle.dj_report.specs.Lines.{file_line}
+use Rattle.dj_report.specs.trusted.Lines.{file_line}
 use Rattle.dj_check.specs.declared.doubles.NamedFile.{NamedFile}
 use Rattle.dj_check.specs.Passes.{TellsName}
 
@@ -17,7 +17,7 @@ abbrev pub IsText : Option (Bor (List ℕ)) → List ℕ → Type 0
 IsText None text = ⊥
 IsText (Some name) text = text ≡ name.now
 
--- one of the first places, so many, is such
+-- one of the first n places is such
 abbrev pub IsBelow : ℕ → (ℕ → Type 0) → Type 0
 IsBelow count IsSuch = (place : ℕ) × (place < count) × IsSuch place
 
@@ -47,12 +47,12 @@ IsLineAmongNames names file v = IsNamedAmong names file × (v ≡ file_line file
 abbrev pub IsRepeatedLine : List NamedFile → NamedFile → Violation → Type 0
 IsRepeatedLine files file v = ((text : List ℕ) × IsText file.name text × IsRepeated files text) × (v ≡ file_line file.path.now 5)
 
--- the file has this path, and its class's name is told where it has one
+-- the file has this path, and its class's name is kept where it has one
 pub record IsNamedAs (file : PathFile) (named : NamedFile) : Type 0 where
   pub path : named.path.now ≡ file.path.now
   pub name : TellsName file named.name
 
--- the same of all, place by place
+-- the same for all, place by place
 pub record AreNamed (files : List PathFile) (named : List NamedFile) : Type 0 where
   pub all : length named ≡ length files
   pub each : (place : ℕ) (file : PathFile) (own : NamedFile) → slice_get files place ≡ Some file → slice_get named place ≡ Some own → IsNamedAs file own

@@ -1,13 +1,13 @@
--- The code's own: the head of a class, and the names of members, as they are gathered from a class file.
+-- Used by the code alone: the head of a class, and the names of members, as they are gathered from a class file.
 use Rattle.std.specs.Prelude.{◌≡◌, ◌↔◌, ℕ, ◌<◌, List, map, Contains, Some, IsSomeAnd, slice_get, option_and_then}
 use Rattle.std.specs.Option.{option_copied}
 use Rattle.std.specs.Borrow.{Bor}
-use Rattle.dj_pool.specs.Pool.{Constant, class_text_of, constant_at, text_at, class_name_at}
-use Rattle.dj_class.specs.ClassFile.{MemberInfo, ClassFile}
-use Rattle.dj_rules.specs.Violations.{this_name}
+use Rattle.dj_pool.specs.trusted.Pool.{Constant, class_text_of, constant_at, text_at, class_name_at}
+use Rattle.dj_class.specs.trusted.ClassFile.{MemberInfo, ClassFile}
+use Rattle.dj_rules.specs.trusted.Violations.{this_name}
 use Rattle.dj_hierarchy.specs.declared.head.ClassHead.{ClassHead}
 use Rattle.dj_check.specs.declared.judged.JudgedText.{JudgedText}
-use Rattle.dj_check.specs.Heads.{interface_names}
+use Rattle.dj_check.specs.trusted.Heads.{interface_names}
 use Rattle.dj_check.specs.Judged.{first_in}
 use Rattle.dj_check.specs.Marks.{names_in}
 

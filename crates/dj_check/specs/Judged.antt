@@ -1,31 +1,31 @@
--- The code's own: what is kept beside the texts of a pool.
+-- Used by the code alone: what is kept beside the texts of a pool.
 use Rattle.std.specs.Prelude.{◌≡◌, ◌↔◌, ℕ, ◌+◌, ◌<◌, ◌⊎◌, Bool, true, nat_eq, ◌||◌, List, [], ◌∷◌, length, Contains, Option, Some, None, IsTrue, slice_get, unwrap_or}
 use Rattle.std.specs.Borrow.{Bor}
 use Rattle.std.specs.Ordering.{nat_cmp}
 use Rattle.std.specs.Cmp.Lexicographic.{slice_cmp}
 use Rattle.std.specs.BTreeMap.{BTreeMap, get_by}
-use Rattle.dj_pool.specs.Pool.{Constant, text_at}
-use Rattle.dj_class.specs.ClassFile.{MemberInfo, ClassFile}
+use Rattle.dj_pool.specs.trusted.Pool.{Constant, text_at}
+use Rattle.dj_class.specs.trusted.ClassFile.{MemberInfo, ClassFile}
 use Rattle.dj_check.specs.declared.judged.JudgedText.{JudgedText}
-use Rattle.dj_check.specs.Floats.{HasFloat, NamesFloat}
-use Rattle.dj_check.specs.Classes.{IsReflectiveText, NamesReflectiveText}
+use Rattle.dj_check.specs.trusted.Floats.{HasFloat, NamesFloat}
+use Rattle.dj_check.specs.trusted.Classes.{IsReflectiveText, NamesReflectiveText}
 
 -- the letter of a float or of a double
 abbrev pub is_float_letter : ℕ → Bool
 is_float_letter b = nat_eq b 70 || nat_eq b 68
 
--- this is told of the text of the index
+-- this is kept of the text at the index
 pub record IsTextAt (pool : List Constant) (index : ℕ) (text : JudgedText) : Type 0 where
   pub float : IsTrue text.float ↔ NamesFloat pool index
   pub reflective : IsTrue text.reflective ↔ NamesReflectiveText pool index
   pub first : text_at pool text.first ≡ text_at pool index
 
--- of each index from 0 on that the pool has
+-- for each index from 0 on that the pool has
 pub record AreTexts (pool : List Constant) (texts : List JudgedText) : Type 0 where
   pub all : length pool < length texts
   pub each : (index : ℕ) (text : JudgedText) → slice_get texts index ≡ Some text → IsTextAt pool index text
 
--- the index itself where nothing is told
+-- the index itself where nothing is kept
 abbrev pub first_of : ℕ → Option JudgedText → ℕ
 first_of index None = index
 first_of index (Some text) = text.first
@@ -94,7 +94,7 @@ pub record Notes (old new : Indexes) (key : List ℕ) (index : ℕ) (marked : Bo
   pub kept : (text : List ℕ) (n : ℕ) → noted_at old text ≡ Some n → noted_at new text ≡ Some n
   pub known : (text : List ℕ) (n : ℕ) → noted_at new text ≡ Some n → (noted_at old text ≡ Some n) ⊎ ((text ≡ key) × (n ≡ index))
 
--- what is told of a text, the one of the index
+-- what is kept of a text, which is that at the index
 pub record IsToldText (old new : Indexes) (key : List ℕ) (index : ℕ) (marked : Bool) (text : JudgedText) : Type 0 where
   pub float : IsTrue text.float ↔ HasFloat key
   pub reflective : IsTrue text.reflective ↔ IsReflectiveText key
@@ -104,14 +104,14 @@ pub record IsToldText (old new : Indexes) (key : List ℕ) (index : ℕ) (marked
 abbrev pub IsNumberedBy : Indexes → List Constant → ℕ → Bool → JudgedText → Type 0
 IsNumberedBy indexes pool index marked text = (key : List ℕ) → IsTrue marked → text_at pool index ≡ Some key → noted_at indexes key ≡ Some text.first
 
--- what is told of the text of the index, with what was noted before and is noted then
+-- what is kept of the text at the index, with what was noted before and is noted then
 pub record IsJudgedText (pool : List Constant) (old new : Indexes) (index : ℕ) (marked : Bool) (text : JudgedText) : Type 0 where
   pub means : IsTextAt pool index text
   pub number : IsNumberedBy new pool index marked text
   pub kept : (key : List ℕ) (n : ℕ) → noted_at old key ≡ Some n → noted_at new key ≡ Some n
   pub right : AreRight pool new
 
--- the first indexes are told of, so many
+-- the first n indexes have what is kept of them
 pub record AreFirstTexts (indexes : Indexes) (marks : List Bool) (count : ℕ) (pool : List Constant) (texts : List JudgedText) : Type 0 where
   pub all : length texts ≡ count
   pub means : (index : ℕ) (text : JudgedText) → slice_get texts index ≡ Some text → IsTextAt pool index text
@@ -120,12 +120,12 @@ pub record AreFirstTexts (indexes : Indexes) (marks : List Bool) (count : ℕ) (
 
 -- ---- texts that stand for themselves
 
--- this is told of the text of the index, which stands for itself
+-- this is kept of the text at the index, which represents its own text
 pub record IsOwnText (pool : List Constant) (index : ℕ) (text : JudgedText) : Type 0 where
   pub means : IsTextAt pool index text
   pub own : text.first ≡ index
 
--- of each of so many indexes
+-- for each of this many indexes
 pub record AreOwnTexts (pool : List Constant) (count : ℕ) (texts : List JudgedText) : Type 0 where
   pub all : length texts ≡ count
   pub each : (index : ℕ) (text : JudgedText) → slice_get texts index ≡ Some text → IsOwnText pool index text

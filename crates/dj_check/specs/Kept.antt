@@ -1,15 +1,16 @@
--- The code's own: what is kept of files, for the rules that look at all of them.
+-- Used by the code alone: what is kept of files, for the rules that look at all of them.
 use Rattle.std.specs.Prelude.{◌≡◌, ◌↔◌, ℕ, ◌<◌, ◌⊎◌, Bool, IsTrue, List, length, Contains, Some, slice_get}
-use Rattle.dj_class.specs.ClassFile.{ClassFile}
+use Rattle.dj_class.specs.trusted.ClassFile.{ClassFile}
 use Rattle.dj_report.specs.declared.report.Violation.{Violation}
 use Rattle.dj_report.specs.declared.report.PathFile.{PathFile}
-use Rattle.dj_report.specs.Lines.{file_line}
-use Rattle.dj_library.specs.Heads.{Head}
+use Rattle.dj_report.specs.trusted.Lines.{file_line}
+use Rattle.dj_library.specs.trusted.Heads.{Head}
 use Rattle.dj_hierarchy.specs.declared.head.ClassHead.{ClassHead}
-use Rattle.dj_hierarchy.specs.Hierarchy.{Stands, ViolatesHierarchy}
+use Rattle.dj_hierarchy.specs.trusted.Hierarchy.{ViolatesHierarchy}
+use Rattle.dj_hierarchy.specs.Hierarchy.{Stands}
 use Rattle.dj_check.specs.declared.hierarchy.Owner.{Owner}
-use Rattle.dj_check.specs.Malformed.{IsGood}
-use Rattle.dj_check.specs.Heads.{HasRepeats}
+use Rattle.dj_check.specs.trusted.Malformed.{IsGood}
+use Rattle.dj_check.specs.trusted.Heads.{HasRepeats}
 use Rattle.dj_check.specs.Gathered.{IsHeadOf}
 use Rattle.dj_check.specs.Doubles.{IsBelow}
 
@@ -24,7 +25,7 @@ pub record IsMarkedAt (owners : List Owner) (marks : List Bool) (v : Violation) 
   pub such : IsTrue mark ⊎ IsTrue owner.repeats
   pub line : v ≡ file_line owner.path.now 6
 
--- one of the first files, so many, is such
+-- one of the first n files is such
 abbrev pub IsMarkedLine : ℕ → List Owner → List Bool → Violation → Type 0
 IsMarkedLine count owners marks v = IsBelow count (IsMarkedAt owners marks v)
 
@@ -38,7 +39,7 @@ pub record IsOwnersLine (heads : List Head) (owners : List Owner) (v : Violation
   pub such : ViolatesHierarchy (Stands heads) head ⊎ IsTrue owner.repeats
   pub line : v ≡ file_line owner.path.now 6
 
--- the file is this class file, whose head is told, and its owner
+-- the file is this class file, and its head and its owner are kept
 pub record IsOwned (file : PathFile) (c : ClassFile) (head : ClassHead) (owner : Owner) : Type 0 where
   pub good : IsGood file.bytes.now c
   pub path : owner.path.now ≡ file.path.now

@@ -1,13 +1,4 @@
-pub mod Attributes
-pub mod Floats
-pub mod Malformed
-pub mod Classes
-pub mod Code
-pub mod Members
-pub mod Opcodes
 pub mod Instructions
-pub mod Methods
-pub mod Heads
 pub mod Rules
 pub mod Judged
 pub mod Prints
@@ -16,3 +7,4 @@ pub mod Marks
 pub mod Doubles
 pub mod Gathered
 pub mod Kept
+pub mod trusted

@@ -1,8 +1,8 @@
--- The code's own: marks of the rules that parts of a file violate, before lines are made of them.
+-- Used by the code alone: marks of the rules that parts of a file violate, before lines are made of them.
 use Rattle.std.specs.Prelude.{◌≡◌, ℕ, ◌<◌, ◌⊎◌, Bool, IsTrue, List, Option, Some, None, slice_get, Contains}
 use Rattle.dj_ops.specs.declared.instruction.Instr.{Instr}
-use Rattle.dj_pool.specs.Pool.{Constant}
-use Rattle.dj_class.specs.ClassFile.{MemberInfo}
+use Rattle.dj_pool.specs.trusted.Pool.{Constant}
+use Rattle.dj_class.specs.trusted.ClassFile.{MemberInfo}
 use Rattle.dj_labels.specs.declared.labelled.Protected.{Protected}
 use Rattle.dj_labels.specs.declared.labelled.Labelled.{Labelled}
 use Rattle.dj_report.specs.declared.report.Violation.{Violation}
@@ -11,8 +11,8 @@ use Rattle.dj_check.specs.declared.marks.Place.{Place}
 use Rattle.dj_check.specs.declared.marks.Mark.{Mark}
 use Rattle.dj_check.specs.declared.judged.JudgedText.{JudgedText}
 use Rattle.dj_check.specs.Judged.{first_in}
-use Rattle.dj_check.specs.Methods.{InstrViolates, CatchesError, CodeViolates}
-use Rattle.dj_check.specs.Rules.{line_at}
+use Rattle.dj_check.specs.trusted.Methods.{InstrViolates, CatchesError, CodeViolates}
+use Rattle.dj_check.specs.trusted.Rules.{line_at}
 
 abbrev pub mark_at : Place → ℕ → Mark
 mark_at place rule = record { place = place; rule = rule }
@@ -29,7 +29,7 @@ MarksAt place IsSuch mark = (mark.place ≡ place) × IsSuch mark.rule
 abbrev pub MarksOf : ℕ × ℕ → (Option ℕ → ℕ → Type 0) → Mark → Type 0
 MarksOf names IsSuch mark = (mark.place ≡ place_of names mark.place.number) × IsSuch mark.place.number mark.rule
 
--- one of the first instructions, so many, violates the rule
+-- one of the first n instructions violates the rule
 pub record ViolatesBelow (count : ℕ) (pool : List Constant) (code : List Instr) (number : Option ℕ) (rule : ℕ) : Type 0 where
   pub at : ℕ
   pub below : at < count

@@ -1,31 +1,31 @@
--- The code's own: what its passes hand on to one another.
+-- Used by the code alone: what its passes hand on to one another.
 use Rattle.std.specs.Prelude.{◌≡◌, ◌≢◌, ◌↔◌, ℕ, Bool, true, false, IsTrue, ◌⊎◌, ◌<◌, ◌^◌, List, [], ◌∷◌, length, Contains, Option, Some, None}
 use Rattle.std.specs.List.{AllByRecursion}
 use Rattle.std.specs.Borrow.{Bor}
 use Rattle.dj_ops.specs.declared.frames.Frame.{Frame}
 use Rattle.dj_ops.specs.declared.rows.CatchRow.{CatchRow}
-use Rattle.dj_pool.specs.Pool.{Constant}
-use Rattle.dj_class.specs.ClassFile.{MemberInfo, ClassFile}
+use Rattle.dj_pool.specs.trusted.Pool.{Constant}
+use Rattle.dj_class.specs.trusted.ClassFile.{MemberInfo, ClassFile}
 use Rattle.dj_report.specs.declared.report.PathFile.{PathFile}
-use Rattle.dj_rules.specs.Violations.{this_name}
-use Rattle.dj_class.specs.Code.{CodeInfo, IsCode}
+use Rattle.dj_rules.specs.trusted.Violations.{this_name}
+use Rattle.dj_class.specs.trusted.Code.{CodeInfo, IsCode}
 use Rattle.dj_labels.specs.declared.labelled.Labelled.{Labelled}
 use Rattle.dj_labels.specs.declared.labelled.Labelling.{Labelling}
 use Rattle.dj_labels.specs.declared.errors.CodeError.{CodeError}
 use Rattle.dj_labels.specs.declared.errors.CodeError.TheVariants as code_errors
 use Rattle.dj_frames.specs.declared.read.FrameError.{FrameError}
 use Rattle.dj_frames.specs.declared.read.FrameError.TheVariants as frame_errors
-use Rattle.dj_labels.specs.Labels.{IsLabelled}
+use Rattle.dj_labels.specs.trusted.Labels.{IsLabelled}
 use Rattle.dj_labels.specs.Passes.{AreStarts}
 use Rattle.dj_check.specs.declared.code.WholeCode.{WholeCode}
 use Rattle.dj_check.specs.declared.code.MethodCode.{MethodCode}
 use Rattle.dj_check.specs.declared.code.MethodCode.TheVariants as methods
 use Rattle.dj_check.specs.declared.good.GoodFile.{GoodFile}
-use Rattle.dj_check.specs.Heads.{HasRepeats}
+use Rattle.dj_check.specs.trusted.Heads.{HasRepeats}
 use Rattle.dj_check.specs.Gathered.{IsHeadOf}
-use Rattle.dj_check.specs.Attributes.{codes_of, maps_of}
-use Rattle.dj_check.specs.Code.{HaveFloatType, IsFloatMap, AreFramesAt, HasFrames}
-use Rattle.dj_check.specs.Malformed.{IsRefused, IsGood, LacksLabels, IsFaultyCode, IsFaultyBody, IsFaultyMethod}
+use Rattle.dj_check.specs.trusted.Attributes.{codes_of, maps_of}
+use Rattle.dj_check.specs.trusted.Code.{HaveFloatType, IsFloatMap, AreFramesAt, HasFrames}
+use Rattle.dj_check.specs.trusted.Malformed.{IsRefused, IsGood, LacksLabels, IsFaultyCode, IsFaultyBody, IsFaultyMethod}
 
 -- ---- code
 
@@ -64,7 +64,7 @@ abbrev pub bodies_in : Option (Bor (List ℕ)) → List (List ℕ)
 bodies_in None = []
 bodies_in (Some body) = body.now ∷ []
 
--- what is told of whole code
+-- what is kept of code without a fault
 pub record IsWholeCode (pool : List Constant) (info : CodeInfo) (code : WholeCode) : Type 0 where
   pub stack : code.max_stack ≡ info.max_stack
   pub locals : code.max_locals ≡ info.max_locals
@@ -73,7 +73,7 @@ pub record IsWholeCode (pool : List Constant) (info : CodeInfo) (code : WholeCod
   pub maps : maps_of pool info ≡ bodies_in code.map
   pub frames : HasFrames code.code.now (bodies_in code.map) code.frames
 
--- what is told of code with these bodies of a stack map, at most one, or that it has no labels
+-- what is kept of code with these bodies of a stack map, at most one; or that it can't be labelled
 pub record IsMappedCode (info : CodeInfo) (maps : List (List ℕ)) (code : WholeCode) : Type 0 where
   pub stack : code.max_stack ≡ info.max_stack
   pub locals : code.max_locals ≡ info.max_locals
@@ -145,7 +145,7 @@ HasMapOf code = (body : List ℕ) × Contains (bodies_in code.map) body × IsFlo
 
 -- ---- files
 
--- the head of the class is told, and whether two fields or two methods have one name and one descriptor
+-- the head of the class, and whether two fields or two methods have the same name and the same descriptor
 pub record IsGoodPart (c : ClassFile) (part : GoodFile) : Type 0 where
   pub head_is : IsHeadOf c part.head
   pub told : IsTrue part.repeats ↔ HasRepeats c

@@ -1,14 +1,14 @@
 ghost use Rattle.std.specs.Prelude.{◌≡◌, ◌↔◌, ◌<◌, ◌^◌, length, IsTrue, OnOk, IfOk};
 ghost use Rattle.dj_pool.specs.Views.{constant_of};
-ghost use Rattle.dj_class.specs.ClassFile.{IsValid};
+ghost use Rattle.dj_class.specs.trusted.ClassFile.{IsValid};
 ghost use Rattle.dj_class.specs.Views.{class_of};
 ghost use Rattle.dj_report.specs.Lines.{Adds};
-ghost use Rattle.dj_rules.specs.Violations.{this_name};
+ghost use Rattle.dj_rules.specs.trusted.Violations.{this_name};
 ghost use Rattle.dj_check.specs.Judged.{AreTexts};
-ghost use Rattle.dj_check.specs.Classes.{IsReserved};
-ghost use Rattle.dj_check.specs.Floats.{NamesFloatArray};
-ghost use Rattle.dj_check.specs.Members.{IsFloatConstant, HasFloatConstant};
-ghost use Rattle.dj_check.specs.Rules.{IsNamingLine};
+ghost use Rattle.dj_check.specs.trusted.Classes.{IsReserved};
+ghost use Rattle.dj_check.specs.trusted.Floats.{NamesFloatArray};
+ghost use Rattle.dj_check.specs.trusted.Members.{IsFloatConstant, HasFloatConstant};
+ghost use Rattle.dj_check.specs.trusted.Rules.{IsNamingLine};
 
 use crate::judged::{JudgedText, text_in};
 use crate::lines::add_file_line_if;
@@ -37,7 +37,7 @@ fn is_reserved(name: &[u8]) -> bool
     name.starts_with(b"sandbox/") || name.starts_with(b"java/") || name.starts_with(b"javax/")
 }
 
-// Whether the text of the index is the descriptor of an array of floats or doubles.
+// Whether the text at the index is the descriptor of an array of floats or doubles.
 fn names_float_array(pool: &Pool<'_>, texts: &[JudgedText], index: u16) -> bool
     requires { AreTexts pool.now texts.now }
     ensures { IsTrue result ↔ NamesFloatArray pool.now index }
@@ -48,7 +48,7 @@ fn names_float_array(pool: &Pool<'_>, texts: &[JudgedText], index: u16) -> bool
     }
 }
 
-// Whether the constant is of floats or doubles.
+// Whether the constant has a float or a double, or a descriptor with one.
 fn is_float_constant(pool: &Pool<'_>, texts: &[JudgedText], entry: Entry<'_>) -> bool
     requires { AreTexts pool.now texts.now }
     ensures { IsTrue result ↔ IsFloatConstant pool.now (constant_of entry.entry) }
@@ -63,7 +63,7 @@ fn is_float_constant(pool: &Pool<'_>, texts: &[JudgedText], entry: Entry<'_>) ->
     }
 }
 
-// Whether one of the constants is.
+// Whether one of the constants has.
 fn has_float_constant(view: &ClassView<'_>, texts: &[JudgedText]) -> bool
     requires { AreTexts view.now.pool texts.now }
     ensures { IsTrue result ↔ HasFloatConstant (class_of view.now) }
@@ -77,7 +77,7 @@ fn has_float_constant(view: &ClassView<'_>, texts: &[JudgedText]) -> bool
     false
 }
 
-/// Appends the lines of the class's name and of the constants of the pool.
+/// Appends the lines on the class's name and on the constants of the pool.
 pub fn add_naming_lines(
     alloc: Global,
     found: &mut Vec<Violation>,

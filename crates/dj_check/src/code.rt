@@ -1,10 +1,10 @@
 ghost use Rattle.std.specs.Prelude.{◌≡◌, ◌↔◌, ◌<◌, ◌^◌, length, map, All, IsTrue, IfOk};
 ghost use Rattle.std.specs.List.{AllByRecursion};
-ghost use Rattle.dj_class.specs.ClassFile.{IsAttribute};
+ghost use Rattle.dj_class.specs.trusted.ClassFile.{IsAttribute};
 ghost use Rattle.dj_class.specs.Members.{member_of};
-ghost use Rattle.dj_class.specs.Code.{IsCodeAttribute};
+ghost use Rattle.dj_class.specs.trusted.Code.{IsCodeAttribute};
 ghost use Rattle.dj_class.specs.CodeViews.{code_of};
-ghost use Rattle.dj_check.specs.Malformed.{IsBodiless};
+ghost use Rattle.dj_check.specs.trusted.Malformed.{IsBodiless};
 ghost use Rattle.dj_check.specs.Passes.{lacks_memory, IsLabellingOf, IsLabelling, bodies_in, IsMappedCode, IsMappedView, IsCodeView, IsBodyView, IsBodilessView, IsOwnView, IsMethodView};
 
 use crate::bodies::bodies_named;
@@ -16,7 +16,7 @@ use dj_pool::Pool;
 use dj_rules::{RulesError, is_memory};
 use std::alloc::Global;
 
-/// Code that is whole: its room, its bytes, what it is with numbers for addresses, and its stack map.
+/// Code without a fault: its room, its bytes, its labelled form, and its stack map.
 #[derive(Debug, Drop)]
 pub struct WholeCode<'a> {
     pub max_stack: u16,
@@ -25,16 +25,16 @@ pub struct WholeCode<'a> {
     pub labelled: Labelled,
     /// The body of its stack map, if it has one.
     pub map: Option<&'a [u8]>,
-    /// The frames of its stack map, no frames where it has none, and none where the body is no stack map.
+    /// The frames of its stack map; no frames where it has none; none where the body is no stack map.
     pub frames: Option<Frames>,
 }
 
-/// What a method has for code.
+/// The code that a method has.
 #[derive(Debug, Drop)]
 pub enum MethodCode<'a> {
-    /// What no class file may have.
+    /// A part of it is faulty.
     Faulty,
-    /// Nothing, as it is native or abstract.
+    /// There is no code, as the method is native or abstract.
     Bodiless,
     Whole(WholeCode<'a>),
 }
@@ -52,7 +52,7 @@ fn lacks_memory(error: &CodeError) -> bool
     matches!(error, CodeError::Memory)
 }
 
-// The labelled code with its starts, or none where it has no labels.
+// The labelled code with the addresses of its instructions; none where it can't be labelled.
 fn labelling_of(
     alloc: Global,
     code: &[u8],
@@ -95,7 +95,7 @@ fn code_with_labels<'a>(
     })
 }
 
-// The code of a view with this body of a stack map, where it has labels.
+// The code of a view with this body of a stack map, where it can be labelled.
 fn code_with_map<'a>(
     alloc: Global,
     view: &CodeView<'a>,
@@ -112,7 +112,7 @@ fn code_with_map<'a>(
     }
 }
 
-// The code of a view, where it is whole.
+// The code of a view, where it has no fault.
 fn whole_code<'a>(
     alloc: Global,
     pool: &Pool<'_>,
@@ -130,7 +130,7 @@ fn whole_code<'a>(
     }
 }
 
-// The code of the body of a Code attribute, where it is whole.
+// The code of the body of a Code attribute, where it has no fault.
 fn code_of_body<'a>(
     alloc: Global,
     pool: &Pool<'_>,
@@ -151,7 +151,7 @@ fn code_of_body<'a>(
     }
 }
 
-// What a native or abstract method has that has these bodies of code.
+// The answer for a native or abstract method whose Code attributes have these bodies.
 fn bodiless_code<'a>(bodies: &[&'a [u8]]) -> MethodCode<'a>
     ensures { IsBodilessView (map (λ body. body.now) bodies.now) result }
 {
@@ -162,7 +162,7 @@ fn bodiless_code<'a>(bodies: &[&'a [u8]]) -> MethodCode<'a>
     }
 }
 
-// What another method has.
+// The answer for another method.
 fn own_code<'a>(
     alloc: Global,
     pool: &Pool<'_>,
@@ -180,7 +180,7 @@ fn own_code<'a>(
     }
 }
 
-/// What the method has for code.
+/// The code that the method has.
 pub fn code_of_method<'a>(
     alloc: Global,
     pool: &Pool<'_>,

@@ -11,7 +11,7 @@ use std::collections::BTreeSet;
 // The number of the rule DUPLICATE.
 const DUPLICATE: u8 = 5;
 
-/// A file and the name of its class, which it has where rule 1 isn't violated.
+/// A file and the name of its class, which is known where the file doesn't violate rule 1.
 #[derive(Clone, Copy, Debug)]
 pub struct NamedFile<'a> {
     /// The file's path within the folder.
@@ -39,7 +39,7 @@ fn note_name<'a>(
     Ok(())
 }
 
-// The names that two of the files have. Each name is looked for in a tree, so the work grows by n log n.
+// The names that two of the files have. They are looked up in a tree, so the work grows as n log n.
 fn repeated_names<'a>(
     alloc: Global,
     files: &[NamedFile<'a>],
@@ -80,7 +80,7 @@ fn add_lines_among(
     Ok(())
 }
 
-/// Appends a line for each file whose name another one has too.
+/// Appends a line for each file whose class's name another file has too.
 pub fn add_duplicate_lines(
     alloc: Global,
     found: &mut Vec<Violation>,

@@ -2,7 +2,7 @@ ghost use Rattle.std.specs.Prelude.{◌≡◌, ◌↔◌, IsTrue, IfOk};
 ghost use Rattle.dj_pool.specs.Views.{constant_of};
 ghost use Rattle.dj_class.specs.Members.{member_of};
 ghost use Rattle.dj_class.specs.Views.{class_of};
-ghost use Rattle.dj_check.specs.Malformed.{IsIntText, FitsField, NamesValue, IsValueFor, IsFaultyField, HasFaultyField};
+ghost use Rattle.dj_check.specs.trusted.Malformed.{IsIntText, FitsField, NamesValue, IsValueFor, IsFaultyField, HasFaultyField};
 
 use crate::bodies::bodies_named;
 use dj_class::{ClassView, MemberView};
@@ -21,7 +21,7 @@ fn is_int_text(text: &[u8]) -> bool
         || text == b"Z".as_slice()
 }
 
-// Whether the constant is one for a field of this descriptor.
+// Whether the constant fits a field of this descriptor.
 fn fits_field(entry: Entry<'_>, text: &[u8]) -> bool
     ensures { IsTrue result ↔ FitsField (constant_of entry.entry) text.now }
 {
@@ -35,7 +35,7 @@ fn fits_field(entry: Entry<'_>, text: &[u8]) -> bool
     }
 }
 
-// Whether the index is that of a constant for a field whose descriptor has that index.
+// Whether the index is that of a constant that fits a field whose descriptor is at `desc`.
 fn names_value(pool: &Pool<'_>, desc: u16, index: u16) -> bool
     ensures { IsTrue result ↔ NamesValue pool.now desc index }
 {
@@ -45,7 +45,7 @@ fn names_value(pool: &Pool<'_>, desc: u16, index: u16) -> bool
     }
 }
 
-// Whether the body is that of a ConstantValue for a field whose descriptor has this index.
+// Whether the body is that of a ConstantValue that fits a field whose descriptor is at `desc`.
 fn is_value_for(pool: &Pool<'_>, desc: u16, body: &[u8]) -> bool
     ensures { IsTrue result ↔ IsValueFor pool.now desc body.now }
 {

@@ -1,5 +1,5 @@
 ghost use Rattle.std.specs.Prelude.{IfOk};
-ghost use Rattle.dj_class.specs.ClassFile.{IsValid};
+ghost use Rattle.dj_class.specs.trusted.ClassFile.{IsValid};
 ghost use Rattle.dj_class.specs.Views.{class_of};
 ghost use Rattle.dj_check.specs.Judged.{AreTexts, AreNumbered};
 ghost use Rattle.dj_check.specs.Passes.{IsGoodPart};
@@ -12,12 +12,12 @@ use dj_hierarchy::ClassHead;
 use dj_rules::RulesError;
 use std::alloc::Global;
 
-/// What is kept of a class file where rule 1 isn't violated.
+/// What is kept of a class file that doesn't violate rule 1.
 #[derive(Drop)]
 pub struct GoodFile<'a> {
     /// The head of its class.
     pub head: ClassHead<'a>,
-    /// Whether two of its fields or two of its methods have one name and one descriptor.
+    /// Whether two of its fields or two of its methods have the same name and the same descriptor.
     pub repeats: bool,
 }
 

@@ -1,9 +1,9 @@
 ghost use Rattle.std.specs.Prelude.{◌≡◌, ◌↔◌, ℕ, List, option_and_then, Contains, OnOk, IfOk};
-ghost use Rattle.dj_pool.specs.Pool.{class_text_of, constant_at};
+ghost use Rattle.dj_pool.specs.trusted.Pool.{class_text_of, constant_at};
 ghost use Rattle.dj_class.specs.Views.{class_of};
 ghost use Rattle.dj_report.specs.Lines.{Gains};
 ghost use Rattle.dj_check.specs.Judged.{AreTexts};
-ghost use Rattle.dj_check.specs.Heads.{interface_names};
+ghost use Rattle.dj_check.specs.trusted.Heads.{interface_names};
 ghost use Rattle.dj_check.specs.Gathered.{texts_of, IsClassText, IsOwnText, AreClassTexts, AreTextsAt, IsHeadOf};
 
 use crate::classes::class_name;
@@ -14,7 +14,7 @@ use dj_pool::{Entry, Pool};
 use dj_rules::RulesError;
 use std::alloc::Global;
 
-// The index of the text of the class of an index.
+// The index of the text of the class at an index.
 fn class_text(pool: &Pool<'_>, index: u16) -> Option<u16>
     ensures { result ≡ option_and_then class_text_of (constant_at pool.now index) }
 {
@@ -24,7 +24,7 @@ fn class_text(pool: &Pool<'_>, index: u16) -> Option<u16>
     }
 }
 
-// Appends the index that stands for the text of the class of an index.
+// Appends the index that represents the text of the class at an index.
 fn add_class_text(
     firsts: &mut Vec<u16>,
     pool: &Pool<'_>,
@@ -49,7 +49,7 @@ fn each_index_once(mut indexes: Vec<u16>) -> Vec<u16>
     indexes
 }
 
-// The indexes that stand for the texts of the classes of these indexes.
+// The indexes that represent the texts of the classes at these indexes.
 fn class_texts(
     alloc: Global,
     pool: &Pool<'_>,
@@ -66,7 +66,7 @@ fn class_texts(
     Ok(firsts)
 }
 
-// Appends the text of an index.
+// Appends the text at an index.
 fn add_text<'a>(names: &mut Vec<&'a [u8]>, pool: &Pool<'a>, index: u16) -> Result<(), RulesError>
     ensures { OnOk result (Gains (IsOwnText pool.now index) (texts_of names.old.items) (texts_of names.new.items)) }
 {
@@ -91,7 +91,7 @@ fn texts_at<'a>(
     Ok(names)
 }
 
-// The names of the interfaces, each once. A name may be listed often, and is looked at once.
+// The names of the interfaces, each once. A name may be listed often, and is compared once.
 fn interface_names<'a>(
     alloc: Global,
     view: &ClassView<'a>,
@@ -105,7 +105,7 @@ fn interface_names<'a>(
     texts_at(alloc, &view.pool, &once)
 }
 
-/// What the rule on hierarchies asks of the class that the file defines.
+/// The head of the class that the file defines.
 pub fn class_head<'a>(
     alloc: Global,
     view: &ClassView<'a>,

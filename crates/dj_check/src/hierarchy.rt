@@ -1,5 +1,6 @@
 ghost use Rattle.std.specs.Prelude.{◌≡◌, ◌↔◌, ◌⊎◌, ◌<◌, map, length, slice_get, Some, IsTrue, OnOk, IfOk};
-ghost use Rattle.dj_report.specs.Lines.{Adds, file_line};
+ghost use Rattle.dj_report.specs.trusted.Lines.{file_line};
+ghost use Rattle.dj_report.specs.Lines.{Adds};
 ghost use Rattle.dj_hierarchy.specs.Views.{head_view};
 ghost use Rattle.dj_hierarchy.specs.Judged.{AreJudged};
 ghost use Rattle.dj_check.specs.Kept.{IsMarkedLine, IsOwnersLine};
@@ -13,7 +14,7 @@ use std::alloc::Global;
 // The number of the rule HIERARCHY.
 const HIERARCHY: u8 = 6;
 
-// So many heads want more memory than there is.
+// As many heads as this need more memory than there is.
 const TOO_MANY: usize = 0x4000_0000;
 
 /// The file of a head.
@@ -21,11 +22,11 @@ const TOO_MANY: usize = 0x4000_0000;
 pub struct Owner<'a> {
     /// The file's path within the folder.
     pub path: &'a str,
-    /// Whether two of its fields or two of its methods have one name and one descriptor.
+    /// Whether two of its fields or two of its methods have the same name and the same descriptor.
     pub repeats: bool,
 }
 
-// Whether each head violates the rule, whatever members its class has.
+// Whether each head violates the rule; the members of its class are judged elsewhere.
 fn judge_all_heads(alloc: Global, heads: &[ClassHead<'_>]) -> Result<Vec<bool>, RulesError>
     ensures { IfOk result (λ marks. AreJudged (map head_view heads.now) marks.items) }
 {

@@ -1,10 +1,11 @@
 ghost use Rattle.std.specs.Prelude.{◌≡◌, ◌↔◌, ◌⊎◌, ℕ, IsTrue, IsSomeAnd};
-ghost use Rattle.dj_pool.specs.Pool.{constant_at};
+ghost use Rattle.dj_pool.specs.trusted.Pool.{constant_at};
 ghost use Rattle.dj_pool.specs.Views.{constant_of};
-ghost use Rattle.dj_check.specs.Classes.{IsGetClass, NamesGetClass, NamesReflective, class_text_index, names_at};
-ghost use Rattle.dj_check.specs.Instructions.{index_of, member_index_of, IsHandleOrType, IsClass, IsFloatNumber, NamesSuch, NamesSuchMember, PushesSuch, IsDynamic, IsReflection, IsFloat, IsSubroutine, IsBreakpoint, IsMultiArray, is_plain};
+ghost use Rattle.dj_check.specs.trusted.Classes.{IsGetClass, NamesGetClass, NamesReflective, class_text_index, names_at};
+ghost use Rattle.dj_check.specs.trusted.Instructions.{index_of, member_index_of, IsHandleOrType, IsClass, IsFloatNumber, NamesSuch, NamesSuchMember, PushesSuch, IsDynamic, IsReflection, IsFloat, IsSubroutine, IsBreakpoint, IsMultiArray};
+ghost use Rattle.dj_check.specs.Instructions.{is_plain};
 ghost use Rattle.dj_check.specs.Judged.{AreTexts};
-ghost use Rattle.dj_check.specs.Methods.{InstrViolates};
+ghost use Rattle.dj_check.specs.trusted.Methods.{InstrViolates};
 
 use crate::judged::{JudgedText, text_in};
 use crate::opcodes::{is_float_base, is_float_op, is_short_literal, is_subroutine_jump};
@@ -26,7 +27,7 @@ fn index_of(instr: &Instr) -> Option<u16>
     }
 }
 
-// The index of the constant whose field or method an instruction names.
+// The index of the constant by which an instruction names a field or a method.
 fn member_index_of(instr: &Instr) -> Option<u16>
     ensures { result ≡ member_index_of instr.now }
 {
@@ -114,7 +115,7 @@ fn uses_get_class(pool: &Pool<'_>, instr: &Instr) -> bool
     }
 }
 
-// Whether the index is that of a method handle or a method's type.
+// Whether the constant at the index is a method handle or a method's type.
 fn is_handle_or_type(pool: &Pool<'_>, index: u16) -> bool
     ensures { IsTrue result ↔ IsSomeAnd (constant_at pool.now index) IsHandleOrType }
 {
@@ -124,21 +125,21 @@ fn is_handle_or_type(pool: &Pool<'_>, index: u16) -> bool
     )
 }
 
-// Whether the index is that of a class.
+// Whether the constant at the index is a class.
 fn is_class(pool: &Pool<'_>, index: u16) -> bool
     ensures { IsTrue result ↔ IsSomeAnd (constant_at pool.now index) IsClass }
 {
     matches!(pool.get(index), Some(Entry::Class(_)))
 }
 
-// Whether the index is that of a float or a double.
+// Whether the constant at the index is a float or a double.
 fn is_float_number(pool: &Pool<'_>, index: u16) -> bool
     ensures { IsTrue result ↔ IsSomeAnd (constant_at pool.now index) IsFloatNumber }
 {
     matches!(pool.get(index), Some(Entry::Float(_) | Entry::Double(_)))
 }
 
-/// Whether it is of the rule DYNAMIC.
+/// Whether the instruction violates the rule DYNAMIC.
 pub fn is_dynamic(pool: &Pool<'_>, instr: &Instr) -> bool
     ensures { IsTrue result ↔ IsDynamic pool.now instr.now }
 {
@@ -159,7 +160,7 @@ fn pushes_class(pool: &Pool<'_>, instr: &Instr) -> bool
     }
 }
 
-/// Whether it is of the rule REFLECTION.
+/// Whether the instruction violates the rule REFLECTION.
 pub fn is_reflection(pool: &Pool<'_>, texts: &[JudgedText], instr: &Instr) -> bool
     requires { AreTexts pool.now texts.now }
     ensures { IsTrue result ↔ IsReflection pool.now instr.now }
@@ -167,7 +168,7 @@ pub fn is_reflection(pool: &Pool<'_>, texts: &[JudgedText], instr: &Instr) -> bo
     pushes_class(pool, instr) || uses_reflective(pool, texts, instr) || uses_get_class(pool, instr)
 }
 
-/// Whether it is of the rule FLOAT.
+/// Whether the instruction violates the rule FLOAT.
 pub fn is_float(pool: &Pool<'_>, instr: &Instr) -> bool
     ensures { IsTrue result ↔ IsFloat pool.now instr.now }
 {
@@ -184,7 +185,7 @@ pub fn is_float(pool: &Pool<'_>, instr: &Instr) -> bool
     }
 }
 
-/// Whether it is of the rule SUBROUTINE.
+/// Whether the instruction violates the rule SUBROUTINE.
 pub fn is_subroutine(pool: &Pool<'_>, instr: &Instr) -> bool
     ensures { IsTrue result ↔ IsSubroutine pool.now instr.now }
 {
@@ -199,7 +200,7 @@ pub fn is_subroutine(pool: &Pool<'_>, instr: &Instr) -> bool
     }
 }
 
-/// Whether it is of the rule BREAKPOINT.
+/// Whether the instruction violates the rule BREAKPOINT.
 pub fn is_breakpoint(pool: &Pool<'_>, instr: &Instr) -> bool
     ensures { IsTrue result ↔ IsBreakpoint pool.now instr.now }
 {
@@ -209,14 +210,14 @@ pub fn is_breakpoint(pool: &Pool<'_>, instr: &Instr) -> bool
     }
 }
 
-/// Whether it is of the rule MULTI_ARRAY.
+/// Whether the instruction violates the rule MULTI_ARRAY.
 pub fn is_multi_array(pool: &Pool<'_>, instr: &Instr) -> bool
     ensures { IsTrue result ↔ IsMultiArray pool.now instr.now }
 {
     matches!(instr, Instr::Multi { index: _, dims: _ })
 }
 
-/// Whether it is seen by its opcode that no rule on instructions is violated, as it is of most instructions.
+/// Whether its opcode alone shows that the instruction violates no rule on instructions. It does so for most instructions.
 pub fn is_plain(instr: &Instr) -> bool
     ensures { result ≡ is_plain instr.now }
 {
@@ -238,7 +239,7 @@ pub fn is_plain(instr: &Instr) -> bool
     }
 }
 
-// Whether it is of one of the rules on what instructions name or push.
+// Whether the instruction violates one of the rules on what instructions name or push.
 fn is_of_constants(pool: &Pool<'_>, texts: &[JudgedText], instr: &Instr) -> bool
     requires { AreTexts pool.now texts.now }
     ensures { IsTrue result ↔ (IsDynamic pool.now instr.now ⊎ (IsReflection pool.now instr.now ⊎ IsFloat pool.now instr.now)) }
@@ -246,14 +247,14 @@ fn is_of_constants(pool: &Pool<'_>, texts: &[JudgedText], instr: &Instr) -> bool
     is_dynamic(pool, instr) || is_reflection(pool, texts, instr) || is_float(pool, instr)
 }
 
-// Whether it is of one of the other rules on instructions.
+// Whether the instruction violates one of the other rules on instructions.
 fn is_of_opcodes(pool: &Pool<'_>, instr: &Instr) -> bool
     ensures { IsTrue result ↔ (IsSubroutine pool.now instr.now ⊎ (IsBreakpoint pool.now instr.now ⊎ IsMultiArray pool.now instr.now)) }
 {
     is_subroutine(pool, instr) || is_breakpoint(pool, instr) || is_multi_array(pool, instr)
 }
 
-/// Whether a rule on instructions is violated.
+/// Whether the instruction violates a rule on instructions.
 pub fn violates_instr(pool: &Pool<'_>, texts: &[JudgedText], instr: &Instr) -> bool
     requires { AreTexts pool.now texts.now }
     ensures { IsTrue result ↔ ((rule : ℕ) × InstrViolates pool.now instr.now rule) }

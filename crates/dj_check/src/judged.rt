@@ -1,11 +1,11 @@
 ghost use Rattle.std.specs.Prelude.{◌≡◌, ◌↔◌, ◌+◌, ◌<◌, ◌≤◌, ◌^◌, [], ◌∷◌, map, length, slice_get, Contains, true, IsTrue, IfOk, OnOk};
 ghost use Rattle.std.specs.List.{list_any};
-ghost use Rattle.dj_names.specs.Names.{IsClassName};
-ghost use Rattle.dj_class.specs.ClassFile.{MemberInfo};
+ghost use Rattle.dj_names.specs.trusted.Names.{IsClassName};
+ghost use Rattle.dj_class.specs.trusted.ClassFile.{MemberInfo};
 ghost use Rattle.dj_class.specs.Members.{member_of};
 ghost use Rattle.dj_class.specs.Views.{class_of};
-ghost use Rattle.dj_check.specs.Floats.{HasFloat, IsFloating, HasFloating, MentionsFloat};
-ghost use Rattle.dj_check.specs.Classes.{IsReflective, IsReflectiveText, element_class};
+ghost use Rattle.dj_check.specs.trusted.Floats.{HasFloat, IsFloating, HasFloating, MentionsFloat};
+ghost use Rattle.dj_check.specs.trusted.Classes.{IsReflective, IsReflectiveText, element_class};
 ghost use Rattle.dj_check.specs.Judged.{IsTextAt, AreTexts, first_in, BeginsFloat, is_float_letter, AreNumbered, IsMarked, StayMarked, AreNamesMarked, AreMembersMarked, AreRight, Notes, IsToldText, IsJudgedText, IsOwnText, AreOwnTexts};
 
 use crate::prints::are_distinct;
@@ -16,14 +16,14 @@ use dj_rules::RulesError;
 use std::alloc::Global;
 use std::collections::BTreeMap;
 
-/// What the rules ask of the text of an index.
+/// What the rules need to know of the text at an index.
 #[derive(Clone, Copy, Debug)]
 pub struct JudgedText {
     /// Whether it is a descriptor with a float or a double.
     pub float: bool,
     /// Whether it stands for a class of reflection.
     pub reflective: bool,
-    /// The first index that has the same text, or the index itself where there is no text.
+    /// The first index with the same text, or the index itself where there is no text.
     pub first: u16,
 }
 
@@ -59,14 +59,14 @@ fn mentions_float(desc: &Desc) -> bool
     }
 }
 
-// Whether the descriptor of a method, of an array, of a float or of a double begins so.
+// Whether the descriptor of a method, of an array, of a float or of a double may begin with this byte.
 fn begins_float(byte: u8) -> bool
     ensures { IsTrue result ↔ BeginsFloat (byte ∷ []) }
 {
     byte == b'(' || byte == b'[' || byte == b'F' || byte == b'D'
 }
 
-// Whether the text begins so.
+// Whether the text begins with such a byte.
 fn may_have_float(text: &[u8]) -> bool
     ensures { IsTrue result ↔ BeginsFloat text.now }
 {
@@ -82,7 +82,7 @@ fn is_float_letter(byte: u8) -> bool
     (byte == b'F') | (byte == b'D')
 }
 
-// Whether the text has the letter of a float or of a double. One pass that never stops early, so that it may take many bytes at once.
+// Whether the text has the letter of a float or of a double. The pass never stops early, so that it can be made on many bytes at once.
 fn has_float_letter(text: &[u8]) -> bool
     ensures { result ≡ list_any is_float_letter text.now }
 {
@@ -93,7 +93,7 @@ fn has_float_letter(text: &[u8]) -> bool
     found
 }
 
-// Whether the text is a descriptor with a float or a double. Most texts are seen to be none by their first byte, and most descriptors by their letters.
+// Whether the text is a descriptor with a float or a double. The first byte shows of most texts that they are none, and the letters of most descriptors.
 fn has_float(alloc: Global, text: &[u8]) -> Result<bool, RulesError>
     ensures { IfOk result (λ float. IsTrue float ↔ HasFloat text.now) }
 {
@@ -119,7 +119,7 @@ fn is_reflective(name: &[u8]) -> bool
         || name.starts_with(b"java/lang/invoke/")
 }
 
-// Whether the class of an array's element is of reflection; that of a base type is Object.
+// Whether the class of an array's element is of reflection; for a base type that class is Object.
 fn is_reflective_element(of: &Of) -> bool
     ensures { IsTrue result ↔ IsReflective (element_class of.now) }
 {
@@ -178,7 +178,7 @@ fn mark_index(marks: &mut [bool], index: u16)
     }
 }
 
-// Marks the indexes of the names and the descriptors of members.
+// Marks the indexes of the names and descriptors of members.
 fn mark_names(marks: &mut [bool], members: &[MemberView<'_>])
     ensures stay { StayMarked marks.old marks.new }
     ensures own { (m : MemberInfo) → Contains (map member_of members.now) m → AreNamesMarked marks.new m }
@@ -189,7 +189,7 @@ fn mark_names(marks: &mut [bool], members: &[MemberView<'_>])
     }
 }
 
-/// Of each index, whether it is that of a name or a descriptor of a member.
+/// For each index, whether it is that of a member's name or descriptor.
 pub fn marked_names(alloc: Global, view: &ClassView<'_>) -> Result<Vec<bool>, RulesError>
     ensures { IfOk result (λ marks. AreMembersMarked (class_of view.now) marks.items) }
 {
@@ -201,7 +201,7 @@ pub fn marked_names(alloc: Global, view: &ClassView<'_>) -> Result<Vec<bool>, Ru
 
 // ---- texts
 
-// The index that stands for a text: the one that was noted of it, or else this one, which is noted.
+// The index that represents a text: the one that was noted for it, or else this one, which is noted.
 fn note_text<'p>(
     indexes: &mut BTreeMap<&'p [u8], u16>,
     text: &'p [u8],
@@ -218,7 +218,7 @@ fn note_text<'p>(
     }
 }
 
-// The index that stands for the text of an index, which is noted where the index is marked.
+// The index that represents the text at an index, which is noted where the index is marked.
 fn first_index<'p>(
     indexes: &mut BTreeMap<&'p [u8], u16>,
     text: &'p [u8],
@@ -234,7 +234,7 @@ fn first_index<'p>(
     }
 }
 
-// What the rules ask of a text, the one of an index.
+// What the rules need to know of a text, which is that at an index.
 fn judge_text<'p>(
     alloc: Global,
     indexes: &mut BTreeMap<&'p [u8], u16>,
@@ -254,7 +254,7 @@ fn judge_text<'p>(
     })
 }
 
-// What the rules ask of the text of an index, if there is one.
+// What the rules need to know of the text at an index, if there is one.
 fn judge_index<'p>(
     alloc: Global,
     indexes: &mut BTreeMap<&'p [u8], u16>,
@@ -275,7 +275,7 @@ fn judge_index<'p>(
     }
 }
 
-// The same, where the index stands for itself.
+// The same, where the index represents its own text.
 fn judge_own(alloc: Global, pool: &Pool<'_>, index: u16) -> Result<JudgedText, RulesError>
     ensures { IfOk result (IsOwnText pool.now index) }
 {
@@ -293,7 +293,7 @@ fn judge_own(alloc: Global, pool: &Pool<'_>, index: u16) -> Result<JudgedText, R
     }
 }
 
-// What the rules ask of texts, each of which stands for itself.
+// What the rules need to know of texts, where each index represents its own text.
 fn judge_own_texts(
     alloc: Global,
     pool: &Pool<'_>,
@@ -309,7 +309,7 @@ fn judge_own_texts(
     Ok(texts)
 }
 
-// What the rules ask of texts, of which the first marked one stands for those that are the same.
+// What the rules need to know of texts, where the first marked index represents all that have the same text.
 fn judge_first_texts(
     alloc: Global,
     view: &ClassView<'_>,
@@ -329,8 +329,8 @@ fn judge_first_texts(
     Ok(texts)
 }
 
-/// What the rules ask of the texts of a class file's pool, by index. Each text is looked at once, and compared where it is a name or a descriptor
-/// of a member and its number is another's too.
+/// What the rules need to know of the texts of a class file's pool, by index. Each text is looked at once. Texts are compared only where they name or describe
+/// a member and have the same number as another.
 pub fn judge_texts(alloc: Global, view: &ClassView<'_>) -> Result<Vec<JudgedText>, RulesError>
     requires { length view.now.pool + 1 < 2 ^ 16 }
     ensures texts { IfOk result (λ texts. AreTexts view.now.pool texts.items) }
@@ -344,7 +344,7 @@ pub fn judge_texts(alloc: Global, view: &ClassView<'_>) -> Result<Vec<JudgedText
     }
 }
 
-/// What the rules ask of the text of an index.
+/// What the rules need to know of the text at an index.
 pub fn text_in(pool: &Pool<'_>, texts: &[JudgedText], index: u16) -> JudgedText
     requires { AreTexts pool.now texts.now }
     ensures means { IsTextAt pool.now index result }

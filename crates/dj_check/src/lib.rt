@@ -1,4 +1,4 @@
-//! The rules on a set of class files that need no look at the members that code names: those of each file by itself, of names that files share, and of what stands above a class.
+//! The rules on a set of class files that don't look up the members which code names: those on each file by itself, on names that files share, and on what is above a class.
 #![tactic(auto)]
 
 mod bodies;

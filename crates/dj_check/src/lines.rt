@@ -1,5 +1,6 @@
 ghost use Rattle.std.specs.Prelude.{◌≡◌, ◌↔◌, Contains, IsTrue, OnOk, IfOk};
-ghost use Rattle.dj_report.specs.Lines.{Adds, IsLineAmong, file_line};
+ghost use Rattle.dj_report.specs.trusted.Lines.{file_line};
+ghost use Rattle.dj_report.specs.Lines.{Adds, IsLineAmong};
 ghost use Rattle.dj_rules.specs.Lines.{pair_text};
 ghost use Rattle.dj_check.specs.declared.marks.Mark.{Mark};
 ghost use Rattle.dj_check.specs.Marks.{IsMarkLine};
@@ -11,7 +12,7 @@ use dj_report::{Violation, add_file_line, add_line};
 use dj_rules::RulesError;
 use std::alloc::Global;
 
-// The name and the descriptor of these indexes.
+// The name and the descriptor at these indexes.
 fn text_of(alloc: Global, pool: &Pool<'_>, name: u16, desc: u16) -> Result<Name, RulesError>
     ensures { IfOk result (λ text. text ≡ pair_text pool.now (name, desc)) }
 {
@@ -81,7 +82,7 @@ pub fn add_mark_lines(
     add_each_line(alloc, found, path, pool, &once)
 }
 
-/// Appends the line of a file as a whole, if the rule is violated.
+/// Appends the line of a whole file, if it violates the rule.
 pub fn add_file_line_if(
     alloc: Global,
     found: &mut Vec<Violation>,

@@ -1,7 +1,7 @@
 ghost use Rattle.std.specs.Prelude.{◌≡◌, ◌↔◌, ◌<◌, ◌^◌, length, IsTrue, IfOk};
 ghost use Rattle.std.specs.List.{AllByRecursion};
 ghost use Rattle.std.specs.List.Sorted.{IsStrictlyIncreasing};
-ghost use Rattle.dj_check.specs.Code.{IsFloatType, HaveFloats, HasFloatType, HaveFloatType, AreFramesAt};
+ghost use Rattle.dj_check.specs.trusted.Code.{IsFloatType, HaveFloats, HasFloatType, HaveFloatType, AreFramesAt};
 ghost use Rattle.dj_check.specs.Passes.{lacks_memory_of_frames, bodies_in, HasFramesAt};
 
 use dj_frames::{FrameError, read_frames};
@@ -58,7 +58,7 @@ fn lacks_memory(error: &FrameError) -> bool
     matches!(error, FrameError::Memory)
 }
 
-// The frames of the body of a stack map, for code with these starts, or none where it is none.
+// The frames of the body, for code whose instructions start at these addresses; none where the body is no stack map.
 fn frames_at(alloc: Global, starts: &[u32], body: &[u8]) -> Result<Option<Frames>, RulesError>
     requires short { length body.now < 2 ^ 32 }
     requires rise { IsStrictlyIncreasing starts.now }
@@ -76,7 +76,7 @@ fn frames_at(alloc: Global, starts: &[u32], body: &[u8]) -> Result<Option<Frames
     }
 }
 
-/// The frames for code with these starts, of which this is the body of its stack map, if it has one.
+/// The frames of code whose instructions start at these addresses and whose stack map, if it has one, has this body.
 pub fn frames_in(
     alloc: Global,
     starts: &[u32],

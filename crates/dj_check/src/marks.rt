@@ -4,7 +4,7 @@ ghost use Rattle.dj_check.specs.Marks.{mark_at};
 
 use dj_rules::RulesError;
 
-/// A part of a file that has lines: a member, by the indexes of its name and descriptor, as a whole or at the instruction of a number.
+/// A part of a file that may have lines: a member, by the indexes of its name and descriptor, as a whole or at the instruction of this number.
 #[derive(Clone, Copy, Debug, PartialEq, Eq, PartialOrd, Ord)]
 pub struct Place {
     pub name: u16,
@@ -12,7 +12,7 @@ pub struct Place {
     pub number: Option<u32>,
 }
 
-/// A rule that is violated at a place. A line is made of it only where it is needed.
+/// A violation: a rule and a place. A line is made of it only where one is needed.
 #[derive(Clone, Copy, Debug, PartialEq, Eq, PartialOrd, Ord)]
 pub struct Mark {
     pub place: Place,

@@ -2,12 +2,12 @@ ghost use Rattle.std.specs.Prelude.{◌≡◌, ◌↔◌, [], codes, Some, IsTru
 ghost use Rattle.dj_class.specs.Members.{member_of};
 ghost use Rattle.dj_class.specs.Views.{class_of};
 ghost use Rattle.dj_report.specs.Lines.{Gains};
-ghost use Rattle.dj_pool.specs.Pool.{text_at};
-ghost use Rattle.dj_check.specs.Attributes.{codes_of};
+ghost use Rattle.dj_pool.specs.trusted.Pool.{text_at};
+ghost use Rattle.dj_check.specs.trusted.Attributes.{codes_of};
 ghost use Rattle.dj_check.specs.Judged.{AreTexts};
-ghost use Rattle.dj_check.specs.Members.{IsFloatMethod, IsInterfaceMethod};
-ghost use Rattle.dj_check.specs.Rules.{FieldViolates};
-ghost use Rattle.dj_check.specs.Methods.{MethodViolates};
+ghost use Rattle.dj_check.specs.trusted.Members.{IsFloatMethod, IsInterfaceMethod};
+ghost use Rattle.dj_check.specs.trusted.Rules.{FieldViolates};
+ghost use Rattle.dj_check.specs.trusted.Methods.{MethodViolates};
 ghost use Rattle.dj_check.specs.Marks.{names_in, MarksOf, RuledWhole, AreMarksOf};
 ghost use Rattle.dj_check.specs.Passes.{IsWholeMethod, HasFloatFrames};
 
@@ -91,7 +91,7 @@ fn is_float_method(
     maps_float(code)
 }
 
-// Whether the method is one of an interface, and not its initialiser.
+// Whether the method is one of an interface, other than its initialiser.
 fn is_interface_method(view: &ClassView<'_>, method: &MemberView<'_>) -> bool
     ensures { IsTrue result ↔ IsInterfaceMethod (class_of view.now) (member_of method.now) }
 {

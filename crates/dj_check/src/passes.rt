@@ -1,8 +1,8 @@
 ghost use Rattle.std.specs.Prelude.{◌≡◌, ◌↔◌, ◌<◌, ◌^◌, length, IsTrue, OnOk};
 ghost use Rattle.dj_report.specs.Lines.{Gains};
 ghost use Rattle.dj_check.specs.Judged.{AreTexts};
-ghost use Rattle.dj_check.specs.Classes.{IsUncatchable};
-ghost use Rattle.dj_check.specs.Methods.{InstrViolates, CatchesError};
+ghost use Rattle.dj_check.specs.trusted.Classes.{IsUncatchable};
+ghost use Rattle.dj_check.specs.trusted.Methods.{InstrViolates, CatchesError};
 ghost use Rattle.dj_check.specs.Marks.{place_of, MarksAt, MarksOf, ViolatesBelow, RangeViolates, IsAmongRanges, CodeMark};
 
 use crate::instructions::{
@@ -50,7 +50,7 @@ fn add_instr_marks(
     add_mark_if(marks, place, MULTI_ARRAY, is_multi_array(pool, instr))
 }
 
-// The same, where an instruction that violates no rule, as most do, costs no mark.
+// The same; an instruction that violates no rule, as most do, is passed over quickly.
 fn add_marks_at(
     marks: &mut Vec<Mark>,
     place: Place,
@@ -67,7 +67,7 @@ fn add_marks_at(
     add_instr_marks(marks, place, pool, texts, instr)
 }
 
-// Appends the marks of all instructions of a member of these names.
+// Appends the marks of all instructions of a member with these names.
 fn add_all_instr_marks(
     marks: &mut Vec<Mark>,
     names: (u16, u16),
@@ -99,7 +99,7 @@ fn is_uncatchable(name: &[u8]) -> bool
         || name == b"java/lang/OutOfMemoryError".as_slice()
 }
 
-/// Whether the class of the index may not be caught.
+/// Whether the class at the index may not be caught.
 pub fn catches_error(pool: &Pool<'_>, catch_type: u16) -> bool
     ensures { IsTrue result ↔ CatchesError pool.now catch_type }
 {
@@ -109,7 +109,7 @@ pub fn catches_error(pool: &Pool<'_>, catch_type: u16) -> bool
     }
 }
 
-// Appends the mark of a handler, if it catches what may not be caught.
+// Appends the mark of a handler, if it catches a class that may not be caught.
 fn add_handler_mark(
     marks: &mut Vec<Mark>,
     names: (u16, u16),
@@ -126,7 +126,7 @@ fn add_handler_mark(
     add_mark_if(marks, place, CATCH, catches_error(pool, range.catch_type))
 }
 
-// Appends the marks of all handlers of a member of these names.
+// Appends the marks of all handlers of a member with these names.
 fn add_all_handler_marks(
     marks: &mut Vec<Mark>,
     names: (u16, u16),
@@ -141,7 +141,7 @@ fn add_all_handler_marks(
     Ok(())
 }
 
-/// Appends the marks of labelled code of a member of these names.
+/// Appends the marks of labelled code of a member with these names.
 pub fn add_code_marks(
     marks: &mut Vec<Mark>,
     names: (u16, u16),

@@ -7,7 +7,7 @@ use dj_rules::RulesError;
 use std::alloc::Global;
 use std::collections::BTreeSet;
 
-// A number that equal texts share, and others seldom do.
+// A number of a text: equal texts have the same, and others seldom do.
 fn print_of(text: &[u8]) -> u32
     ensures { result ≡ print_of 0 text.now }
 {
@@ -18,7 +18,7 @@ fn print_of(text: &[u8]) -> u32
     print
 }
 
-// Whether the text of an index is the first with its number, which is noted. Where there is no text, nothing is noted.
+// Whether the text at an index is the first with its number, which is noted. Where there is no text, nothing is noted.
 fn note_print(prints: &mut BTreeSet<u32>, pool: &Pool<'_>, index: u16) -> Result<bool, RulesError>
     ensures { IfOk result (NotesPrint prints.old prints.new pool.now index true) }
 {
@@ -28,7 +28,7 @@ fn note_print(prints: &mut BTreeSet<u32>, pool: &Pool<'_>, index: u16) -> Result
     }
 }
 
-// The same, where the index is marked. Of another one nothing is noted.
+// The same where the index is marked; for other indexes nothing is noted.
 fn note_marked(
     prints: &mut BTreeSet<u32>,
     pool: &Pool<'_>,
@@ -44,7 +44,7 @@ fn note_marked(
     }
 }
 
-/// Whether it is seen by their numbers that no two of the marked indexes have one text.
+/// Whether their numbers show that no two of the marked indexes have the same text.
 pub fn are_distinct(alloc: Global, pool: &Pool<'_>, marks: &[bool]) -> Result<bool, RulesError>
     requires { length marks.now ≤ 2 ^ 16 }
     ensures { IfOk result (λ distinct. IsTrue distinct → AreDistinct pool.now marks.now) }

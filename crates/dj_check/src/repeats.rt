@@ -1,9 +1,9 @@
 ghost use Rattle.std.specs.Prelude.{◌≡◌, ◌↔◌, map, IsTrue, IfOk};
-ghost use Rattle.dj_class.specs.ClassFile.{IsValid};
+ghost use Rattle.dj_class.specs.trusted.ClassFile.{IsValid};
 ghost use Rattle.dj_class.specs.Members.{member_of};
 ghost use Rattle.dj_class.specs.Views.{class_of};
 ghost use Rattle.dj_check.specs.Judged.{AreTexts, AreNumbered};
-ghost use Rattle.dj_check.specs.Heads.{HasRepeats};
+ghost use Rattle.dj_check.specs.trusted.Heads.{HasRepeats};
 ghost use Rattle.dj_check.specs.Gathered.{names_of, HasAgain};
 
 use crate::judged::JudgedText;
@@ -14,7 +14,7 @@ use dj_rules::RulesError;
 use std::alloc::Global;
 use std::collections::BTreeSet;
 
-// Whether the same indexes stand for the names of two of the members. No text is looked at, so the work grows by n log n.
+// Whether two of the members have the same indexes of a name and a descriptor, as representatives. No text is looked at, so the work grows as n log n.
 fn has_again(
     alloc: Global,
     pool: &Pool<'_>,
@@ -34,7 +34,7 @@ fn has_again(
     Ok(false)
 }
 
-/// Whether two fields or two methods of the class file have one name and one descriptor.
+/// Whether two fields or two methods of the class file have the same name and the same descriptor.
 pub fn has_repeats(
     alloc: Global,
     view: &ClassView<'_>,

@@ -1,10 +1,11 @@
 -- What reading a class file answers, at plain values: the answer that is right, and of each kind one that is wrong.
 use Rattle.std.proofs.Common.{◌≡◌, ℕ, ◌∷◌, [], List, ◌++◌, take, Ok, Err, true, refl, sym, ap, subst, ◌∙◌, arith}
 use Rattle.dj_bytes.specs.Reading.{many_at, table_at}
-use Rattle.dj_names.specs.NameReading.{reads_class_name}
-use Rattle.dj_names.specs.DescReading.{dims_read, name_read, class_read, of_read, type_read, params_read, field_read, return_read, method_read}
-use Rattle.dj_names.specs.UnitReading.{unit_read, long_read, two_read, three_read}
-use Rattle.dj_names.specs.Tests.{unqualified_name_test, method_name_test, class_name_test, units_read, modified_utf8_test, field_descriptor_test, method_descriptor_test, array_descriptor_test}
+use Rattle.dj_names.specs.trusted.NameReading.{reads_class_name}
+use Rattle.dj_names.specs.trusted.DescReading.{dims_read, name_read, class_read, of_read, type_read, params_read, field_read, return_read, method_read}
+use Rattle.dj_names.specs.trusted.UnitReading.{unit_read, long_read, two_read, three_read}
+use Rattle.dj_names.specs.trusted.Tests.{units_read}
+use Rattle.dj_names.specs.Tests.{unqualified_name_test, method_name_test, class_name_test, modified_utf8_test, field_descriptor_test, method_descriptor_test, array_descriptor_test}
 use Rattle.dj_pool.specs.declared.pool.PoolError.TheVariants as pool_errors
 use Rattle.dj_pool.specs.Reading.{utf8_at, number4_at, number8_at, named_at, paired_at, handle_at, untagged_at, constant_at_cursor, slot_at, slots_at, first_unlinked, linked_slots_at, pool_at}
 use Rattle.dj_pool.proofs.Decides.{tests_decide}
@@ -12,7 +13,7 @@ use Rattle.dj_pool.proofs.AnswerFacts.{are_bytes}
 use Rattle.dj_class.specs.declared.class.ClassError.{ClassError}
 use Rattle.dj_class.specs.declared.class.ClassError.TheVariants as errors
 use Rattle.dj_class.specs.declared.class.ClassView.{ClassView}
-use Rattle.dj_class.specs.ClassFile.{MemberInfo, ClassFile, IsClassFile}
+use Rattle.dj_class.specs.trusted.ClassFile.{MemberInfo, ClassFile, IsClassFile}
 use Rattle.dj_class.specs.Faults.{IsFault}
 use Rattle.dj_class.specs.Views.{class_of, ReadsClass}
 use Rattle.dj_class.specs.Members.{member_of}
@@ -99,7 +100,7 @@ others_not view shows h =
     let super : 0 ≡ 4 = ap (λ (c : ClassFile). c.super_class) same in
     omega (arith, super)
 
--- nothing is told to be wrong with it but that memory ran out
+-- nothing is reported to be wrong with it but that memory ran out
 no_fault : (e : ClassError) → IsFault bytes_a e → ⊥
 no_fault e fault = faulty_is_malformed tests_decide bytes_a e fault class_a class_a-is
 
@@ -120,7 +121,7 @@ class_a-magic_not h = no_fault errors.Magic h
 
 -- ---- faults
 
--- the place or the index that an error tells
+-- the place or the index that an error has
 place_of : ClassError → ℕ
 place_of (errors.Cut place) = place
 place_of (errors.Index place) = place

@@ -7,7 +7,7 @@ use Rattle.dj_pool.proofs.Decides.{TestsDecide}
 use Rattle.dj_class.specs.declared.class.ClassError.{ClassError}
 use Rattle.dj_class.specs.declared.class.ClassError.TheVariants as class_errors
 use Rattle.dj_class.specs.declared.class.ClassView.{ClassView}
-use Rattle.dj_class.specs.ClassFile.{ClassFile, IsMalformed}
+use Rattle.dj_class.specs.trusted.ClassFile.{ClassFile, IsMalformed}
 use Rattle.dj_class.specs.Faults.{IsFault}
 use Rattle.dj_class.specs.Laws.{ClassOrFault, IsOne, IsFaulty}
 use Rattle.dj_class.specs.Views.{class_of, ReadsClass}

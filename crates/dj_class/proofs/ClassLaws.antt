@@ -2,7 +2,7 @@
 use Rattle.std.proofs.Common.{◌≡◌, ℕ, if◌then◌else◌, List, [], ◌++◌, length, Result, Ok, Err, refl, sym, ap, subst, ◌∙◌, append_assoc, append-nil, arith}
 use Rattle.std.proofs.lemmas.Bool.{eqb-true, eq-eqb}
 use Rattle.std.proofs.lemmas.List.{nil_from_length}
-use Rattle.dj_bytes.specs.Spelling.{u2, table_bytes}
+use Rattle.dj_bytes.specs.trusted.Spelling.{u2, table_bytes}
 use Rattle.dj_bytes.specs.Steps.{◌>>=◌, lifted}
 use Rattle.dj_bytes.specs.Reading.{Cursor, start_of, at_end, table_at}
 use Rattle.dj_bytes.proofs.Bytes.{IsBytes}
@@ -12,16 +12,16 @@ use Rattle.dj_bytes.specs.Faults.{AreFew}
 use Rattle.dj_bytes.proofs.Parts.{table_reads}
 use Rattle.dj_bytes.proofs.FaultLaws.{Refuses, refuses_then, lifted_refuses, table_refuses, end_refuses}
 use Rattle.dj_names.specs.Tests.{unqualified_name_test, method_name_test, field_descriptor_test, method_descriptor_test}
-use Rattle.dj_names.specs.Names.{IsUnqualifiedName, IsMethodName}
-use Rattle.dj_names.specs.Descriptors.{IsFieldDescriptor, IsMethodDescriptor}
+use Rattle.dj_names.specs.trusted.Names.{IsUnqualifiedName, IsMethodName}
+use Rattle.dj_names.specs.trusted.Descriptors.{IsFieldDescriptor, IsMethodDescriptor}
 use Rattle.dj_class.specs.declared.class.ClassError.{ClassError}
 use Rattle.dj_class.specs.declared.class.ClassError.TheVariants as class_errors
-use Rattle.dj_pool.specs.Pool.{Constant, pool_bytes, IsPool}
+use Rattle.dj_pool.specs.trusted.Pool.{Constant, pool_bytes, IsPool}
 use Rattle.dj_pool.specs.Reading.{pool_at}
 use Rattle.dj_pool.proofs.Decides.{TestsDecide}
 use Rattle.dj_pool.proofs.PoolLaws.{pool_reads, pool_refuses}
 use Rattle.dj_class.specs.Faults.{FieldsFault, MethodsFault, FileFault, IsFault}
-use Rattle.dj_class.specs.ClassFile.{ClassFile, AttributeInfo, MemberInfo, attribute_bytes, member_bytes, header_bytes, class_bytes, IsField, IsMethod, AreAttributes, IsValid, IsClassFile}
+use Rattle.dj_class.specs.trusted.ClassFile.{ClassFile, AttributeInfo, MemberInfo, attribute_bytes, member_bytes, header_bytes, class_bytes, IsField, IsMethod, AreAttributes, IsValid, IsClassFile}
 use Rattle.dj_class.specs.Reading.{attribute_at, member_at, header_at, Heading, heading_at, class_file_of}
 use Rattle.dj_class.proofs.PartLaws.{AreVersions, attributes_read, attributes_refuse, member_reads, member_refuses, header_reads, header_refuses_then, heading_bytes, IsHeading, heading_reads, heading_refuses_then}
 

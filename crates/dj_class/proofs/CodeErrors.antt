@@ -1,14 +1,14 @@
 -- Which errors reading the body of a Code attribute has: what is cut, a code's length, and what follows the last item.
 use Rattle.std.proofs.Common.{◌≡◌, ℕ, List, Err, length, sym, subst, inl, inr}
 use Rattle.std.specs.Prelude.{⊤}
-use Rattle.dj_bytes.specs.Spelling.{u2, u4, table_bytes}
+use Rattle.dj_bytes.specs.trusted.Spelling.{u2, u4, table_bytes}
 use Rattle.dj_bytes.specs.Reading.{Cursor, start_of}
 use Rattle.dj_bytes.specs.Faults.{IsCut, IsAmong, InTurn, InTable, IsLeft, Fits2, Fits4, AreFew}
 use Rattle.dj_pool.specs.declared.pool.PoolError.{PoolError}
 use Rattle.dj_class.specs.declared.class.ClassError.{ClassError}
 use Rattle.dj_class.specs.declared.class.ClassError.TheVariants as errors
-use Rattle.dj_class.specs.ClassFile.{attribute_bytes}
-use Rattle.dj_class.specs.Code.{row_bytes, IsRow, IsCodeAttribute}
+use Rattle.dj_class.specs.trusted.ClassFile.{attribute_bytes}
+use Rattle.dj_class.specs.trusted.Code.{row_bytes, IsRow, IsCodeAttribute}
 use Rattle.dj_class.specs.Faults.{Fault, Cut2, Cut4}
 use Rattle.dj_class.specs.CodeFaults.{IsCodeLength, LengthFault, RowFault, CodeAttributeFault, BodyFault}
 use Rattle.dj_class.specs.CodeViews.{ReadsCode}
@@ -19,7 +19,7 @@ IsCodeError (errors.Index place) = ⊤
 IsCodeError (errors.Trailing place) = ⊤
 IsCodeError _ = ⊥
 
--- the fault tells such an error
+-- the fault reports such an error
 abbrev Tells : Fault → Type 0
 Tells F = (c : Cursor) (e : ClassError) → F c e → IsCodeError e
 

@@ -5,7 +5,7 @@ use Rattle.dj_pool.proofs.AnswerFacts.{are_bytes}
 use Rattle.dj_class.specs.declared.class.ClassError.{ClassError}
 use Rattle.dj_class.specs.declared.class.ClassError.TheVariants as errors
 use Rattle.dj_class.specs.declared.code.CodeView.{CodeView}
-use Rattle.dj_class.specs.Code.{CodeInfo, code_info_bytes, IsCode}
+use Rattle.dj_class.specs.trusted.Code.{CodeInfo, code_info_bytes, IsCode}
 use Rattle.dj_class.specs.CodeViews.{code_of, ReadsCode}
 use Rattle.dj_class.specs.CodeReading.{code_length_at, code_front_at, row_at, code_attribute_at, code_read}
 use Rattle.dj_class.proofs.CodeLaws.{reads_code, one_code, one_code_fault, faulty_is_no_code}
@@ -141,7 +141,7 @@ body-shown view h =
 other_stack-shown_not : (view : CodeView) → view.max_stack ≡ 3 → ReadsCode bytes (Ok view) → ⊥
 other_stack-shown_not view stack h = omega (arith, stack, (body-shown view h).max_stack)
 
--- nothing is told to be wrong with it but that memory ran out
+-- nothing is reported to be wrong with it but that memory ran out
 body-refused : (e : ClassError) → ReadsCode bytes (Err e) → e ≡ errors.Memory
 body-refused errors.Memory h = refl
 body-refused errors.Magic h = absurd (faulty_is_no_code bytes errors.Magic h body body-is)
@@ -153,7 +153,7 @@ body-refused (errors.Trailing place) h = absurd (faulty_is_no_code bytes (errors
 body-cut_not : ReadsCode bytes (Err (errors.Cut 43)) → ⊥
 body-cut_not h = let told = body-refused (errors.Cut 43) h in absurd cc
 
--- the place that an error tells
+-- the place that an error has
 place_of : ClassError → ℕ
 place_of (errors.Cut place) = place
 place_of (errors.Index place) = place

@@ -3,7 +3,7 @@ use Rattle.std.proofs.Common.{◌≡◌, ℕ, ◌^◌, ◌<◌, ◌&&◌, true, 
 use Rattle.std.proofs.lemmas.Bool.{eqb-true}
 use Rattle.std.proofs.lemmas.Bool.Decides.{nat_tests}
 use Rattle.std.proofs.lemmas.List.{nil_from_length}
-use Rattle.dj_bytes.specs.Spelling.{u2, u4, table_bytes}
+use Rattle.dj_bytes.specs.trusted.Spelling.{u2, u4, table_bytes}
 use Rattle.dj_bytes.specs.Steps.{◌>>=◌, Gives}
 use Rattle.dj_bytes.specs.Reading.{Cursor, start_of, at_end, block_at, u2_at, table_at}
 use Rattle.dj_bytes.proofs.Bytes.{IsBytes}
@@ -18,8 +18,8 @@ use Rattle.dj_pool.specs.declared.pool.PoolError.TheVariants as pool_errors
 use Rattle.dj_class.specs.declared.class.ClassError.{ClassError}
 use Rattle.dj_class.specs.declared.class.ClassError.TheVariants as class_errors
 use Rattle.dj_class.specs.declared.code.CodeView.{CodeView}
-use Rattle.dj_class.specs.ClassFile.{AttributeInfo, attribute_bytes}
-use Rattle.dj_class.specs.Code.{CodeInfo, row_bytes, code_info_bytes, IsRow, IsCodeAttribute, IsCode}
+use Rattle.dj_class.specs.trusted.ClassFile.{AttributeInfo, attribute_bytes}
+use Rattle.dj_class.specs.trusted.Code.{CodeInfo, row_bytes, code_info_bytes, IsRow, IsCodeAttribute, IsCode}
 use Rattle.dj_class.specs.Faults.{Fault, Cut2}
 use Rattle.dj_class.specs.CodeFaults.{IsCodeLength, LengthFault, RowFault, CodeAttributeFault, BodyFault, IsCodeFault}
 use Rattle.dj_class.specs.CodeViews.{code_of, ReadsCode}

@@ -2,18 +2,19 @@
 use Rattle.std.proofs.Common.{◌≡◌, ◌≢◌, ℕ, ◌+◌, true, false, List, [], ◌∷◌, ◌++◌, length, map, take, drop, Result, Ok, Err, refl, arith, inl, inr}
 use Rattle.std.specs.Prelude.{codes}
 use Rattle.dj_bytes.specs.Reading.{many_at, table_at}
-use Rattle.dj_names.specs.NameReading.{reads_class_name}
-use Rattle.dj_names.specs.DescReading.{dims_read, name_read, class_read, of_read, type_read, params_read, field_read, return_read, method_read}
-use Rattle.dj_names.specs.UnitReading.{unit_read, long_read, two_read, three_read}
-use Rattle.dj_names.specs.Tests.{unqualified_name_test, method_name_test, class_name_test, units_read, modified_utf8_test, field_descriptor_test, method_descriptor_test, array_descriptor_test}
+use Rattle.dj_names.specs.trusted.NameReading.{reads_class_name}
+use Rattle.dj_names.specs.trusted.DescReading.{dims_read, name_read, class_read, of_read, type_read, params_read, field_read, return_read, method_read}
+use Rattle.dj_names.specs.trusted.UnitReading.{unit_read, long_read, two_read, three_read}
+use Rattle.dj_names.specs.trusted.Tests.{units_read}
+use Rattle.dj_names.specs.Tests.{unqualified_name_test, method_name_test, class_name_test, modified_utf8_test, field_descriptor_test, method_descriptor_test, array_descriptor_test}
 use Rattle.dj_pool.specs.declared.pool.PoolError.TheVariants as pool_errors
-use Rattle.dj_pool.specs.Pool.{Utf8, Class}
+use Rattle.dj_pool.specs.trusted.Pool.{Utf8, Class}
 use Rattle.dj_pool.specs.Reading.{utf8_at, number4_at, number8_at, named_at, paired_at, handle_at, untagged_at, constant_at_cursor, slot_at, slots_at, first_unlinked, linked_slots_at, pool_at}
 use Rattle.dj_pool.proofs.Decides.{tests_decide}
 use Rattle.dj_class.specs.declared.class.ClassError.{ClassError}
 use Rattle.dj_class.specs.declared.class.ClassError.TheVariants as errors
-use Rattle.dj_class.specs.ClassFile.{ClassFile, class_bytes}
-use Rattle.dj_class.specs.Code.{CodeInfo, row_bytes, code_info_bytes, IsCode}
+use Rattle.dj_class.specs.trusted.ClassFile.{ClassFile, class_bytes}
+use Rattle.dj_class.specs.trusted.Code.{CodeInfo, row_bytes, code_info_bytes, IsCode}
 use Rattle.dj_class.specs.Faults.{IsFault}
 use Rattle.dj_class.specs.CodeFaults.{IsCodeLength, IsCodeFault}
 use Rattle.dj_class.specs.Access.{access_table}

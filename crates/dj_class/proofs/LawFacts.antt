@@ -1,12 +1,12 @@
 -- What the laws say at plain values.
 use Rattle.std.proofs.Common.{◌≡◌, ℕ, List, [], ◌∷◌, ◌++◌, Some, None, refl, sym, subst, arith, inl, inr}
 use Rattle.std.specs.Prelude.{codes}
-use Rattle.dj_pool.specs.Pool.{text_at}
+use Rattle.dj_pool.specs.trusted.Pool.{text_at}
 use Rattle.dj_pool.proofs.AnswerFacts.{are_bytes}
 use Rattle.dj_class.specs.declared.class.ClassError.{ClassError}
 use Rattle.dj_class.specs.declared.class.ClassError.TheVariants as errors
-use Rattle.dj_class.specs.ClassFile.{ClassFile, IsClassFile, IsMalformed}
-use Rattle.dj_class.specs.Code.{CodeInfo, IsCode}
+use Rattle.dj_class.specs.trusted.ClassFile.{ClassFile, IsClassFile, IsMalformed}
+use Rattle.dj_class.specs.trusted.Code.{CodeInfo, IsCode}
 use Rattle.dj_class.specs.Faults.{IsFault}
 use Rattle.dj_class.specs.CodeFaults.{IsCodeFault}
 use Rattle.dj_class.specs.Laws.{AreBytes, OneClassFile, OneFault, FaultyIsMalformed, ClassOrFault, IsOne, IsFaulty, EachClassOrFault, OneCode, OneCodeFault, FaultyIsNoCode, CodeOrFault, IsOneCode, IsFaultyCode, EachCodeOrFault, HasText, ClassHasTexts}
@@ -39,7 +39,7 @@ no_code-says law = law (bytes ++ 0 ∷ []) (errors.Trailing 45) trailing-told
 
 -- ---- one of two
 
--- a class file is one, and no fault is told of it
+-- a class file is one, and no fault is reported of it
 file-or-fault : FaultyIsMalformed → ClassOrFault bytes_a → (c : ClassFile) × IsClassFile bytes_a c
 file-or-fault law (IsOne c is) = (c, is)
 file-or-fault law (IsFaulty e fault) = absurd (law bytes_a e fault class_a class_a-is)

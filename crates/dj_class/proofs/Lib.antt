@@ -9,3 +9,4 @@ mod CodeErrors
 mod CodeFacts
 mod LawFacts
 pub mod AnswerFacts
+mod CodeFieldFacts

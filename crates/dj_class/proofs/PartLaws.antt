@@ -5,7 +5,7 @@ use Rattle.std.specs.Prelude.{⊤}
 use Rattle.std.proofs.lemmas.Bool.{eqb-true, eq-eqb, or_cases}
 use Rattle.std.proofs.lemmas.Option.{slice_get_within}
 use Rattle.std.proofs.Math.Bool.{or-true}
-use Rattle.dj_bytes.specs.Spelling.{u2, u4, table_bytes}
+use Rattle.dj_bytes.specs.trusted.Spelling.{u2, u4, table_bytes}
 use Rattle.dj_bytes.specs.Steps.{◌>>=◌}
 use Rattle.dj_bytes.specs.Reading.{Cursor, u2_at, table_at}
 use Rattle.dj_bytes.proofs.Bytes.{IsBytes}
@@ -16,13 +16,13 @@ use Rattle.dj_bytes.proofs.Spans.{Reads-good, Spans, Spans-then, Reads, step_tak
 use Rattle.dj_bytes.proofs.Numbers.{u2_reads, u4_reads, block_reads}
 use Rattle.dj_bytes.proofs.FaultLaws.{Refuses, Refuses-same, u2_refuses, u4_refuses, block_refuses, refuses_then, refuses_last, table_refuses, guard_refuses}
 use Rattle.dj_names.specs.Tests.{class_name_test}
-use Rattle.dj_names.specs.Names.{IsClassName}
-use Rattle.dj_pool.specs.Pool.{Constant, constant_at, text_at, text_of, class_text_of, class_name_at, NamesText, IsPool}
+use Rattle.dj_names.specs.trusted.Names.{IsClassName}
+use Rattle.dj_pool.specs.trusted.Pool.{Constant, constant_at, text_at, text_of, class_text_of, class_name_at, NamesText, IsPool}
 use Rattle.dj_pool.specs.Tests.{text_passes, is_class}
 use Rattle.dj_pool.proofs.Decides.{DecidesText, TestsDecide, passes_takes, passes_again, any_text}
 use Rattle.dj_class.specs.declared.class.ClassError.{ClassError}
 use Rattle.dj_class.specs.declared.class.ClassError.TheVariants as class_errors
-use Rattle.dj_class.specs.ClassFile.{AttributeInfo, MemberInfo, attribute_bytes, member_bytes, header_bytes, NamesClass, IsAttribute, AreAttributes, IsMember}
+use Rattle.dj_class.specs.trusted.ClassFile.{AttributeInfo, MemberInfo, attribute_bytes, member_bytes, header_bytes, NamesClass, IsAttribute, AreAttributes, IsMember}
 use Rattle.dj_class.specs.Faults.{Fault, Cut2, IndexFault, AttributeFault, AttributesFault, MemberFault, MagicFault, NamesSuper, InterfacesFault}
 use Rattle.dj_class.specs.Reading.{index_at, is_super, attribute_at, member_at, magic_at, header_at, Heading, heading_at}
 

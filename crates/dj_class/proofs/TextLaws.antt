@@ -3,10 +3,10 @@ use Rattle.std.proofs.Common.{◌≡◌, ℕ, ◌⊎◌, List, [], ◌∷◌, Al
 use Rattle.std.specs.Prelude.{⊤}
 use Rattle.std.specs.List.{AllByRecursion}
 use Rattle.std.proofs.lemmas.List.Elements.{All-from_recursion}
-use Rattle.dj_names.specs.Names.{IsUnqualifiedName, IsMethodName, IsClassName}
-use Rattle.dj_names.specs.Descriptors.{IsFieldDescriptor, IsMethodDescriptor}
-use Rattle.dj_pool.specs.Pool.{Constant, text_at, class_name_at}
-use Rattle.dj_class.specs.ClassFile.{AttributeInfo, MemberInfo, NamesClass, IsAttribute, AreAttributes, IsMember, IsField, IsMethod}
+use Rattle.dj_names.specs.trusted.Names.{IsUnqualifiedName, IsMethodName, IsClassName}
+use Rattle.dj_names.specs.trusted.Descriptors.{IsFieldDescriptor, IsMethodDescriptor}
+use Rattle.dj_pool.specs.trusted.Pool.{Constant, text_at, class_name_at}
+use Rattle.dj_class.specs.trusted.ClassFile.{AttributeInfo, MemberInfo, NamesClass, IsAttribute, AreAttributes, IsMember, IsField, IsMethod}
 use Rattle.dj_class.specs.Laws.{HasText, AttributesHaveTexts, MemberHasTexts, ValidHasTexts}
 
 pub has_text : (o : Option (List ℕ)) (P : List ℕ → Type 0) → IsSomeAnd o P → HasText o P

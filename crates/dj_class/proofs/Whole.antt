@@ -6,9 +6,9 @@ use Rattle.dj_bytes.proofs.Steps.{fails_then}
 use Rattle.dj_names.specs.Tests.{unqualified_name_test, method_name_test, field_descriptor_test, method_descriptor_test}
 use Rattle.dj_class.specs.declared.class.ClassError.{ClassError}
 use Rattle.dj_class.specs.declared.class.ClassError.TheVariants as class_errors
-use Rattle.dj_pool.specs.Pool.{Constant}
+use Rattle.dj_pool.specs.trusted.Pool.{Constant}
 use Rattle.dj_pool.specs.Reading.{pool_at}
-use Rattle.dj_class.specs.ClassFile.{AttributeInfo, MemberInfo, ClassFile}
+use Rattle.dj_class.specs.trusted.ClassFile.{AttributeInfo, MemberInfo, ClassFile}
 use Rattle.dj_class.specs.Reading.{Heading, attribute_at, member_at, header_at, heading_at, class_file_of}
 use Rattle.dj_class.specs.Memory.{is_memory}
 

@@ -1,6 +1,6 @@
--- Access flags (JVMS tables 4.1-B of classes, 4.5-A of fields, 4.6-A of methods): which bit of the flags each is. A bit may be one flag of a class or a
--- field, and another of a method.
+-- Access flags that no clause of the call `djvm` reaches (JVMS tables 4.1-B, 4.5-A and 4.6-A); the others are in trusted/Access.antt.
 use Rattle.std.specs.Prelude.{ℕ, ◌^◌, List, [], ◌∷◌, codes}
+use Rattle.dj_class.specs.trusted.Access.{static, final, native, interface, abstract}
 
 abbrev pub public : ℕ
 public = 0
@@ -10,12 +10,6 @@ private = 1
 
 abbrev pub protected : ℕ
 protected = 2
-
-abbrev pub static : ℕ
-static = 3
-
-abbrev pub final : ℕ
-final = 4
 
 -- of a class
 abbrev pub super : ℕ
@@ -40,18 +34,6 @@ transient = 7
 -- of a method
 abbrev pub varargs : ℕ
 varargs = 7
-
--- of a method
-abbrev pub native : ℕ
-native = 8
-
--- of a class
-abbrev pub interface : ℕ
-interface = 9
-
--- of a class or a method
-abbrev pub abstract : ℕ
-abstract = 10
 
 -- of a method
 abbrev pub strict : ℕ

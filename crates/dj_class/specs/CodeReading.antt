@@ -5,8 +5,8 @@ use Rattle.dj_bytes.specs.Reading.{Cursor, start_of, at_end, block_at, u2_at, u4
 use Rattle.dj_ops.specs.declared.rows.CatchRow.{CatchRow}
 use Rattle.dj_class.specs.declared.class.ClassError.{ClassError}
 use Rattle.dj_class.specs.declared.class.ClassError.TheVariants as class_errors
-use Rattle.dj_class.specs.ClassFile.{AttributeInfo}
-use Rattle.dj_class.specs.Code.{CodeInfo}
+use Rattle.dj_class.specs.trusted.ClassFile.{AttributeInfo}
+use Rattle.dj_class.specs.trusted.Code.{CodeInfo}
 
 -- a length that code may have
 unfoldable pub code_length_at : Cursor → Result (ℕ × Cursor) ClassError
@@ -14,7 +14,7 @@ code_length_at c = do
   len ← u4_at class_errors.Cut c
   if nat_lt 0 len.0 && nat_lt len.0 65536 then Ok len else Err (class_errors.Index c.place)
 
--- what stands before the exception table: max_stack, max_locals and the code
+-- what comes before the exception table: max_stack, max_locals and the code
 unfoldable pub code_front_at : Cursor → Result ((ℕ × ℕ × List ℕ) × Cursor) ClassError
 code_front_at c = do
   max_stack ← u2_at class_errors.Cut c

@@ -1,17 +1,17 @@
 -- Where no class file is: the first fault, in the order in which a class file is read.
 use Rattle.std.specs.Prelude.{◌≡◌, ℕ, ◌⊎◌, ⊤, List}
-use Rattle.dj_bytes.specs.Spelling.{u2, u4, table_bytes}
+use Rattle.dj_bytes.specs.trusted.Spelling.{u2, u4, table_bytes}
 use Rattle.dj_bytes.specs.Reading.{Cursor, start_of}
 use Rattle.dj_bytes.specs.Faults.{IsCut, IsDenied, InTurn, InTable, IsLifted, IsLeft, Fits2, Fits4, AreFew}
-use Rattle.dj_names.specs.Names.{IsUnqualifiedName, IsMethodName}
-use Rattle.dj_names.specs.Descriptors.{IsFieldDescriptor, IsMethodDescriptor}
-use Rattle.dj_pool.specs.Pool.{Constant, pool_bytes, NamesText, IsPool}
+use Rattle.dj_names.specs.trusted.Names.{IsUnqualifiedName, IsMethodName}
+use Rattle.dj_names.specs.trusted.Descriptors.{IsFieldDescriptor, IsMethodDescriptor}
+use Rattle.dj_pool.specs.trusted.Pool.{Constant, pool_bytes, NamesText, IsPool}
 use Rattle.dj_pool.specs.Faults.{PoolFault}
 use Rattle.dj_class.specs.declared.class.ClassError.{ClassError}
 use Rattle.dj_class.specs.declared.class.ClassError.TheVariants as errors
-use Rattle.dj_class.specs.ClassFile.{attribute_bytes, member_bytes, NamesClass, AreAttributes, IsAttribute, IsField, IsMethod}
+use Rattle.dj_class.specs.trusted.ClassFile.{attribute_bytes, member_bytes, NamesClass, AreAttributes, IsAttribute, IsField, IsMethod}
 
--- what may be wrong where a reader stands
+-- what may be wrong where a reader is
 abbrev pub Fault : Type 1
 Fault = Cursor → ClassError → Type 0
 

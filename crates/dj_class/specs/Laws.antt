@@ -1,11 +1,11 @@
 -- Laws of class files that hold whatever is read: what bytes can be, and which texts a valid class file has.
 use Rattle.std.specs.Prelude.{◌≡◌, ℕ, ◌<◌, ◌⊎◌, ⊤, List, All, Option, Some, get_or}
-use Rattle.dj_names.specs.Names.{IsUnqualifiedName, IsMethodName, IsClassName}
-use Rattle.dj_names.specs.Descriptors.{IsFieldDescriptor, IsMethodDescriptor}
-use Rattle.dj_pool.specs.Pool.{Constant, text_at, class_name_at}
+use Rattle.dj_names.specs.trusted.Names.{IsUnqualifiedName, IsMethodName, IsClassName}
+use Rattle.dj_names.specs.trusted.Descriptors.{IsFieldDescriptor, IsMethodDescriptor}
+use Rattle.dj_pool.specs.trusted.Pool.{Constant, text_at, class_name_at}
 use Rattle.dj_class.specs.declared.class.ClassError.{ClassError}
-use Rattle.dj_class.specs.ClassFile.{AttributeInfo, MemberInfo, ClassFile, IsValid, IsClassFile, IsMalformed}
-use Rattle.dj_class.specs.Code.{CodeInfo, IsCode}
+use Rattle.dj_class.specs.trusted.ClassFile.{AttributeInfo, MemberInfo, ClassFile, IsValid, IsClassFile, IsMalformed}
+use Rattle.dj_class.specs.trusted.Code.{CodeInfo, IsCode}
 use Rattle.dj_class.specs.Faults.{IsFault}
 use Rattle.dj_class.specs.CodeFaults.{IsCodeFault}
 

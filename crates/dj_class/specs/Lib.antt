@@ -1,5 +1,3 @@
-pub mod ClassFile
-pub mod Code
 pub mod Faults
 pub mod CodeFaults
 pub mod Access
@@ -12,3 +10,4 @@ pub mod Reading
 pub mod CodeReading
 pub mod Memory
 pub mod Tests
+pub mod trusted

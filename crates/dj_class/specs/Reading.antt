@@ -3,12 +3,12 @@ use Rattle.std.specs.Prelude.{ℕ, ◌==◌, ◌||◌, Bool, List, Result, Ok, E
 use Rattle.dj_bytes.specs.Steps.{◌>>=◌, lifted}
 use Rattle.dj_bytes.specs.Reading.{Cursor, start_of, at_end, block_at, u2_at, u4_at, table_at}
 use Rattle.dj_names.specs.Tests.{unqualified_name_test, method_name_test, field_descriptor_test, method_descriptor_test}
-use Rattle.dj_pool.specs.Pool.{Constant}
+use Rattle.dj_pool.specs.trusted.Pool.{Constant}
 use Rattle.dj_pool.specs.Tests.{text_passes, is_text, is_class}
 use Rattle.dj_pool.specs.Reading.{pool_at}
 use Rattle.dj_class.specs.declared.class.ClassError.{ClassError}
 use Rattle.dj_class.specs.declared.class.ClassError.TheVariants as class_errors
-use Rattle.dj_class.specs.ClassFile.{AttributeInfo, MemberInfo, ClassFile}
+use Rattle.dj_class.specs.trusted.ClassFile.{AttributeInfo, MemberInfo, ClassFile}
 
 -- an index that the test passes
 unfoldable pub index_at : (ℕ → Bool) → Cursor → Result (ℕ × Cursor) ClassError

@@ -4,7 +4,7 @@ use Rattle.dj_pool.specs.declared.pool.PoolError.TheVariants as pool_errors
 use Rattle.dj_class.specs.declared.class.ClassError.{ClassError}
 use Rattle.dj_class.specs.declared.class.ClassError.TheVariants as class_errors
 use Rattle.dj_class.specs.declared.class.ClassView.{ClassView}
-use Rattle.dj_class.specs.ClassFile.{ClassFile, IsClassFile}
+use Rattle.dj_class.specs.trusted.ClassFile.{ClassFile, IsClassFile}
 use Rattle.dj_class.specs.Faults.{IsFault}
 
 abbrev pub class_of : ClassView → ClassFile
@@ -21,7 +21,7 @@ class_of c = record {
   attributes = c.attributes;
 }
 
--- a class file is read, or its first fault is told, or memory ran out
+-- a class file is read, or its first fault is reported, or memory ran out
 abbrev pub ReadsClass : List ℕ → Result ClassView ClassError → Type 0
 ReadsClass bytes (Ok view) = IsClassFile bytes (class_of view)
 ReadsClass bytes (Err (class_errors.Pool pool_errors.Memory)) = ⊤

@@ -1,6 +1,6 @@
 ghost use Rattle.std.specs.Prelude.{⊤, ◌≡◌, ◌↔◌, IsTrue};
 ghost use Rattle.std.specs.Int.{IsBitSet};
-ghost use Rattle.dj_class.specs.Access as access;
+ghost use Rattle.dj_class.specs.trusted.Access as access;
 
 use crate::class::{ClassView, MemberView};
 use bitflags::{Flag, Flags, bitflag_items};

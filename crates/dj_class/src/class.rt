@@ -30,10 +30,10 @@ pub enum ClassError {
     /// The constant pool was not read.
     #[error("the constant pool was not read: {0}")]
     Pool(PoolError),
-    /// The index at this place names no constant that its place asks for, or the code's length at this place is none that code may have.
+    /// The index at this place doesn't name what its place requires, or the code's length at this place is none that code may have.
     #[error("the index at {0} names no constant that its place asks for, or the length at {0} is none that code may have")]
     Index(u32),
-    /// At this place begin bytes after the last item.
+    /// There are more bytes after the last item, from this place on.
     #[error("at {0} begin bytes after the last item")]
     Trailing(u32),
     /// There was no memory.
@@ -107,7 +107,7 @@ pub struct ClassView<'a> {
     pub attributes: Attributes<'a>,
 }
 
-// What a text is to be.
+// What a text has to be.
 #[derive(Clone, Copy, Debug)]
 enum TextTest {
     Any,
@@ -117,7 +117,7 @@ enum TextTest {
     MethodDescriptor,
 }
 
-// What stands between the pool and the fields.
+// What comes between the pool and the fields.
 #[derive(Debug, Drop)]
 struct Opening {
     flags: u16,
@@ -198,7 +198,7 @@ fn read_attribute<'a>(
     Ok((Attribute { name, body }, after))
 }
 
-// As many parts as the count tells, and no more than the bytes that are left can hold, each of them so many bytes at least.
+// As many parts as the count says, but at most as many as the bytes that are left can hold, where each part has at least this many bytes.
 pub(crate) fn room(count: u16, cursor: Cursor<'_>, least: usize) -> usize
     requires { 0 < least }
     ensures { result ≤ count }
@@ -425,9 +425,9 @@ fn read_all<'a>(alloc: Global, file: &'a [u8]) -> Result<ClassView<'a>, ClassErr
     })
 }
 
-/// The class file that the bytes are, all of them (JVMS 4.1 to 4.7). What it shows of texts and bodies is lent from the bytes.
+/// The class file that the bytes are, all of them (JVMS 4.1 to 4.7). What it shows of texts and bodies is borrowed from the bytes.
 ///
-/// Each error but want of memory tells the first item, in the order of reading, that is cut, that its place does not allow, or that
+/// Each error but want of memory names the first item, in the order of reading, that is cut, that its place does not allow, or that
 /// follows the last item. An index is faulty where the pool has no such constant: the class and the interfaces, and the superclass
 /// where it is not 0, are classes that are no arrays; names are unqualified, those of methods without `<` and `>` but for `<init>` and
 /// `<clinit>`; descriptors are of their kind; names of attributes are texts.

@@ -11,7 +11,7 @@ ghost use Rattle.dj_class.specs.declared.class.ClassError.TheVariants as class_e
 use crate::class::{Attribute, ClassError, room};
 use crate::lists::Attributes;
 use dj_bytes::Cursor;
-use dj_ops::{CatchRow, Rows};
+use dj_ops::{CatchRow, CatchRows};
 use std::alloc::Global;
 
 /// The body of a Code attribute (JVMS 4.7.3), whose code and bodies are parts of it.
@@ -20,7 +20,7 @@ pub struct CodeView<'a> {
     pub max_stack: u16,
     pub max_locals: u16,
     pub code: &'a [u8],
-    pub table: Rows,
+    pub table: CatchRows,
     pub attributes: Attributes<'a>,
 }
 
@@ -86,13 +86,13 @@ fn read_row_list<'a>(
 }
 
 #[tactic(auto, unfolding(dj_bytes::specs::Reading::table_at))]
-fn read_rows<'a>(alloc: Global, cursor: Cursor<'a>) -> Result<(Rows, Cursor<'a>), ClassError>
+fn read_rows<'a>(alloc: Global, cursor: Cursor<'a>) -> Result<(CatchRows, Cursor<'a>), ClassError>
     ensures { Gives code_is_memory (λ x. (x.0, cursor_of x.1)) result
         (table_at class_errors.Cut row_at (cursor_of cursor.entry)) }
 {
     let (count, after) = cursor.u16_at()?;
     let (rows, after) = read_row_list(alloc, count, after)?;
-    Ok((Rows::from_vec(rows), after))
+    Ok((CatchRows::from_vec(rows), after))
 }
 
 #[tactic(auto, unfolding(crate::specs::CodeReading::code_attribute_at))]
@@ -160,7 +160,7 @@ fn read_whole_code<'a>(alloc: Global, body: &'a [u8]) -> Result<CodeView<'a>, Cl
 
 /// The Code attribute (JVMS 4.7.3) that the body is, all of it. Places are within the body. Names of attributes are not looked up.
 ///
-/// Each error but want of memory tells the first item, in the order of reading, that is cut, that its place does not allow, or that
+/// Each error but want of memory names the first item, in the order of reading, that is cut, that its place does not allow, or that
 /// follows the last item: `Index` is the place of a code length that is 0 or above 65,535.
 pub fn read_code<'a>(alloc: Global, body: &'a [u8]) -> Result<CodeView<'a>, ClassError>
     requires { length body.now < 2 ^ 32 }

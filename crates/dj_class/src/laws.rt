@@ -1,11 +1,11 @@
 ghost use Rattle.dj_class.specs.Laws.{OneClassFile, OneFault, FaultyIsMalformed, EachClassOrFault, OneCode, OneCodeFault, FaultyIsNoCode, EachCodeOrFault, ValidHasTexts};
 
-/// Bytes are one class file at most.
+/// Bytes are at most one class file.
 pub fn one_class_file()
     ensures { OneClassFile }
 {}
 
-/// Bytes have one first fault at most.
+/// Bytes have at most one first fault.
 pub fn one_fault()
     ensures { OneFault }
 {}
@@ -20,12 +20,12 @@ pub fn class_or_fault()
     ensures { EachClassOrFault }
 {}
 
-/// A body is one Code attribute's at most.
+/// A body is at most one Code attribute's.
 pub fn one_code()
     ensures { OneCode }
 {}
 
-/// A body has one first fault at most.
+/// A body has at most one first fault.
 pub fn one_code_fault()
     ensures { OneCodeFault }
 {}

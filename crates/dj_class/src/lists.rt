@@ -42,7 +42,7 @@ pub struct Attributes<'a> {
 
 impl<'a> Model for Attributes<'a> {
     ghost use Rattle.std.specs.Prelude.{List, map};
-    ghost use Rattle.dj_class.specs.ClassFile.{AttributeInfo};
+    ghost use Rattle.dj_class.specs.trusted.ClassFile.{AttributeInfo};
     ghost use Rattle.dj_class.specs.Parts.{attribute_of};
 
     ghost Value = { List AttributeInfo };
@@ -65,10 +65,7 @@ impl<'a> Attributes<'a> {
         ensures ok { OnOk result (self.new ≡ self.old ++ attribute_of item.entry ∷ []) }
         ensures err { OnErr result (self.new ≡ self.old) }
     {
-        match self.items.push(item) {
-            Ok(()) => Ok(()),
-            Err(_) => Err(NoMemory::Memory),
-        }
+        Ok(self.items.push(item)?)
     }
 
     pub(crate) fn from_vec(items: Vec<Attribute<'a>>) -> Attributes<'a>
@@ -77,7 +74,7 @@ impl<'a> Attributes<'a> {
         Attributes { items }
     }
 
-    /// The attributes, lent.
+    /// The attributes, borrowed.
     pub fn as_slice(&self) -> &[Attribute<'a>]
         ensures { map attribute_of result.now ≡ self.now }
     {
@@ -93,7 +90,7 @@ pub struct Members<'a> {
 
 impl<'a> Model for Members<'a> {
     ghost use Rattle.std.specs.Prelude.{List, map};
-    ghost use Rattle.dj_class.specs.ClassFile.{MemberInfo};
+    ghost use Rattle.dj_class.specs.trusted.ClassFile.{MemberInfo};
     ghost use Rattle.dj_class.specs.Members.{member_of};
 
     ghost Value = { List MemberInfo };
@@ -116,10 +113,7 @@ impl<'a> Members<'a> {
         ensures ok { OnOk result (self.new ≡ self.old ++ member_of item.entry ∷ []) }
         ensures err { OnErr result (self.new ≡ self.old) }
     {
-        match self.items.push(item) {
-            Ok(()) => Ok(()),
-            Err(_) => Err(NoMemory::Memory),
-        }
+        Ok(self.items.push(item)?)
     }
 
     pub(crate) fn from_vec(items: Vec<MemberView<'a>>) -> Members<'a>
@@ -128,7 +122,7 @@ impl<'a> Members<'a> {
         Members { items }
     }
 
-    /// The members, lent.
+    /// The members, borrowed.
     pub fn as_slice(&self) -> &[MemberView<'a>]
         ensures { map member_of result.now ≡ self.now }
     {

@@ -12,7 +12,7 @@ const A: &[u8] =
 const RICH: &[u8] =
     b"\xca\xfe\xba\xbe\0\x03\03\0\x1c\x01\0\x04Rich\x07\0\x01\x05\0\0\x01\0\0\0\0\0\x06\0\0\0\0\0\0\0\x05\x01\0\x01I\x07\0\x07\x01\0\x0dConstantValue\x01\0\x0aDeprecated\x01\0\x01f\x01\0\x01J\x01\0\x01g\x01\0\x05[[La;\x01\0\x0aExceptions\x01\0\x0fLineNumberTable\x01\0\x0dStackMapTable\x01\0\x04Code\x01\0\x09Signature\x01\0\x01m\x01\0\x04(J)V\x01\0\x08<clinit>\x01\0\x03()V\x01\0\x0aSourceFile\x01\0\0\x01\0\x10java/lang/Object\x07\0\x1a\x04!\0\x02\0\x1b\0\x02\0\x08\0\x08\0\x02\0\x19\0\x0b\0\x0c\0\x02\0\x09\0\0\0\x02\0\x03\0\x0a\0\0\0\0\0\0\0\x0d\0\x0e\0\0\0\x02\0\x09\0\x14\0\x15\0\x03\0\x0f\0\0\0\x04\0\x01\0\x08\0\x12\0\0\0'\0\x02\0\x02\0\0\0\x03\x1eX\xb1\0\x01\0\0\0\x01\0\x02\0\0\0\x02\0\x10\0\0\0\x02\0\0\0\x11\0\0\0\x02\0\0\0\x13\0\0\0\x02\0\x01\x04\x01\0\x16\0\x17\0\0\0\x03\0\x18\0\0\0\x02\0\x01\0\x19\0\0\0\x03xyz\0\x18\0\0\0\0";
 
-// Its first bytes, from so many to fewer than so many, and what is refused then.
+// Its first bytes, from this many to fewer than this many, and what is refused then.
 const CUTS_OF_A: [(usize, usize, ClassError); 37] = [
     (0, 4, ClassError::Cut(0)),
     (4, 6, ClassError::Cut(4)),

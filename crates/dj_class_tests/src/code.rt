@@ -5,7 +5,7 @@ use std::alloc::Global;
 const WHOLE: &[u8] =
     b"\0\x02\0\x03\0\0\0\x02*\xb0\0\x02\0\0\0\x01\0\x01\0\0\0\0\0\x02\0\0\0\x07\0\x02\0\x09\0\0\0\x02ab\0\0\0\0\0\0";
 
-// Its first bytes, from so many to fewer than so many, and what is refused then.
+// Its first bytes, from this many to fewer than this many, and what is refused then.
 const CUTS: [(usize, usize, ClassError); 19] = [
     (0, 2, ClassError::Cut(0)),
     (2, 4, ClassError::Cut(2)),

@@ -1,7 +1,7 @@
 ghost use Rattle.std.specs.Prelude.{◌≡◌, IsTrue};
-ghost use Rattle.dj_names.specs.Names.{IsUnqualifiedName, IsMethodName};
-ghost use Rattle.dj_names.specs.Descriptors.{IsFieldDescriptor, IsMethodDescriptor};
-ghost use Rattle.dj_pool.specs.Pool.{IsClassText, NamesText, NamesAnyClass, NamesMember, NamesDesc, AreNames, IsWhole, IsLinked, IsConstant};
+ghost use Rattle.dj_names.specs.trusted.Names.{IsUnqualifiedName, IsMethodName};
+ghost use Rattle.dj_names.specs.trusted.Descriptors.{IsFieldDescriptor, IsMethodDescriptor};
+ghost use Rattle.dj_pool.specs.trusted.Pool.{IsClassText, NamesText, NamesAnyClass, NamesMember, NamesDesc, AreNames, IsWhole, IsLinked, IsConstant};
 ghost use Rattle.dj_pool.specs.Views.{constant_of};
 ghost use Rattle.dj_pool.specs.Answers.{MayHaveText};
 
@@ -21,7 +21,7 @@ pub enum Of {
 
 pub enum Op {
     Append(Entry<'static>),
-    // So many times the int 0.
+    // This many times the int 0.
     Fill(u16),
     Redirect(u16, u16),
     Copy,

@@ -25,7 +25,7 @@ fn is_written_back(alloc: Global, file: &[u8]) -> bool {
     }
 }
 
-// The same of the body of a Code attribute.
+// The same for the body of a Code attribute.
 fn is_code_written_back(alloc: Global, body: &[u8]) -> bool {
     if body.len() > 9_999 {
         return false;
@@ -39,7 +39,7 @@ fn is_code_written_back(alloc: Global, body: &[u8]) -> bool {
     }
 }
 
-// The same of a pool.
+// The same for a pool.
 fn is_pool_written_back(alloc: Global, bytes: &[u8]) -> bool {
     if bytes.len() > 9_999 {
         return false;

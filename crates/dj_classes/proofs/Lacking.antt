@@ -6,11 +6,11 @@ use Rattle.std.specs.List.{list_any}
 use Rattle.std.proofs.lemmas.Bool.Decides.{nat_tests}
 use Rattle.std.proofs.lemmas.List.Folds.{list_any-append}
 use Rattle.std.proofs.lemmas.Option.{same_Some, slice_get-get_or}
-use Rattle.dj_names.specs.Types.{Name}
-use Rattle.dj_model.specs.Program.{Program, Class}
-use Rattle.dj_model.specs.Linking.{option_list}
+use Rattle.dj_names.specs.trusted.Types.{Name}
+use Rattle.dj_model.specs.trusted.Program.{Program, Class}
+use Rattle.dj_model.specs.trusted.Linking.{option_list}
 use Rattle.dj_classes.specs.Tables.{class_number, class_numbers, is_lacking, lacks_above}
-use Rattle.dj_classes.specs.Rows.{super_in, interfaces_in, IsTable}
+use Rattle.dj_classes.specs.ClassRows.{super_in, interfaces_in, IsTable}
 
 no_more : (program : Program) (names : List Name) → length (class_numbers program names) ≤ length names
 no_more program [] = omega arith

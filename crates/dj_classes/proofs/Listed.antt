@@ -1,11 +1,11 @@
 -- The numbers of classes that are listed by the places of their names.
 use Rattle.std.proofs.Common.{◌≡◌, ℕ, zero, suc, List, [], ◌∷◌, ◌++◌, map, get_or, Option, Some, None, refl, sym, ap, ◌∙◌}
 use Rattle.std.specs.Prelude.{slice_get}
-use Rattle.dj_names.specs.Types.{Name}
-use Rattle.dj_model.specs.Program.{Program}
-use Rattle.dj_model.specs.Linking.{option_list}
+use Rattle.dj_names.specs.trusted.Types.{Name}
+use Rattle.dj_model.specs.trusted.Program.{Program}
+use Rattle.dj_model.specs.trusted.Linking.{option_list}
 use Rattle.dj_classes.specs.Tables.{class_number, class_numbers}
-use Rattle.dj_classes.specs.Rows.{numbers_at}
+use Rattle.dj_classes.specs.ClassRows.{numbers_at}
 
 first_some : (found : Option Name) (name : Name) (rest names : List (Option Name)) → found ∷ rest ≡ Some name ∷ names → found ≡ Some name
 first_some found name rest names e = cc

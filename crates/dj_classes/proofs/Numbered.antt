@@ -12,11 +12,11 @@ use Rattle.std.proofs.lemmas.Bool.{cases_lt}
 use Rattle.std.proofs.lemmas.Cmp.{nat_list_cmp_total}
 use Rattle.std.proofs.lemmas.List.Elements.{All-nil, All-cons, All-append}
 use Rattle.std.proofs.lemmas.List.Sorted.{searchable_from_sorted}
-use Rattle.dj_names.specs.Types.{Name, same_name}
-use Rattle.dj_model.specs.Program.{Program, Class, class_at, superclass_of, interfaces_of}
-use Rattle.dj_model.specs.Linking.{option_list}
+use Rattle.dj_names.specs.trusted.Types.{Name, same_name}
+use Rattle.dj_model.specs.trusted.Program.{Program, Class, class_at, superclass_of, interfaces_of}
+use Rattle.dj_model.specs.trusted.Linking.{option_list}
 use Rattle.dj_classes.specs.Tables.{class_number, class_numbers, name_at, super_number, interface_numbers}
-use Rattle.dj_classes.specs.Rows.{RiseStrictly}
+use Rattle.dj_classes.specs.ClassRows.{RiseStrictly}
 use Rattle.dj_classes.proofs.Orders.{same_name-refl, names_from_same, names_from_cmp, cmp_itself, not_same_if_less, sorted_from_rise}
 use Rattle.dj_classes.proofs.Shared.{some_name, first_differs, name_at-within, name_at-read}
 
@@ -32,11 +32,11 @@ class_at-number (c ∷ program) name = by (same_name c.name name) (class_number 
   by false None later = later
   by false (Some k) later = later
 
--- and so where its number is told
+-- and so where its number is known
 pub class_at-at : (program : Program) (name : Name) (k : ℕ) → class_number program name ≡ Some k → class_at program name ≡ slice_get program k
 class_at-at program name k e = class_at-number program name ∙ ap (option_and_then (slice_get program)) e
 
--- a number that is told is that of a class of this name
+-- a number that is found is that of a class of this name
 pub name_at-number : (program : Program) (name : Name) (k : ℕ) → class_number program name ≡ Some k → name_at program k ≡ Some name
 name_at-number [] name k e = absurd cc
 name_at-number (c ∷ program) name k e = by (same_name c.name name) refl (class_number program name) (name_at-number program name) k e where

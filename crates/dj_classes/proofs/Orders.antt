@@ -14,11 +14,11 @@ use Rattle.std.proofs.lemmas.Bool.Decides.{nat_tests}
 use Rattle.std.proofs.lemmas.Cmp.{same_from_slice_cmp, nat_list_cmp_total}
 use Rattle.std.proofs.lemmas.List.Sorted.{ranks_by}
 use Rattle.std.proofs.lemmas.Slice.Eq.{bytes_eq-Decides}
-use Rattle.dj_names.specs.Types.{Name, same_name}
-use Rattle.dj_model.specs.Program.{Program, Class}
-use Rattle.dj_model.specs.Libraries.{is_name_before}
+use Rattle.dj_names.specs.trusted.Types.{Name, same_name}
+use Rattle.dj_model.specs.trusted.Program.{Program, Class}
+use Rattle.dj_model.specs.trusted.Libraries.{is_name_before}
 use Rattle.dj_model.specs.Sound.{names_rise}
-use Rattle.dj_classes.specs.Rows.{class_cmp, RiseStrictly}
+use Rattle.dj_classes.specs.ClassRows.{class_cmp, RiseStrictly}
 
 -- ---- names
 

@@ -10,11 +10,11 @@ use Rattle.std.proofs.lemmas.List.Elements.{All-contains, Contains-append_right}
 use Rattle.std.proofs.lemmas.List.Sorted.{Contains-permutation, IsPermutation-sym}
 use Rattle.std.proofs.lemmas.Map.Keys.{sorted_tail}
 use Rattle.std.proofs.lemmas.Map.Views.{All-after_first}
-use Rattle.dj_names.specs.Types.{Name}
-use Rattle.dj_model.specs.Program.{Program, Class}
-use Rattle.dj_model.specs.Libraries.{is_name_before, inserted, joined}
+use Rattle.dj_names.specs.trusted.Types.{Name}
+use Rattle.dj_model.specs.trusted.Program.{Program, Class}
+use Rattle.dj_model.specs.trusted.Libraries.{is_name_before, inserted, joined}
 use Rattle.dj_classes.specs.Tables.{name_at, IsShared}
-use Rattle.dj_classes.specs.Rows.{class_cmp, RiseStrictly}
+use Rattle.dj_classes.specs.ClassRows.{class_cmp, RiseStrictly}
 use Rattle.dj_classes.proofs.Orders.{is_name_before-cmp, names_from_cmp, greater_from_less, less_from_greater, above_too, not_less_itself}
 
 -- ---- members
@@ -116,7 +116,7 @@ rise_joined [] differ = tt
 rise_joined (c ∷ classes) differ =
     rise_inserted c (joined classes []) (each_joined (λ d. c.name ≡ d.name → ⊥) classes differ.0) (rise_joined classes differ.1)
 
--- ---- the members tell the list
+-- ---- the members determine the list
 
 below_later : (c : Class) (rows : Program) (v : Class) → RiseStrictly (c ∷ rows) → Contains rows v → class_cmp c v ≡ Less
 below_later c rows v rise m = All-contains (λ w. class_cmp c w ≡ Less) rows v (All-after_first class_cmp c rows rise) m

@@ -11,11 +11,11 @@ use Rattle.std.proofs.lemmas.List.{get_or_default}
 use Rattle.std.proofs.lemmas.List.Elements.{pair_read}
 use Rattle.std.proofs.lemmas.List.Sorted.{sum_by-IsPermutation, IsPermutation-sym, sorted_far}
 use Rattle.std.proofs.lemmas.List.Sums.{sum_by-cons}
-use Rattle.dj_names.specs.Types.{Name, same_name}
-use Rattle.dj_model.specs.Program.{Program, Class}
+use Rattle.dj_names.specs.trusted.Types.{Name, same_name}
+use Rattle.dj_model.specs.trusted.Program.{Program, Class}
 use Rattle.dj_classes.specs.Tables.{name_at, IsShared, IsLeastShared}
 use Rattle.dj_classes.specs.declared.error.TableError.TheVariants.{Duplicate}
-use Rattle.dj_classes.specs.Rows.{class_cmp, RiseStrictly}
+use Rattle.dj_classes.specs.ClassRows.{class_cmp, RiseStrictly}
 use Rattle.dj_classes.proofs.Orders.{is_name_before-cmp, same_name-refl, names_from_same, class_order, not_less_itself, less_from_other}
 
 -- ---- how many classes have a name

@@ -1,12 +1,12 @@
 -- Rows of the definitions, by plain values.
 use Rattle.std.proofs.Common.{◌≡◌, ℕ, zero, suc, ◌<◌, true, false, List, [], ◌∷◌, map, codes, refl, arith, Option, Some, None}
-use Rattle.dj_names.specs.Types.{Name, same_name}
-use Rattle.dj_model.specs.Program.{Program, Class}
-use Rattle.dj_model.specs.Libraries.{is_name_before, joined}
+use Rattle.dj_names.specs.trusted.Types.{Name, same_name}
+use Rattle.dj_model.specs.trusted.Program.{Program, Class}
+use Rattle.dj_model.specs.trusted.Libraries.{is_name_before, joined}
 use Rattle.dj_model.specs.Sound.{names_rise}
 use Rattle.dj_classes.specs.Tables.{class_number, name_at, super_number, interface_numbers, IsShared, IsLeastShared}
 use Rattle.std.specs.List.Sorted.{IsSorted}
-use Rattle.dj_classes.specs.Rows.{class_cmp}
+use Rattle.dj_classes.specs.ClassRows.{class_cmp}
 use Rattle.dj_classes.proofs.Orders.{same_from_names, not_both}
 use Rattle.dj_classes.proofs.Shared.{some_name, first_is_least}
 

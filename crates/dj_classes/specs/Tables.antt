@@ -1,19 +1,12 @@
--- Classes and their members by numbers: a class by its place in the program, a member by its place among those of its class.
-use Rattle.std.specs.Prelude.{◌≡◌, ℕ, suc, ◌<◌, Bool, List, [], ◌∷◌, ◌++◌, map, is_none, Option, Some, None, if◌then◌else◌, slice_get, option_and_then, IsFalse}
+-- Classes and their members by numbers: a class's number is its place in the program, a member's its place among those of its class.
+use Rattle.std.specs.Prelude.{◌≡◌, ℕ, suc, ◌<◌, Bool, List, [], ◌∷◌, ◌++◌, is_none, Option, Some, None, if◌then◌else◌, slice_get, option_and_then, IsFalse}
 use Rattle.std.specs.Option.{option_map}
 use Rattle.std.specs.List.{flat_map, list_any}
-use Rattle.dj_names.specs.Types.{Name, same_name}
-use Rattle.dj_names.specs.Library.{Library}
-use Rattle.dj_class.specs.ClassFile.{ClassFile}
-use Rattle.dj_model.specs.Program.{Program, Class, Method, Field, fields_of, interfaces_of, superclass_of}
-use Rattle.dj_model.specs.Linking.{FoundMethod, FoundField, option_list}
-use Rattle.dj_model.specs.Libraries.{joined, library_program, is_name_before}
-use Rattle.dj_declared.specs.Files.{declared_class}
+use Rattle.dj_names.specs.trusted.Types.{Name, same_name}
+use Rattle.dj_model.specs.trusted.Program.{Program, Class, Method, Field, fields_of, interfaces_of, superclass_of}
+use Rattle.dj_model.specs.trusted.Linking.{FoundMethod, FoundField, option_list}
+use Rattle.dj_model.specs.trusted.Libraries.{is_name_before}
 use Rattle.dj_classes.specs.declared.place.Place.{Place}
-
--- the classes of the files and those of the library
-unfoldable pub declared_program : Library → List ClassFile → Program
-declared_program library files = joined (map declared_class files) (library_program library)
 
 -- ---- classes
 
@@ -45,13 +38,13 @@ super_number program class = option_and_then (class_number program) (superclass_
 abbrev pub interface_numbers : Program → ℕ → List ℕ
 interface_numbers program class = class_numbers program (interfaces_of (slice_get program class))
 
--- ---- classes that stand under absent ones
+-- ---- classes whose superclass or interfaces are absent
 
--- no class of this name is there
+-- the program has no class of this name
 abbrev pub is_lacking : Program → Name → Bool
 is_lacking program name = is_none (class_number program name)
 
--- no class of the name of the superclass is there, or none of that of an interface that the class lists
+-- the program has no class of the superclass's name, or none of the name of an interface that the class lists
 abbrev pub lacks_above : Program → Class → Bool
 lacks_above program c = list_any (is_lacking program) (option_list c.superclass ++ c.interfaces)
 

@@ -35,7 +35,7 @@ impl Numbers {
         Ok(self.items.push(number)?)
     }
 
-    /// The numbers, lent.
+    /// The numbers, borrowed.
     pub fn as_slice(&self) -> &[u32]
         ensures { result.now ≡ self.now }
     {

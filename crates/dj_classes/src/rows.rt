@@ -2,7 +2,7 @@ ghost use Rattle.std.specs.Prelude.{◌≡◌, ◌<◌, ◌^◌, ◌&&◌, None,
 ghost use Rattle.std.specs.List.Sorted.{IsPermutation, IsSorted};
 ghost use Rattle.dj_declared.specs.Files.{bare_class};
 ghost use Rattle.dj_classes.specs.Tables.{class_number, IsLeastShared};
-ghost use Rattle.dj_classes.specs.Rows.{class_cmp, RiseStrictly, super_in, interfaces_in, numbers_at};
+ghost use Rattle.dj_classes.specs.ClassRows.{class_cmp, RiseStrictly, super_in, interfaces_in, numbers_at};
 
 use crate::numbers::Numbers;
 use dj_declared::DeclaredClass;

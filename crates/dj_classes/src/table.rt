@@ -1,12 +1,14 @@
 ghost use Rattle.std.specs.Prelude.{◌≡◌, ℕ, ◌<◌, ◌^◌, false, [], length, map, Some, is_some, IfOk, IfSome, IsErrOf, slice_get};
 ghost use Rattle.std.specs.Option.{option_map};
-ghost use Rattle.dj_names.specs.Types.{Name};
-ghost use Rattle.dj_names.specs.Descriptors.{Describes};
-ghost use Rattle.dj_model.specs.Program.{method_in, field_in};
-ghost use Rattle.dj_model.specs.Linking.{count_fields, fields_before};
-ghost use Rattle.dj_model.specs.Libraries.{joined};
-ghost use Rattle.dj_declared.specs.Files.{desc_in, bare_class};
-ghost use Rattle.dj_declared.specs.Members.{IsDescriptor, method_flags, method_name, method_has_body, method_native, field_flags, field_name, has_method_named, method_place, field_place};
+ghost use Rattle.dj_names.specs.trusted.Types.{Name};
+ghost use Rattle.dj_names.specs.trusted.Descriptors.{Describes};
+ghost use Rattle.dj_model.specs.trusted.Program.{method_in, field_in};
+ghost use Rattle.dj_model.specs.trusted.Linking.{count_fields, fields_before};
+ghost use Rattle.dj_model.specs.trusted.Libraries.{joined};
+ghost use Rattle.dj_declared.specs.trusted.Files.{desc_in};
+ghost use Rattle.dj_declared.specs.Files.{bare_class};
+ghost use Rattle.dj_declared.specs.trusted.Members.{has_method_named};
+ghost use Rattle.dj_declared.specs.Members.{IsDescriptor, method_flags, method_name, method_has_body, method_native, field_flags, field_name, method_place, field_place};
 ghost use Rattle.dj_classes.specs.Tables.{class_number, name_at, flags_in, unnamed_fields_in, super_number, interface_numbers, lacks_above, methods_at, fields_at, IsShared, IsLeastShared};
 ghost use Rattle.dj_classes.specs.declared.error.TableError.TheVariants.{Duplicate};
 
@@ -27,8 +29,8 @@ pub struct ClassTable {
 }
 
 impl Model for ClassTable {
-    ghost use Rattle.dj_model.specs.Program.{Program};
-    ghost use Rattle.dj_classes.specs.Rows.{IsTable};
+    ghost use Rattle.dj_model.specs.trusted.Program.{Program};
+    ghost use Rattle.dj_classes.specs.ClassRows.{IsTable};
 
     ghost Value = { Program };
 
@@ -38,7 +40,7 @@ impl Model for ClassTable {
 }
 
 impl ClassTable {
-    /// Puts the classes in order. The least name that two of them have is told.
+    /// Puts the classes in order, or reports the least name that two of them have.
     pub fn of(alloc: Global, classes: Vec<DeclaredClass>) -> Result<ClassTable, TableError>
         requires { length classes.items < 2 ^ 31 }
         ensures ok { IfOk result (λ table. table ≡ joined classes.items []) }
@@ -280,7 +282,7 @@ impl ClassTable {
         self.rows[class as usize].instance_fields()
     }
 
-    /// How many instance fields of a class stand before the first one that has the name and the descriptor of the one at a place.
+    /// How many instance fields of a class come before the first one that has the name and the descriptor of the one at a place.
     pub fn instance_fields_before(&self, class: u32, member: u32) -> u32
         requires there { class < length self.now }
         requires within { member < length (fields_at self.now class) }

@@ -1,4 +1,4 @@
-//! Labels code that it makes, and lays it out again, so many times. bench/code takes its time.
+//! Labels code that it makes, and lays it out again, this many times. bench/code takes its time.
 //!
 //! The words are `branches` or `switches`, the number of instructions, and how often. The status is 0 where the layout has as many bytes as the code.
 #![tactic(auto)]

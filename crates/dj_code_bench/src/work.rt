@@ -11,7 +11,7 @@ pub enum Kind {
     Switches,
 }
 
-/// So many instructions, and how often they are labelled and laid out.
+/// This many instructions, and how often they are labelled and laid out.
 #[derive(Clone, Copy)]
 pub struct Task {
     pub kind: Kind,
@@ -33,7 +33,7 @@ fn code_of(alloc: Global, task: Task) -> Result<Vec<u8>, AllocError> {
     Ok(code)
 }
 
-// Whether the labels of code are laid out as so many bytes.
+// Whether the labels of code are laid out as this many bytes.
 fn is_laid_out(alloc: Global, code: &[u8]) -> bool {
     labelled_is_well_formed();
     if code.len() >= 65_536 {

@@ -34,7 +34,7 @@ fn is_method_same(alloc: Global, code: &[u8], rows: &[Row], body: &[u8]) -> bool
     }
 }
 
-// Of each method of the classes in examples/javac/accepted, as javac wrote it: its code, its exception table, and the body of its
+// For each method of the classes in examples/javac/accepted, as javac wrote it: its code, its exception table, and the body of its
 // StackMapTable, empty where it has none.
 const METHODS: [(&[u8], &[Row], &[u8]); 11] = [
     // Transfer.<init>()V

@@ -1,17 +1,19 @@
 ghost use Rattle.std.specs.Prelude.{⊤, IfSome, MatchBool};
 ghost use Rattle.std.specs.List.{AllByRecursion};
-ghost use Rattle.dj_ops.specs.Forms.{form_of};
-ghost use Rattle.dj_ops.specs.Instructions.{IsProper, IsPushed, IsTable};
-ghost use Rattle.dj_labels.specs.Labels.{IsNumber, HasNumbers, IsWellFormed};
+ghost use Rattle.dj_ops.specs.trusted.Forms.{form_of};
+ghost use Rattle.dj_ops.specs.trusted.Instructions.{IsProper, IsPushed, IsTable};
+ghost use Rattle.dj_labels.specs.trusted.Labels.{IsNumber, HasNumbers};
+ghost use Rattle.dj_labels.specs.Labels.{IsWellFormed};
 
+use crate::opcodes::*;
 use crate::rows::{Row, has_rows, laid_again};
 use dj_labels::{Labelled, Ranges};
 use dj_layout::{Laid, LayError, lay_out};
 use dj_ops::{Instr, Instrs, NoMemory, Targets};
 use std::alloc::Global;
 
-// So many of an instruction, by a letter for the family, the opcode, and up to two numbers.
-type Part = (usize, (u8, u8, i64, i64));
+// This many of an instruction, by a letter for the family, the opcode, and up to two numbers.
+type Repeated = (usize, (u8, u8, i64, i64));
 
 fn is_laid(alloc: Global, code: &[u8], starts: &[u32], rows: &[Row]) -> bool {
     match laid_again(alloc, code, rows) {
@@ -168,7 +170,7 @@ fn instr_of(alloc: Global, told: (u8, u8, i64, i64)) -> Result<Instr, NoMemory> 
     }
 }
 
-fn instrs_of(alloc: Global, parts: &[Part]) -> Result<Instrs, NoMemory> {
+fn instrs_of(alloc: Global, parts: &[Repeated]) -> Result<Instrs, NoMemory> {
     let mut instrs = Instrs::new(alloc);
     for &(count, told) in parts {
         for _ in 0..count {
@@ -178,7 +180,7 @@ fn instrs_of(alloc: Global, parts: &[Part]) -> Result<Instrs, NoMemory> {
     Ok(instrs)
 }
 
-// Whether this is one of so many instructions.
+// Whether this is one of this many instructions.
 fn is_number(count: usize, target: i64) -> bool
     ensures { MatchBool result (IsNumber count target) ⊤ }
 {
@@ -186,11 +188,15 @@ fn is_number(count: usize, target: i64) -> bool
 }
 
 // Whether the number fits the opcode.
-#[tactic(auto, unfolding(dj_ops::specs::Forms::form_of))]
+#[tactic(auto, unfolding(dj_ops::specs::trusted::Forms::form_of))]
 fn is_push(op: u8, value: i16) -> bool
     ensures { MatchBool result (IsPushed (form_of op) value) ⊤ }
 {
-    if op == 16 { value == 5 } else { op == 17 }
+    if op == BIPUSH {
+        value == 5
+    } else {
+        op == SIPUSH
+    }
 }
 
 // Whether a table has one target, for the number 0.
@@ -201,16 +207,17 @@ fn is_single(low: i32, targets: &[i64], count: usize) -> bool
     low == 0 && targets.len() == 1 && is_number(count, targets[0])
 }
 
-// Whether an instruction is one of those that are tried here, and jumps to one of so many.
-#[tactic(auto, unfolding(dj_ops::specs::Forms::form_of))]
+// Whether an instruction is one of those that are tried here, and jumps to one of this many.
+#[tactic(auto, unfolding(dj_ops::specs::trusted::Forms::form_of))]
 fn is_tried(instr: &Instr, count: usize) -> bool
     ensures { MatchBool result (IsProper instr.now × HasNumbers count instr.now) ⊤ }
 {
     match instr {
-        Instr::Simple { op } => *op == 0 || *op == 177,
+        Instr::Simple { op } => *op == NOP || *op == RETURN,
         Instr::Push { op, value } => is_push(*op, *value),
         Instr::Branch { op, target } => {
-            ((153..=168).contains(op) || (198..=201).contains(op)) && is_number(count, *target)
+            ((IFEQ..=JSR).contains(op) || (IFNULL..=JSR_W).contains(op))
+                && is_number(count, *target)
         }
         Instr::Table {
             default,
@@ -237,7 +244,7 @@ fn labelled(alloc: Global, instrs: Instrs) -> Option<Labelled>
     })
 }
 
-fn layout_of(alloc: Global, parts: &[Part]) -> Result<Option<Laid>, LayError> {
+fn layout_of(alloc: Global, parts: &[Repeated]) -> Result<Option<Laid>, LayError> {
     let instrs = instrs_of(alloc, parts)?;
     match labelled(alloc, instrs) {
         Some(code) => Ok(Some(lay_out(alloc, &code)?)),
@@ -245,7 +252,7 @@ fn layout_of(alloc: Global, parts: &[Part]) -> Result<Option<Laid>, LayError> {
     }
 }
 
-fn is_long(alloc: Global, parts: &[Part], size: usize, last: u32) -> bool {
+fn is_long(alloc: Global, parts: &[Repeated], size: usize, last: u32) -> bool {
     match layout_of(alloc, parts) {
         Ok(Some(laid)) => {
             laid.code.as_slice().len() == size && laid.starts.as_slice().last() == Some(&last)
@@ -255,62 +262,62 @@ fn is_long(alloc: Global, parts: &[Part], size: usize, last: u32) -> bool {
 }
 
 // Instructions, their bytes' count, and the start of the last.
-const LONG: [(&[Part], usize, u32); 8] = [
+const LONG: [(&[Repeated], usize, u32); 8] = [
     (
         &[
-            (1, (b'b', 167, 32765, 0)),
-            (32764, (b's', 0, 0, 0)),
-            (1, (b's', 177, 0, 0)),
+            (1, (b'b', GOTO, 32765, 0)),
+            (32764, (b's', NOP, 0, 0)),
+            (1, (b's', RETURN, 0, 0)),
         ],
         32768,
         32767,
     ),
     (
-        &[(32768, (b's', 0, 0, 0)), (1, (b'b', 167, 0, 0))],
+        &[(32768, (b's', NOP, 0, 0)), (1, (b'b', GOTO, 0, 0))],
         32771,
         32768,
     ),
     (
         &[
-            (1, (b'b', 200, 32770, 0)),
-            (32769, (b's', 0, 0, 0)),
-            (1, (b's', 177, 0, 0)),
+            (1, (b'b', GOTO_W, 32770, 0)),
+            (32769, (b's', NOP, 0, 0)),
+            (1, (b's', RETURN, 0, 0)),
         ],
         32775,
         32774,
     ),
     (
         &[
-            (32769, (b's', 0, 0, 0)),
-            (1, (b'b', 201, 0, 0)),
-            (1, (b's', 177, 0, 0)),
+            (32769, (b's', NOP, 0, 0)),
+            (1, (b'b', JSR_W, 0, 0)),
+            (1, (b's', RETURN, 0, 0)),
         ],
         32775,
         32774,
     ),
     (
         &[
-            (40000, (b's', 0, 0, 0)),
-            (1, (b't', 170, 0, 40001)),
-            (1, (b's', 177, 0, 0)),
+            (40000, (b's', NOP, 0, 0)),
+            (1, (b't', TABLESWITCH, 0, 40001)),
+            (1, (b's', RETURN, 0, 0)),
         ],
         40021,
         40020,
     ),
     (
-        &[(65534, (b's', 0, 0, 0)), (1, (b's', 177, 0, 0))],
+        &[(65534, (b's', NOP, 0, 0)), (1, (b's', RETURN, 0, 0))],
         65535,
         65534,
     ),
-    (&[(21845, (b'p', 17, 1, 0))], 65535, 65532),
+    (&[(21845, (b'p', SIPUSH, 1, 0))], 65535, 65532),
     (
-        &[(65515, (b's', 0, 0, 0)), (1, (b't', 170, 0, 0))],
+        &[(65515, (b's', NOP, 0, 0)), (1, (b't', TABLESWITCH, 0, 0))],
         65532,
         65515,
     ),
 ];
 
-fn all_long(alloc: Global, table: &[(&[Part], usize, u32)]) -> bool {
+fn all_long(alloc: Global, table: &[(&[Repeated], usize, u32)]) -> bool {
     for (parts, size, last) in table {
         if !is_long(alloc, parts, *size, *last) {
             return false;
@@ -324,7 +331,7 @@ fn long_layouts(rt: HostRuntime) {
     assert!(rt; all_long(rt.alloc(), &LONG));
 }
 
-fn is_refused(alloc: Global, parts: &[Part], wanted: LayError) -> bool {
+fn is_refused(alloc: Global, parts: &[Repeated], wanted: LayError) -> bool {
     match layout_of(alloc, parts) {
         Ok(_) => false,
         Err(error) => error == wanted,
@@ -332,141 +339,141 @@ fn is_refused(alloc: Global, parts: &[Part], wanted: LayError) -> bool {
 }
 
 // Instructions that have no layout, and why.
-const REFUSED: [(&[Part], LayError); 28] = [
+const REFUSED: [(&[Repeated], LayError); 28] = [
     (
         &[
-            (1, (b'b', 167, 32766, 0)),
-            (32765, (b's', 0, 0, 0)),
-            (1, (b's', 177, 0, 0)),
+            (1, (b'b', GOTO, 32766, 0)),
+            (32765, (b's', NOP, 0, 0)),
+            (1, (b's', RETURN, 0, 0)),
         ],
         LayError::Far(0),
     ),
     (
-        &[(32769, (b's', 0, 0, 0)), (1, (b'b', 167, 0, 0))],
+        &[(32769, (b's', NOP, 0, 0)), (1, (b'b', GOTO, 0, 0))],
         LayError::Far(32769),
     ),
     (
         &[
-            (1, (b'b', 167, 1, 0)),
-            (1, (b'b', 154, 32767, 0)),
-            (32766, (b's', 0, 0, 0)),
-            (1, (b'b', 168, 1, 0)),
+            (1, (b'b', GOTO, 1, 0)),
+            (1, (b'b', IFNE, 32767, 0)),
+            (32766, (b's', NOP, 0, 0)),
+            (1, (b'b', JSR, 1, 0)),
         ],
         LayError::Far(1),
     ),
     (
         &[
-            (33000, (b's', 0, 0, 0)),
-            (1, (b'b', 199, 0, 0)),
-            (1, (b'b', 198, 1, 0)),
-            (1, (b's', 177, 0, 0)),
+            (33000, (b's', NOP, 0, 0)),
+            (1, (b'b', IFNONNULL, 0, 0)),
+            (1, (b'b', IFNULL, 1, 0)),
+            (1, (b's', RETURN, 0, 0)),
         ],
         LayError::Far(33000),
     ),
     (
-        &[(32769, (b's', 0, 0, 0)), (1, (b'b', 153, 0, 0))],
+        &[(32769, (b's', NOP, 0, 0)), (1, (b'b', IFEQ, 0, 0))],
         LayError::Far(32769),
     ),
     (
-        &[(32769, (b's', 0, 0, 0)), (1, (b'b', 154, 0, 0))],
+        &[(32769, (b's', NOP, 0, 0)), (1, (b'b', IFNE, 0, 0))],
         LayError::Far(32769),
     ),
     (
-        &[(32769, (b's', 0, 0, 0)), (1, (b'b', 155, 0, 0))],
+        &[(32769, (b's', NOP, 0, 0)), (1, (b'b', IFLT, 0, 0))],
         LayError::Far(32769),
     ),
     (
-        &[(32769, (b's', 0, 0, 0)), (1, (b'b', 156, 0, 0))],
+        &[(32769, (b's', NOP, 0, 0)), (1, (b'b', IFGE, 0, 0))],
         LayError::Far(32769),
     ),
     (
-        &[(32769, (b's', 0, 0, 0)), (1, (b'b', 157, 0, 0))],
+        &[(32769, (b's', NOP, 0, 0)), (1, (b'b', IFGT, 0, 0))],
         LayError::Far(32769),
     ),
     (
-        &[(32769, (b's', 0, 0, 0)), (1, (b'b', 158, 0, 0))],
+        &[(32769, (b's', NOP, 0, 0)), (1, (b'b', IFLE, 0, 0))],
         LayError::Far(32769),
     ),
     (
-        &[(32769, (b's', 0, 0, 0)), (1, (b'b', 159, 0, 0))],
+        &[(32769, (b's', NOP, 0, 0)), (1, (b'b', IF_ICMPEQ, 0, 0))],
         LayError::Far(32769),
     ),
     (
-        &[(32769, (b's', 0, 0, 0)), (1, (b'b', 160, 0, 0))],
+        &[(32769, (b's', NOP, 0, 0)), (1, (b'b', IF_ICMPNE, 0, 0))],
         LayError::Far(32769),
     ),
     (
-        &[(32769, (b's', 0, 0, 0)), (1, (b'b', 161, 0, 0))],
+        &[(32769, (b's', NOP, 0, 0)), (1, (b'b', IF_ICMPLT, 0, 0))],
         LayError::Far(32769),
     ),
     (
-        &[(32769, (b's', 0, 0, 0)), (1, (b'b', 162, 0, 0))],
+        &[(32769, (b's', NOP, 0, 0)), (1, (b'b', IF_ICMPGE, 0, 0))],
         LayError::Far(32769),
     ),
     (
-        &[(32769, (b's', 0, 0, 0)), (1, (b'b', 163, 0, 0))],
+        &[(32769, (b's', NOP, 0, 0)), (1, (b'b', IF_ICMPGT, 0, 0))],
         LayError::Far(32769),
     ),
     (
-        &[(32769, (b's', 0, 0, 0)), (1, (b'b', 164, 0, 0))],
+        &[(32769, (b's', NOP, 0, 0)), (1, (b'b', IF_ICMPLE, 0, 0))],
         LayError::Far(32769),
     ),
     (
-        &[(32769, (b's', 0, 0, 0)), (1, (b'b', 165, 0, 0))],
+        &[(32769, (b's', NOP, 0, 0)), (1, (b'b', IF_ACMPEQ, 0, 0))],
         LayError::Far(32769),
     ),
     (
-        &[(32769, (b's', 0, 0, 0)), (1, (b'b', 166, 0, 0))],
+        &[(32769, (b's', NOP, 0, 0)), (1, (b'b', IF_ACMPNE, 0, 0))],
         LayError::Far(32769),
     ),
     (
-        &[(32769, (b's', 0, 0, 0)), (1, (b'b', 168, 0, 0))],
+        &[(32769, (b's', NOP, 0, 0)), (1, (b'b', JSR, 0, 0))],
         LayError::Far(32769),
     ),
     (
-        &[(32769, (b's', 0, 0, 0)), (1, (b'b', 198, 0, 0))],
+        &[(32769, (b's', NOP, 0, 0)), (1, (b'b', IFNULL, 0, 0))],
         LayError::Far(32769),
     ),
     (
-        &[(32769, (b's', 0, 0, 0)), (1, (b'b', 199, 0, 0))],
+        &[(32769, (b's', NOP, 0, 0)), (1, (b'b', IFNONNULL, 0, 0))],
         LayError::Far(32769),
     ),
     (
-        &[(65535, (b's', 0, 0, 0)), (1, (b's', 177, 0, 0))],
+        &[(65535, (b's', NOP, 0, 0)), (1, (b's', RETURN, 0, 0))],
         LayError::TooLong(65535),
     ),
     (
         &[
-            (65534, (b's', 0, 0, 0)),
-            (1, (b'p', 16, 5, 0)),
-            (1, (b's', 177, 0, 0)),
+            (65534, (b's', NOP, 0, 0)),
+            (1, (b'p', BIPUSH, 5, 0)),
+            (1, (b's', RETURN, 0, 0)),
         ],
         LayError::TooLong(65534),
     ),
-    (&[(21846, (b'p', 17, 1, 0))], LayError::TooLong(21845)),
+    (&[(21846, (b'p', SIPUSH, 1, 0))], LayError::TooLong(21845)),
     (
-        &[(65520, (b's', 0, 0, 0)), (1, (b't', 170, 0, 0))],
+        &[(65520, (b's', NOP, 0, 0)), (1, (b't', TABLESWITCH, 0, 0))],
         LayError::TooLong(65520),
     ),
     (
-        &[(65516, (b's', 0, 0, 0)), (1, (b't', 170, 0, 0))],
+        &[(65516, (b's', NOP, 0, 0)), (1, (b't', TABLESWITCH, 0, 0))],
         LayError::TooLong(65516),
     ),
     (
-        &[(65517, (b's', 0, 0, 0)), (1, (b't', 170, 0, 0))],
+        &[(65517, (b's', NOP, 0, 0)), (1, (b't', TABLESWITCH, 0, 0))],
         LayError::TooLong(65517),
     ),
     (
         &[
-            (1, (b'b', 167, 65534, 0)),
-            (65533, (b's', 0, 0, 0)),
-            (1, (b's', 177, 0, 0)),
+            (1, (b'b', GOTO, 65534, 0)),
+            (65533, (b's', NOP, 0, 0)),
+            (1, (b's', RETURN, 0, 0)),
         ],
         LayError::TooLong(65533),
     ),
 ];
 
-fn all_refused(alloc: Global, table: &[(&[Part], LayError)]) -> bool {
+fn all_refused(alloc: Global, table: &[(&[Repeated], LayError)]) -> bool {
     for (parts, wanted) in table {
         if !is_refused(alloc, parts, *wanted) {
             return false;

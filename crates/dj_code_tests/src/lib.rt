@@ -20,6 +20,8 @@ mod layout;
 #[cfg(test)]
 mod lists;
 #[cfg(test)]
+mod opcodes;
+#[cfg(test)]
 mod ops_read;
 #[cfg(test)]
 mod ops_write;

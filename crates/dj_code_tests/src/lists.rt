@@ -1,5 +1,5 @@
 use dj_labels::{Protected, Ranges};
-use dj_ops::{CatchRow, Instr, Instrs, NoMemory, Pairs, Rows, Starts, Targets};
+use dj_ops::{CatchRow, CatchRows, Instr, Instrs, NoMemory, Pairs, Starts, Targets};
 use std::alloc::Global;
 
 fn targets_grow(alloc: Global) -> Result<bool, NoMemory> {
@@ -21,7 +21,7 @@ fn rows_grow(alloc: Global) -> Result<bool, NoMemory> {
         handler: 7,
         catch_type: 0,
     };
-    let mut rows = Rows::new(alloc);
+    let mut rows = CatchRows::new(alloc);
     rows.push(row)?;
     Ok(rows.as_slice() == [row].as_slice())
 }

@@ -3,14 +3,14 @@ ghost use Rattle.dj_labels.specs.Labels.{IsWellFormed};
 
 use dj_labels::{CodeError, Labelled, label, labelled_is_well_formed};
 use dj_layout::{Laid, LayError, lay_out};
-use dj_ops::{CatchRow, NoMemory, Rows};
+use dj_ops::{CatchRow, CatchRows, NoMemory};
 use std::alloc::Global;
 
 // A row: its start, its end, its handler, and the class that is caught.
 pub type Row = (u16, u16, u16, u16);
 
-pub fn rows_of(alloc: Global, rows: &[Row]) -> Result<Rows, NoMemory> {
-    let mut table = Rows::new(alloc);
+pub fn rows_of(alloc: Global, rows: &[Row]) -> Result<CatchRows, NoMemory> {
+    let mut table = CatchRows::new(alloc);
     for &(start, end, handler, catch_type) in rows {
         table.push(CatchRow {
             start,

@@ -1,3 +1,4 @@
+use crate::opcodes::*;
 use dj_ops::Instr;
 
 // A letter for the family, the opcode, and up to two numbers.
@@ -11,19 +12,24 @@ pub fn told(instr: &Instr) -> Told {
         Instr::Local { op, slot, wide } => (b'l', *op, i64::from(*slot), i64::from(*wide)),
         Instr::Inc { slot, by, wide } => (
             if *wide { b'I' } else { b'i' },
-            132,
+            IINC,
             i64::from(*slot),
             i64::from(*by),
         ),
         Instr::Branch { op, target } => (b'b', *op, *target, 0),
-        Instr::Table { default, low, .. } => (b't', 170, *default, i64::from(*low)),
-        Instr::Lookup { default, .. } => (b'u', 171, *default, 0),
+        Instr::Table { default, low, .. } => (b't', TABLESWITCH, *default, i64::from(*low)),
+        Instr::Lookup { default, .. } => (b'u', LOOKUPSWITCH, *default, 0),
         Instr::Member { op, index } => (b'm', *op, i64::from(*index), 0),
-        Instr::Interface { index, count } => (b'f', 185, i64::from(*index), i64::from(*count)),
-        Instr::Dynamic { index } => (b'd', 186, i64::from(*index), 0),
+        Instr::Interface { index, count } => (
+            b'f',
+            INVOKEINTERFACE,
+            i64::from(*index),
+            i64::from(*count),
+        ),
+        Instr::Dynamic { index } => (b'd', INVOKEDYNAMIC, i64::from(*index), 0),
         Instr::Class { op, index } => (b'k', *op, i64::from(*index), 0),
-        Instr::Array { base } => (b'a', 188, i64::from(*base), 0),
-        Instr::Multi { index, dims } => (b'n', 197, i64::from(*index), i64::from(*dims)),
+        Instr::Array { base } => (b'a', NEWARRAY, i64::from(*base), 0),
+        Instr::Multi { index, dims } => (b'n', MULTIANEWARRAY, i64::from(*index), i64::from(*dims)),
     }
 }
 

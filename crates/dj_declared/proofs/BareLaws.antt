@@ -1,11 +1,13 @@
 -- The members of a class as it is declared have no code and no constants.
 use Rattle.std.proofs.Common.{◌≡◌, List, [], ◌∷◌, map, refl, ap, ◌∙◌}
-use Rattle.dj_model.specs.Program.{Class, Method, Field, Body, body_map}
+use Rattle.dj_model.specs.trusted.Program.{Class, Method, Field, Body}
+use Rattle.dj_model.specs.Program.{body_map}
 use Rattle.dj_declared.specs.declared.members.MemberBody.{MemberBody}
 use Rattle.dj_declared.specs.declared.members.MemberBody.TheVariants as bodies
 use Rattle.dj_declared.specs.declared.members.MemberRow.{MemberRow}
-use Rattle.dj_declared.specs.Files.{no_code, bare_method, bare_field, bare_class}
-use Rattle.dj_declared.specs.Rows.{body_of, row_method, row_field}
+use Rattle.dj_declared.specs.trusted.Files.{no_code}
+use Rattle.dj_declared.specs.Files.{bare_method, bare_field, bare_class}
+use Rattle.dj_declared.specs.MemberRows.{body_of, row_method, row_field}
 use Rattle.dj_declared.specs.Texts.{Numbers}
 
 bare_body : (body : MemberBody) → body_map (λ code. no_code) (body_of body) ≡ body_of body

@@ -9,15 +9,15 @@ use Rattle.std.proofs.lemmas.List.{take_more, length_push}
 use Rattle.std.proofs.lemmas.List.Elements.{recursion_from_All}
 use Rattle.std.proofs.lemmas.Option.{same_Some, none-some, slice_get-map}
 use Rattle.std.proofs.lemmas.Nat.Bits.{and_pow, bit_at-lt}
-use Rattle.dj_names.specs.Types.{Name}
-use Rattle.dj_names.specs.Descriptors.{Describes}
-use Rattle.dj_model.specs.Program.{Field, is_static, is_named}
-use Rattle.dj_model.specs.Linking.{count_fields, fields_before}
+use Rattle.dj_names.specs.trusted.Types.{Name}
+use Rattle.dj_names.specs.trusted.Descriptors.{Describes}
+use Rattle.dj_model.specs.trusted.Program.{Field, is_static, is_named}
+use Rattle.dj_model.specs.trusted.Linking.{count_fields, fields_before}
 use Rattle.dj_declared.specs.declared.members.MemberRow.{MemberRow}
-use Rattle.dj_declared.specs.Files.{desc_in}
+use Rattle.dj_declared.specs.trusted.Files.{desc_in}
 use Rattle.dj_declared.specs.Members.{IsDescriptor}
 use Rattle.dj_declared.specs.Texts.{Numbers, number_in, text_in, LeadBack}
-use Rattle.dj_declared.specs.Rows.{row_field, IsSound, is_row, first_row, instance_rows, AreCounts}
+use Rattle.dj_declared.specs.MemberRows.{row_field, IsSound, is_row, first_row, instance_rows, AreCounts}
 use Rattle.dj_declared.proofs.DescTests.{descriptor_read}
 use Rattle.dj_declared.proofs.LookupLaws.{named_same}
 
@@ -52,7 +52,7 @@ instance_rows-push (r ∷ rows) row =
     let g = instance_rows-push rows row in
     omega (arith, e, f, g)
 
--- so many rows were counted
+-- this many rows were counted
 pub record IsCounted (rows : List MemberRow) (i : ℕ) (counts : List ℕ) (count : ℕ) : Type 0 where
   pub long : length counts ≡ i
   pub total : count ≡ instance_rows (take i rows)
@@ -101,7 +101,7 @@ sound_at numbers rows place row sound at = by rows place (recursion_from_All (Is
   by (r ∷ rows) zero all at = subst (IsSound numbers) (sym (same_Some row r at)) all.0
   by (r ∷ rows) (suc place) all at = by rows place all.1 at
 
--- what is told of the row is told of what it stands for
+-- what is read of the row is read of what it stands for
 pub told_at : {A B : Type 0} (f : MemberRow → A) (g : A → B) (rows : List MemberRow) (place : ℕ) (row : MemberRow) (x : B) → Some row ≡ slice_get rows place → x ≡ g (f row) → Some x ≡ option_map g (slice_get (map f rows) place)
 told_at {A} f g rows place row x at is =
     ap Some is ∙ ap (λ (o : Option MemberRow). option_map g (option_map f o)) at ∙ ap (option_map g) (sym (slice_get-map f rows place))

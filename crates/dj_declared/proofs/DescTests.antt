@@ -11,12 +11,12 @@ use Rattle.dj_names.specs.declared.descriptor.Of.TheVariants as ofs
 use Rattle.dj_names.specs.declared.descriptor.Ty.{Ty}
 use Rattle.dj_names.specs.declared.descriptor.Desc.{Desc}
 use Rattle.dj_names.specs.declared.descriptor.Desc.TheVariants as descs
-use Rattle.dj_names.specs.Types.{Name, same_name, same_base, same_of, same_type, same_result, same_desc}
-use Rattle.dj_names.specs.Descriptors.{desc_text, base_letter, IsDesc, Describes}
-use Rattle.dj_names.specs.DescReading.{desc_read}
+use Rattle.dj_names.specs.trusted.Types.{Name, same_name, same_base, same_of, same_type, same_result, same_desc}
+use Rattle.dj_names.specs.trusted.Descriptors.{desc_text, base_letter, IsDesc, Describes}
+use Rattle.dj_names.specs.trusted.DescReading.{desc_read}
 use Rattle.dj_names.proofs.DescLaws.{desc_takes, desc_again}
-use Rattle.dj_model.specs.Types.{no_parameters}
-use Rattle.dj_declared.specs.Files.{desc_in}
+use Rattle.dj_model.specs.trusted.Types.{no_parameters}
+use Rattle.dj_declared.specs.trusted.Files.{desc_in}
 use Rattle.dj_declared.specs.Members.{IsDescriptor}
 
 -- ---- the tests of equality

@@ -7,17 +7,19 @@ use Rattle.dj_names.specs.declared.descriptor.Ty.{Ty}
 use Rattle.dj_names.specs.declared.descriptor.Desc.{Desc}
 use Rattle.dj_names.specs.declared.descriptor.Desc.TheVariants as descs
 use Rattle.dj_names.specs.declared.native.NativeId.TheVariants as natives
-use Rattle.dj_names.specs.DescReading.{dims_read, name_read, class_read, of_read, type_read, params_read, field_read, return_read, method_read, desc_read}
-use Rattle.dj_names.specs.NameReading.{reads_class_name}
-use Rattle.dj_names.specs.Library as named
-use Rattle.dj_names.specs.Types.{Name, class_type, array_type, base_type, base_array}
-use Rattle.dj_pool.specs.Pool.{Constant, Utf8, Class}
-use Rattle.dj_class.specs.ClassFile.{MemberInfo, ClassFile}
-use Rattle.dj_model.specs.Types.{no_parameters}
-use Rattle.dj_model.specs.Program.{Method, Body, Abstract, Native, Runs, method_in, field_in}
-use Rattle.dj_model.specs.Libraries.{library_class}
-use Rattle.dj_declared.specs.Files.{desc_in, type_in, no_code, is_bodiless, declared_class}
-use Rattle.dj_declared.specs.Members.{IsDescriptor, method_flags, field_flags, has_method_named}
+use Rattle.dj_names.specs.trusted.DescReading.{dims_read, name_read, class_read, of_read, type_read, params_read, field_read, return_read, method_read, desc_read}
+use Rattle.dj_names.specs.trusted.NameReading.{reads_class_name}
+use Rattle.dj_names.specs.trusted.Library as named
+use Rattle.dj_names.specs.Library as more_named
+use Rattle.dj_names.specs.trusted.Types.{Name, class_type, array_type, base_type, base_array}
+use Rattle.dj_pool.specs.trusted.Pool.{Constant, Utf8, Class}
+use Rattle.dj_class.specs.trusted.ClassFile.{MemberInfo, ClassFile}
+use Rattle.dj_model.specs.trusted.Types.{no_parameters}
+use Rattle.dj_model.specs.trusted.Program.{Method, Body, Abstract, Native, Runs, method_in, field_in}
+use Rattle.dj_model.specs.trusted.Libraries.{library_class}
+use Rattle.dj_declared.specs.trusted.Files.{desc_in, type_in, no_code, is_bodiless, declared_class}
+use Rattle.dj_declared.specs.trusted.Members.{has_method_named}
+use Rattle.dj_declared.specs.Members.{IsDescriptor, method_flags, field_flags}
 use Rattle.dj_declared.proofs.DescTests.{descriptor_read, read_descriptor}
 
 abbrev int : Ty
@@ -166,7 +168,7 @@ has-name = refl
 
 -- ---- a library's class
 
-stop : library_class (named.below_object named.stop_class []) ≡ record {
+stop : library_class (more_named.below_object named.stop_class []) ≡ record {
   name = codes "djvm/Stop";
   flags = 33;
   superclass = Some (codes "sandbox/java/lang/Object");
@@ -177,5 +179,5 @@ stop : library_class (named.below_object named.stop_class []) ≡ record {
 }
 stop = refl
 
-accounter-is-native : option_map (λ (m : Method). m.body) (slice_get (library_class (named.below_object named.accounter_class named.accounter_methods)).methods 0) ≡ Some (Native natives.RecordJump)
+accounter-is-native : option_map (λ (m : Method). m.body) (slice_get (library_class (more_named.below_object more_named.accounter_class more_named.accounter_methods)).methods 0) ≡ Some (Native natives.RecordJump)
 accounter-is-native = refl

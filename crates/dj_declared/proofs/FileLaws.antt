@@ -10,22 +10,22 @@ use Rattle.std.proofs.lemmas.Option.{slice_get_past, same_Some}
 use Rattle.std.proofs.lemmas.List.{take_more, length-set, get_or-set_same, get_or-set_other}
 use Rattle.std.proofs.lemmas.List.Elements.{All-from_recursion}
 use Rattle.dj_names.specs.declared.descriptor.Desc.TheVariants as descs
-use Rattle.dj_names.specs.Types.{Name}
-use Rattle.dj_names.specs.DescReading.{desc_read}
-use Rattle.dj_names.specs.Names.{IsUnqualifiedName, IsMethodName}
-use Rattle.dj_names.specs.Descriptors.{IsFieldDescriptor, IsMethodDescriptor}
-use Rattle.dj_pool.specs.Pool.{Constant, text_of, text_at}
+use Rattle.dj_names.specs.trusted.Types.{Name}
+use Rattle.dj_names.specs.trusted.DescReading.{desc_read}
+use Rattle.dj_names.specs.trusted.Names.{IsUnqualifiedName, IsMethodName}
+use Rattle.dj_names.specs.trusted.Descriptors.{IsFieldDescriptor, IsMethodDescriptor}
+use Rattle.dj_pool.specs.trusted.Pool.{Constant, text_of, text_at}
 use Rattle.dj_class.specs.declared.class.MemberView.{MemberView}
 use Rattle.dj_class.specs.Members.{member_of}
-use Rattle.dj_class.specs.ClassFile.{MemberInfo, IsMember, IsField, IsMethod}
-use Rattle.dj_model.specs.Program.{Abstract, Runs, has_flag}
+use Rattle.dj_class.specs.trusted.ClassFile.{MemberInfo, IsMember, IsField, IsMethod}
+use Rattle.dj_model.specs.trusted.Program.{Abstract, Runs, has_flag}
 use Rattle.dj_declared.specs.declared.members.MemberBody.{MemberBody}
 use Rattle.dj_declared.specs.declared.members.MemberBody.TheVariants as bodies
 use Rattle.dj_declared.specs.declared.members.MemberRow.{MemberRow}
-use Rattle.dj_declared.specs.Files.{desc_in, name_in, no_code, is_bodiless, declared_method, declared_field}
+use Rattle.dj_declared.specs.trusted.Files.{desc_in, name_in, no_code, is_bodiless, declared_method, declared_field}
 use Rattle.dj_declared.specs.Members.{IsDescriptor}
 use Rattle.dj_declared.specs.Texts.{Numbers, number_in, text_in, Keep}
-use Rattle.dj_declared.specs.Rows.{body_of, row_method, row_field, IsSound, AreSound, number_at, AreNumbered, IsNamed, AreNamed, kept_body, method_row_of, field_row_of}
+use Rattle.dj_declared.specs.MemberRows.{body_of, row_method, row_field, IsSound, AreSound, number_at, AreNumbered, IsNamed, AreNamed, kept_body, method_row_of, field_row_of}
 use Rattle.dj_declared.proofs.DescTests.{is_descriptor, read_descriptor}
 use Rattle.dj_declared.proofs.TextLaws.{leads_back}
 

@@ -5,17 +5,17 @@ use Rattle.std.specs.Option.{is_some}
 use Rattle.std.proofs.lemmas.List.{take_more}
 use Rattle.std.proofs.lemmas.List.Elements.{recursion_from_All, All-from_recursion}
 use Rattle.dj_names.specs.declared.native.NativeId.{NativeId}
-use Rattle.dj_names.specs.Types.{Name}
-use Rattle.dj_names.specs.Descriptors.{desc_text, IsDesc, Describes}
-use Rattle.dj_names.specs.DescReading.{desc_read}
+use Rattle.dj_names.specs.trusted.Types.{Name}
+use Rattle.dj_names.specs.trusted.Descriptors.{desc_text, IsDesc, Describes}
+use Rattle.dj_names.specs.trusted.DescReading.{desc_read}
 use Rattle.dj_natives.specs.declared.library.LibMethod.{LibMethod}
 use Rattle.dj_natives.specs.Views.{library_method_view}
-use Rattle.dj_model.specs.Program.{Method}
-use Rattle.dj_model.specs.Libraries.{library_body, library_method}
+use Rattle.dj_model.specs.trusted.Program.{Method}
+use Rattle.dj_model.specs.trusted.Libraries.{library_body, library_method}
 use Rattle.dj_declared.specs.declared.members.MemberRow.{MemberRow}
-use Rattle.dj_declared.specs.Files.{desc_in}
+use Rattle.dj_declared.specs.trusted.Files.{desc_in}
 use Rattle.dj_declared.specs.Texts.{Numbers, number_in, text_in}
-use Rattle.dj_declared.specs.Rows.{body_of, row_method, IsSound, AreSound, IsRowOf, AreRowsOf, native_body}
+use Rattle.dj_declared.specs.MemberRows.{body_of, row_method, IsSound, AreSound, IsRowOf, AreRowsOf, native_body}
 use Rattle.dj_declared.proofs.TextLaws.{leads_back}
 use Rattle.dj_declared.proofs.DescTests.{desc_in_text, is_descriptor, read_descriptor}
 

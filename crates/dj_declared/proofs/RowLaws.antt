@@ -10,7 +10,7 @@ use Rattle.std.proofs.lemmas.List.Sorted.{All-permutation, Contains-permutation,
 use Rattle.std.proofs.lemmas.Option.{same_Some, get_or_from_slice_get, slice_get_read, slice_get_past}
 use Rattle.std.proofs.Math.Seq.{get_or-append_seam}
 use Rattle.dj_declared.specs.declared.members.MemberRow.{MemberRow}
-use Rattle.dj_declared.specs.Rows.{is_row, first_row, pair_of, key_by, key_at, IsAnswer, AreCounted, AreOrdered}
+use Rattle.dj_declared.specs.MemberRows.{is_row, first_row, pair_of, key_by, key_at, IsAnswer, AreCounted, AreOrdered}
 
 abbrev later : ℕ → ℕ
 later place = place + 1
@@ -125,7 +125,7 @@ module _ (rows : List MemberRow) (order : List ℕ) (ordered : AreOrdered rows o
         let above : target ≤ key_at rows place = omega (arith, below, here) in
         other_pair (omega (arith, le, key, few, lt, place_lt, above)))))))
 
--- what is told of the row at the point
+-- the answer from the row at the point is right
 pub answer_is : (rows : List MemberRow) (order : List ℕ) (name desc i place : ℕ) (result : Option ℕ) → AreOrdered rows order
     → IsPartitionPoint (λ k. ltb (key_at rows k) (pair_of name desc * 65536) ≡ true) (λ k. ltb (key_at rows k) (pair_of name desc * 65536) ≡ false) order i
     → i < length order → place ≡ get_or order i place → IsAnswer rows place name desc result → result ≡ first_row name desc rows
@@ -145,7 +145,7 @@ none_past rows order name desc i ordered point past = past_all rows order ordere
 pub place_within : (rows : List MemberRow) (order : List ℕ) (i place : ℕ) → AreOrdered rows order → i < length order → place ≡ get_or order i place → place < length rows
 place_within rows order i place ordered within at_place = subst (λ (k : ℕ). k < length rows) (sym at_place) (ordered.within i place within)
 
--- what a comparison of two pairs tells
+-- what a comparison of two pairs shows
 pub such_row : (rows : List MemberRow) (place name desc : ℕ) (row found : MemberRow) → place < length rows → row ≡ get_or rows place row → row.desc < 65536 → desc < 65536 → pair_of row.name row.desc ≡ pair_of name desc → slice_get rows place ≡ Some found → is_row name desc found ≡ true
 such_row rows place name desc row found lt is row_desc few_desc same at =
     let own : row ≡ found = is ∙ get_or_from_slice_get rows place found row at in

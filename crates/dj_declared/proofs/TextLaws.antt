@@ -12,7 +12,7 @@ use Rattle.std.proofs.lemmas.Cmp.{nat_list_cmp_total, tied_itself}
 use Rattle.std.proofs.lemmas.List.{length_push, length-drop, get_or_append_left, get_or_default, length-append, take_all, take-append-le, drop-append-le}
 use Rattle.std.proofs.lemmas.Option.{same_Some, none-some}
 use Rattle.std.proofs.Math.Seq.{get_or-append_seam, drop-append_seam}
-use Rattle.dj_names.specs.Types.{Name, same_name}
+use Rattle.dj_names.specs.trusted.Types.{Name, same_name}
 use Rattle.dj_declared.specs.Texts.{Numbers, number_in, text_in, LeadBack, Keep, AreAscending, AreBefore, texts_from, AreEnds, start_at}
 use Rattle.dj_declared.proofs.DescTests.{same_name_is, same_name_itself}
 
@@ -183,7 +183,7 @@ module _ (texts : Numbers) (more : Name) (before : AreBefore texts more) where
       (λ place lt. ap (λ (t : Name). same_name t more) (old_text place lt) ∙ less_differs (text_in texts place) more (before place lt))
       (same_name_itself (text_in (texts ++ more ∷ []) (length texts)) more new_text)
 
--- what is told of the texts with one more
+-- what holds of the texts with one more
 pub ascend_more : (texts new : Numbers) (more : Name) → AreBefore texts more → new ≡ texts ++ more ∷ [] → AreAscending texts → AreAscending new
 ascend_more texts new more before added ascend = subst AreAscending (sym added) (ascend_push texts more before ascend)
 
@@ -208,7 +208,7 @@ text_there start (end ∷ ends) bytes zero lt = refl
 text_there start (end ∷ ends) bytes (suc zero) lt = text_there end ends bytes zero (omega (arith, lt))
 text_there start (end ∷ ends) bytes (suc (suc place)) lt = text_there end ends bytes (suc place) (omega (arith, lt))
 
--- from a place on each text ends where it begins or later, and the last one at the end of so many bytes
+-- from a place on each text ends where it begins or later, and the last one at the end of this many bytes
 abbrev IsRun : ℕ → List ℕ → ℕ → Type 0
 IsRun start [] long = start ≡ long
 IsRun start (end ∷ ends) long = (start ≤ end) × IsRun end ends long

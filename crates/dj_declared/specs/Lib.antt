@@ -1,7 +1,8 @@
 pub mod Files
 pub mod Members
 pub mod Texts
-pub mod Rows
+pub mod MemberRows
 pub mod Tables
 pub mod Lists
 pub mod Named
+pub mod trusted

@@ -1,8 +1,8 @@
--- The code's own: the names that a class lists, by their places among names that are kept.
+-- Used by the code alone: the names that a class lists, by their places among names that are kept.
 use Rattle.std.specs.Prelude.{◌≡◌, ℕ, ◌+◌, List, [], map, length, Option, Some, None, get_or, slice_get}
 use Rattle.std.specs.Option.{option_map}
-use Rattle.dj_names.specs.Types.{Name}
-use Rattle.dj_pool.specs.Pool.{Constant, text_at}
+use Rattle.dj_names.specs.trusted.Types.{Name}
+use Rattle.dj_pool.specs.trusted.Pool.{Constant, text_at}
 
 -- the names at these places
 abbrev pub listed_at : List Name → List ℕ → List Name
@@ -16,7 +16,7 @@ AreListed names places listed = map (slice_get names) places ≡ map Some listed
 abbrev pub Keep : List Name → List Name → Type 0
 Keep old new = (place : ℕ) (name : Name) → slice_get old place ≡ Some name → slice_get new place ≡ Some name
 
--- there is a room for each index of the pool, and the text of an index stands at the place that is told for it
+-- each index of the pool has a room, and the text at an index is at the place that is kept for it
 pub record AreCopies (pool : List Constant) (names : List Name) (places : List (Option ℕ)) : Type 0 where
   pub rooms : length places ≡ length pool + 1
   pub told : (index place : ℕ) → get_or places index None ≡ Some place → option_map Some (text_at pool index) ≡ Some (slice_get names place)

@@ -1,14 +1,13 @@
 -- Members of classes by their places, and by texts.
 use Rattle.std.specs.Prelude.{ℕ, ◌+◌, Bool, List, [], ◌∷◌, Option, Some, None, if◌then◌else◌}
-use Rattle.std.specs.List.{list_any}
 use Rattle.std.specs.Option.{option_map}
 use Rattle.dj_names.specs.declared.descriptor.Desc.{Desc}
 use Rattle.dj_names.specs.declared.native.NativeId.{NativeId}
-use Rattle.dj_names.specs.Types.{Name, same_name}
-use Rattle.dj_names.specs.Descriptors.{Describes}
-use Rattle.dj_model.specs.Program.{Method, Field, Body, Native, is_named}
-use Rattle.dj_model.specs.Linking.{has_body}
-use Rattle.dj_declared.specs.Files.{desc_in}
+use Rattle.dj_names.specs.trusted.Types.{Name}
+use Rattle.dj_names.specs.trusted.Descriptors.{Describes}
+use Rattle.dj_model.specs.trusted.Program.{Method, Field, Body, Native, is_named}
+use Rattle.dj_model.specs.trusted.Linking.{has_body}
+use Rattle.dj_declared.specs.trusted.Files.{desc_in}
 
 -- the text is a descriptor
 abbrev pub IsDescriptor : List ℕ → Type 0
@@ -27,7 +26,7 @@ abbrev pub native_in : Body → Option NativeId
 native_in (Native id) = Some id
 native_in body = None
 
--- what a native method of the library is; none of a method that has code, or neither
+-- which native method of the library this is; none for a method that has code or is abstract
 abbrev pub method_native : Method → Option NativeId
 method_native m = native_in m.body
 
@@ -36,10 +35,6 @@ field_name f = f.name
 
 abbrev pub field_flags : Field → ℕ
 field_flags f = f.flags
-
--- one of the methods has this name
-abbrev pub has_method_named : List Method → Name → Bool
-has_method_named methods name = list_any (λ m. same_name m.name name) methods
 
 -- ---- places of members
 

@@ -1,9 +1,9 @@
 -- Members of a class, and the texts that name them, by numbers: the number of a text is its place.
 use Rattle.std.specs.Prelude.{◌≡◌, ℕ, ◌<◌, List, length}
 use Rattle.dj_names.specs.declared.descriptor.Desc.{Desc}
-use Rattle.dj_names.specs.Types.{Name}
-use Rattle.dj_names.specs.Descriptors.{Describes}
-use Rattle.dj_model.specs.Program.{Method, Field}
+use Rattle.dj_names.specs.trusted.Types.{Name}
+use Rattle.dj_names.specs.trusted.Descriptors.{Describes}
+use Rattle.dj_model.specs.trusted.Program.{Method, Field}
 use Rattle.dj_declared.specs.Texts.{text_in}
 
 pub record NamedMembers : Type 0 where

@@ -1,10 +1,10 @@
--- The code's own: the texts of a class, each once and in ascending order, so that the number of a text is its place.
+-- Used by the code alone: the texts of a class, each once and in ascending order, so that the number of a text is its place.
 use Rattle.std.specs.Prelude.{◌≡◌, ℕ, zero, suc, ◌+◌, ◌-◌, ◌<◌, ◌≤◌, List, [], ◌∷◌, Option, Some, None, get_or, length, take, drop, if◌then◌else◌}
 use Rattle.std.specs.Option.{option_map}
 use Rattle.std.specs.Ordering.{nat_cmp}
 use Rattle.std.specs.declared.cmp.Ordering.TheVariants.{Less}
 use Rattle.std.specs.Cmp.Lexicographic.{slice_cmp}
-use Rattle.dj_names.specs.Types.{Name, same_name}
+use Rattle.dj_names.specs.trusted.Types.{Name, same_name}
 
 abbrev pub Numbers : Type 0
 Numbers = List Name

@@ -1,14 +1,16 @@
 ghost use Rattle.std.specs.Prelude.{◌≡◌, ◌<◌, false, length, map, Some, is_some, IfSome, IfOk, All, slice_get};
 ghost use Rattle.std.specs.Option.{option_map};
-ghost use Rattle.dj_names.specs.Descriptors.{IsDesc, Describes};
-ghost use Rattle.dj_class.specs.ClassFile.{IsValid};
+ghost use Rattle.dj_names.specs.trusted.Descriptors.{IsDesc, Describes};
+ghost use Rattle.dj_class.specs.trusted.ClassFile.{IsValid};
 ghost use Rattle.dj_class.specs.Views.{class_of};
 ghost use Rattle.dj_natives.specs.Views.{library_class_view};
-ghost use Rattle.dj_model.specs.Program.{method_in, field_in};
-ghost use Rattle.dj_model.specs.Linking.{count_fields, fields_before};
-ghost use Rattle.dj_model.specs.Libraries.{library_class};
-ghost use Rattle.dj_declared.specs.Files.{desc_in, bare_class, declared_class};
-ghost use Rattle.dj_declared.specs.Members.{IsDescriptor, method_flags, method_name, method_has_body, method_native, field_flags, field_name, has_method_named, method_place, field_place};
+ghost use Rattle.dj_model.specs.trusted.Program.{method_in, field_in};
+ghost use Rattle.dj_model.specs.trusted.Linking.{count_fields, fields_before};
+ghost use Rattle.dj_model.specs.trusted.Libraries.{library_class};
+ghost use Rattle.dj_declared.specs.trusted.Files.{desc_in, declared_class};
+ghost use Rattle.dj_declared.specs.Files.{bare_class};
+ghost use Rattle.dj_declared.specs.trusted.Members.{has_method_named};
+ghost use Rattle.dj_declared.specs.Members.{IsDescriptor, method_flags, method_name, method_has_body, method_native, field_flags, field_name, method_place, field_place};
 
 use crate::error::DeclareError;
 use crate::file::file_members;
@@ -35,7 +37,7 @@ pub struct DeclaredClass {
 }
 
 impl Model for DeclaredClass {
-    ghost use Rattle.dj_model.specs.Program.{Class};
+    ghost use Rattle.dj_model.specs.trusted.Program.{Class};
     ghost use Rattle.dj_declared.specs.Lists.{listed_at};
     ghost use Rattle.dj_declared.specs.Tables.{methods_of, fields_of};
 
@@ -53,7 +55,7 @@ impl Model for DeclaredClass {
 }
 
 /// The class that a class file declares.
-#[tactic(auto, unfolding(crate::specs::Files::declared_class))]
+#[tactic(auto, unfolding(crate::specs::trusted::Files::declared_class))]
 pub fn declare_file(alloc: Global, view: &ClassView<'_>) -> Result<DeclaredClass, DeclareError>
     requires { IsValid (class_of view.now) }
     ensures { IfOk result (λ class. class ≡ declared_class (class_of view.now)) }
@@ -259,7 +261,7 @@ impl DeclaredClass {
         self.members.instance_fields()
     }
 
-    /// How many instance fields stand before the first field that has the name and the descriptor of the one at a place.
+    /// How many instance fields come before the first field that has the name and the descriptor of the one at a place.
     pub fn instance_fields_before(&self, place: u32) -> u32
         requires { place < length self.now.fields }
         ensures { IfSome (slice_get self.now.fields place) (λ f. result ≡ fields_before false f.name f.desc self.now.fields) }

@@ -1,11 +1,11 @@
 //! The members of a class file.
 ghost use Rattle.std.specs.Prelude.{◌≡◌, ◌+◌, ◌<◌, ◌^◌, Some, None, IfOk, OnOk, get_or, length, map};
-ghost use Rattle.dj_pool.specs.Pool.{text_at};
-ghost use Rattle.dj_class.specs.ClassFile.{IsValid};
+ghost use Rattle.dj_pool.specs.trusted.Pool.{text_at};
+ghost use Rattle.dj_class.specs.trusted.ClassFile.{IsValid};
 ghost use Rattle.dj_class.specs.Members.{member_of};
 ghost use Rattle.dj_class.specs.Views.{class_of};
-ghost use Rattle.dj_declared.specs.Files.{declared_method, declared_field};
-ghost use Rattle.dj_declared.specs.Rows.{AreNumbered, IsNamed, AreNamed, kept_body, member_row_of, method_row_of, field_row_of};
+ghost use Rattle.dj_declared.specs.trusted.Files.{declared_method, declared_field};
+ghost use Rattle.dj_declared.specs.MemberRows.{AreNumbered, IsNamed, AreNamed, kept_body, member_row_of, method_row_of, field_row_of};
 ghost use Rattle.dj_declared.specs.Tables.{AreMembers};
 
 use crate::error::DeclareError;
@@ -104,7 +104,7 @@ fn put_number_if(
     }
 }
 
-// The numbers of texts in ascending order, by index. Of equal texts, which stand next to each other, one is kept.
+// The numbers of texts in ascending order, by index. Of equal texts, which are next to each other, one is kept.
 fn number_texts(
     alloc: Global,
     table: &mut TextTable,

@@ -1,6 +1,6 @@
 //! The names of a class and of its superclass.
 ghost use Rattle.std.specs.Prelude.{◌≡◌, [], IfOk, unwrap_or};
-ghost use Rattle.dj_pool.specs.Pool.{class_name_at};
+ghost use Rattle.dj_pool.specs.trusted.Pool.{class_name_at};
 
 use crate::error::DeclareError;
 use dj_names::Name;

@@ -1,10 +1,10 @@
 //! The members of a class of a library.
 ghost use Rattle.std.specs.Prelude.{◌≡◌, [], All, Some, IfOk, map};
-ghost use Rattle.dj_names.specs.Descriptors.{IsDesc};
+ghost use Rattle.dj_names.specs.trusted.Descriptors.{IsDesc};
 ghost use Rattle.dj_natives.specs.Views.{library_method_view};
-ghost use Rattle.dj_model.specs.Libraries.{library_method};
+ghost use Rattle.dj_model.specs.trusted.Libraries.{library_method};
 ghost use Rattle.dj_declared.specs.Texts.{number_in};
-ghost use Rattle.dj_declared.specs.Rows.{native_body, IsRowOf, AreRowsOf};
+ghost use Rattle.dj_declared.specs.MemberRows.{native_body, IsRowOf, AreRowsOf};
 ghost use Rattle.dj_declared.specs.Tables.{AreMembers};
 
 use crate::error::DeclareError;

@@ -2,8 +2,8 @@
 ghost use Rattle.std.specs.Prelude.{◌≡◌, ◌∷◌, ◌++◌, ◌<◌, [], None, Some, IfOk, OnOk, get_or, length, map, option_and_then, slice_get};
 ghost use Rattle.std.specs.List.{flat_map};
 ghost use Rattle.std.specs.Option.{option_map};
-ghost use Rattle.dj_pool.specs.Pool.{class_name_at, class_text_of, constant_at, text_at};
-ghost use Rattle.dj_check.specs.Heads.{names_in};
+ghost use Rattle.dj_pool.specs.trusted.Pool.{class_name_at, class_text_of, constant_at, text_at};
+ghost use Rattle.dj_check.specs.trusted.Heads.{names_in};
 ghost use Rattle.dj_declared.specs.Lists.{listed_at, AreListed, Keep, AreCopies};
 
 use crate::error::DeclareError;
@@ -27,7 +27,7 @@ struct Copies {
     places: Vec<Option<u32>>,
 }
 
-// Appends a copy of a name, and tells its place.
+// Appends a copy of a name, and returns its place.
 fn add_name(alloc: Global, names: &mut Names, name: &[u8]) -> Result<u32, DeclareError>
     ensures added { OnOk result (names.new ≡ names.old ++ name.now ∷ []) }
     ensures place { IfOk result (λ place. place ≡ length names.old) }
@@ -73,7 +73,7 @@ fn place_of(copies: &Copies, index: u16) -> Option<u32>
     }
 }
 
-// Copies the text of an index, and tells the copy's place.
+// Copies the text at an index, and returns the copy's place.
 fn add_copy(
     alloc: Global,
     copies: &mut Copies,

@@ -3,7 +3,7 @@ ghost use Rattle.std.specs.Prelude.{◌≡◌, ◌+◌, ◌*◌, ◌<◌, ◌≤
 ghost use Rattle.std.specs.List.{list_any};
 ghost use Rattle.std.specs.List.Sorted.{IsPartitionPoint};
 ghost use Rattle.std.specs.Option.{option_map};
-ghost use Rattle.dj_declared.specs.Rows.{first_row, place_named, AreCounts, AreOrdered, AreCounted, pair_of, key_at, IsAnswer};
+ghost use Rattle.dj_declared.specs.MemberRows.{first_row, place_named, AreCounts, AreOrdered, AreCounted, pair_of, key_at, IsAnswer};
 
 use crate::error::DeclareError;
 use crate::texts::TextTable;
@@ -62,7 +62,7 @@ fn key_at(rows: &[MemberRow], place: u16) -> u64
     pair_of(row.name, row.desc) * 0x1_0000 + place as u64
 }
 
-// So many places, in order.
+// This many places, in order.
 fn places_below(alloc: Global, count: usize) -> Result<Vec<u16>, DeclareError>
     ensures { IfOk result (λ places. AreCounted count places.items) }
 {
@@ -121,7 +121,7 @@ fn first_of(rows: &[MemberRow], order: &[u16], name: u16, desc: u16) -> Option<u
     place_if(rows, order[at], name, desc)
 }
 
-// How many rows that aren't static stand before each place, and before the end.
+// How many rows that aren't static come before each place, and before the end.
 fn instance_counts_of(alloc: Global, rows: &[MemberRow]) -> Result<Vec<u32>, DeclareError>
     ensures { IfOk result (λ counts. AreCounts rows.now counts.items) }
 {
@@ -180,7 +180,7 @@ impl MemberTable {
         self.rows[place as usize]
     }
 
-    /// How many members that aren't static stand before each place, and before the end.
+    /// How many members that aren't static come before each place, and before the end.
     pub(crate) fn instance_counts(&self, alloc: Global) -> Result<Vec<u32>, DeclareError>
         ensures { IfOk result (λ counts. AreCounts self.now.rows.items counts.items) }
     {

@@ -1,7 +1,7 @@
 //! Descriptors as texts (JVMS 4.3).
 ghost use Rattle.std.specs.Prelude.{◌≡◌, ◌++◌, IfOk, OnOk, replicate};
 ghost use Rattle.std.specs.List.{flat_map};
-ghost use Rattle.dj_names.specs.Descriptors.{base_letter, of_text, type_text, return_text, desc_text};
+ghost use Rattle.dj_names.specs.trusted.Descriptors.{base_letter, of_text, type_text, return_text, desc_text};
 
 use dj_names::{Base, Desc, Name, NoMemory, Of, Ty};
 use std::alloc::Global;
@@ -36,7 +36,7 @@ fn put_of(text: &mut Name, of: &Of) -> Result<(), NoMemory>
     }
 }
 
-// Appends so many brackets.
+// Appends this many brackets.
 fn put_brackets(text: &mut Name, dims: u8) -> Result<(), NoMemory>
     ensures { OnOk result (text.new ≡ text.old ++ replicate dims 91) }
 {

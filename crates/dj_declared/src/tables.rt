@@ -1,5 +1,5 @@
 //! The members of a class, with the texts that name them.
-ghost use Rattle.dj_declared.specs.Rows.{AreSound, AreCounts};
+ghost use Rattle.dj_declared.specs.MemberRows.{AreSound, AreCounts};
 
 use crate::members::{MemberBody, MemberTable};
 use crate::texts::TextTable;
@@ -11,7 +11,7 @@ pub(crate) struct ClassMembers {
     pub(crate) texts: TextTable,
     pub(crate) fields: MemberTable,
     pub(crate) methods: MemberTable,
-    // How many instance fields stand before each place, and before the end.
+    // How many instance fields come before each place, and before the end.
     pub(crate) counts: Vec<u32>,
     ghost sound: { AreSound texts fields.rows.items methods.rows.items },
     ghost counted: { AreCounts fields.rows.items counts.items },
@@ -20,11 +20,12 @@ pub(crate) struct ClassMembers {
 impl ClassMembers {
     ghost use Rattle.std.specs.Prelude.{◌≡◌, ◌<◌, false, length, Some, is_some, IfSome, slice_get};
     ghost use Rattle.std.specs.Option.{option_map};
-    ghost use Rattle.dj_names.specs.Descriptors.{Describes};
-    ghost use Rattle.dj_model.specs.Program.{method_in, field_in};
-    ghost use Rattle.dj_model.specs.Linking.{count_fields, fields_before};
-    ghost use Rattle.dj_declared.specs.Files.{desc_in};
-    ghost use Rattle.dj_declared.specs.Members.{IsDescriptor, method_flags, method_name, method_has_body, method_native, field_flags, field_name, has_method_named, method_place, field_place};
+    ghost use Rattle.dj_names.specs.trusted.Descriptors.{Describes};
+    ghost use Rattle.dj_model.specs.trusted.Program.{method_in, field_in};
+    ghost use Rattle.dj_model.specs.trusted.Linking.{count_fields, fields_before};
+    ghost use Rattle.dj_declared.specs.trusted.Files.{desc_in};
+    ghost use Rattle.dj_declared.specs.trusted.Members.{has_method_named};
+    ghost use Rattle.dj_declared.specs.Members.{IsDescriptor, method_flags, method_name, method_has_body, method_native, field_flags, field_name, method_place, field_place};
     ghost use Rattle.dj_declared.specs.Named.{IsNamedBy};
     ghost use Rattle.dj_declared.specs.Tables.{methods_of, fields_of};
 
@@ -172,7 +173,7 @@ impl ClassMembers {
         self.counts[self.fields.count()]
     }
 
-    /// How many instance fields stand before the first field that has the name and the descriptor of the one at a place.
+    /// How many instance fields come before the first field that has the name and the descriptor of the one at a place.
     pub(crate) fn instance_fields_before(&self, place: u32) -> u32
         requires { place < length (fields_of self.now) }
         ensures { IfSome (slice_get (fields_of self.now) place) (λ f. result ≡ fields_before false f.name f.desc (fields_of self.now)) }

@@ -9,7 +9,7 @@ use std::alloc::Global;
 use std::cmp::Ordering;
 use std::marker::Model;
 
-/// The texts of a class, each once, in ascending order: the number of a text is its place. They stand in one list of bytes, and of
+/// The texts of a class, each once, in ascending order: the number of a text is its place. They are in one list of bytes, and of
 /// each one the place is kept where it ends.
 #[derive(Drop)]
 pub(crate) struct TextTable {
@@ -104,7 +104,7 @@ fn last_place(bytes: &[u8], ends: &[u32], text: &[u8]) -> Result<Option<u16>, De
     }
 }
 
-// Where so many bytes more end.
+// Where this many bytes more end.
 fn end_of(start: usize, more: usize) -> Option<u32>
     ensures { IfSome result (λ end. end ≡ start + more) }
 {
@@ -135,7 +135,7 @@ fn push_text(bytes: &mut Vec<u8>, ends: &mut Vec<u32>, text: &[u8]) -> Result<()
 }
 
 impl TextTable {
-    /// No texts, with room for so many of so many bytes.
+    /// No texts, with room for this many of this many bytes.
     pub(crate) fn with_room(
         alloc: Global,
         texts: usize,

@@ -1,21 +1,22 @@
--- What a call may take, and what it is told, by plain values, each with something that it is not: the classes A, B and C of SpanFacts.
-use Rattle.std.proofs.Common.{◌≡◌, ℕ, zero, suc, ◌+◌, ◌<◌, ◌≤◌, Bool, true, false, List, [], ◌∷◌, map, get_or, Contains, Option, Some, None, IfSome, codes, refl, sym, ap, subst, arith}
+-- What a call may take, and what the table answers it, by plain values, each with something that it is not: the classes A, B and C of SpanFacts.
+use Rattle.std.proofs.Common.{◌≡◌, ℕ, zero, suc, ◌+◌, ◌<◌, ◌≤◌, Bool, true, false, List, [], ◌∷◌, map, length, get_or, Contains, Option, Some, None, IfSome, codes, refl, sym, ap, subst, arith}
 use Rattle.std.specs.Prelude.{slice_get}
 use Rattle.std.specs.List.Sorted.{IsNonDecreasingBy}
 use Rattle.std.proofs.lemmas.Bool.{false≢true}
 use Rattle.std.proofs.lemmas.List.Sorted.{IsNonDecreasingBy-short}
 use Rattle.std.proofs.lemmas.Option.{none-some, same_Some}
-use Rattle.dj_model.specs.Types.{no_parameters}
-use Rattle.dj_model.specs.Program.{Program, Method}
-use Rattle.dj_model.specs.Linking.{is_plain, is_not_static}
+use Rattle.dj_model.specs.trusted.Types.{no_parameters}
+use Rattle.dj_model.specs.trusted.Program.{Program, Method}
+use Rattle.dj_model.specs.trusted.Linking.{is_plain, is_not_static}
+use Rattle.dj_declared.specs.Members.{method_place}
 use Rattle.dj_classes.specs.Tables.{methods_at, super_number}
 use Rattle.dj_directory.specs.declared.rows.MemberRow.{MemberRow}
 use Rattle.dj_directory.specs.declared.calls.CallTable.{CallTable}
 use Rattle.dj_directory.specs.declared.calls.Marked.{Marked}
 use Rattle.dj_directory.specs.Numberings.{ClassesDiffer}
-use Rattle.dj_directory.specs.Rows.{AreInOrder, AreFirst, Fits, IsSuch, StandFrom, Texts, key_of}
+use Rattle.dj_directory.specs.DirectoryRows.{AreInOrder, AreFirst, Fits, IsLeast, IsSuch, StandFrom, Texts, key_of}
 use Rattle.dj_directory.specs.Spans.{StartsFrom}
-use Rattle.dj_directory.specs.Calls.{takes, tests, passes, IsWhether, IsFirstOf, DeclareFirst, DeclareLike, DeclaresLike, IsNearestFirst, IsNearestLike, place_key, AreMarked, AreMethods, IsTakable, AreTakable, IsRowAt, IsCallTable}
+use Rattle.dj_directory.specs.Calls.{takes, tests, passes, IsWhether, IsFirstOf, DeclareFirst, DeclareLike, DeclaresLike, IsNearestFirst, IsNearestLike, place_key, AreMarked, AreMethods, IsTakable, AreTakable, IsFirstLike, IsPlaced, ArePlaces, AreFirsts, IsRowAt, IsCallTable}
 use Rattle.dj_directory.proofs.NumberLaws.{none_different}
 use Rattle.dj_directory.proofs.SpanFacts.{entered, left, method, program, row, rows}
 
@@ -111,7 +112,7 @@ b_left_out declared = declared.all 1 1 (omega arith) first_of_b (λ r there is. 
 c_let_in : DeclareFirst program is_plain (codes "m") no_parameters (row 7 8 2 0 ∷ []) → ⊥
 c_let_in declared = none_of_c 0 (declared.each (row 7 8 2 0) (0, omega arith, refl))
 
--- the same of the method at a place
+-- the same for the method at a place
 declare_like : DeclareLike program is_plain 1 1 rows
 declare_like m at = subst (λ (x : Method). DeclareFirst program is_plain x.name x.desc rows) (same_Some (method 1 (codes "m")) m at) declare
 
@@ -203,6 +204,88 @@ row_at = record { within = (1, omega arith, refl); class_is = refl; place_is = r
 
 other_place : IsRowAt rows 1 0 (row 7 8 1 1) → ⊥
 other_place is = let e : 1 ≡ 0 = is.place_is in absurd (omega (arith, e))
+
+placed : IsPlaced rows 1 1 1
+placed = record { within = omega arith; class_is = refl; place_is = refl }
+
+placed_past : IsPlaced rows 0 0 2 → ⊥
+placed_past is = let lt = is.within in absurd (omega (arith, lt))
+
+placed_in_another : IsPlaced rows 0 1 1 → ⊥
+placed_in_another is = let e : 1 ≡ 0 = is.class_is in absurd (omega (arith, e))
+
+placed_elsewhere : IsPlaced rows 1 0 1 → ⊥
+placed_elsewhere is = let e : 1 ≡ 0 = is.place_is in absurd (omega (arith, e))
+
+none_placed : ArePlaces []
+none_placed = record { fit = λ i d lt. absurd (omega (arith, lt)); ascend = IsNonDecreasingBy-short place_key [] (omega arith) }
+
+one_placed : ArePlaces only_a
+one_placed = record {
+  fit = λ i d lt. one_fits i d lt;
+  ascend = IsNonDecreasingBy-short place_key only_a (omega arith);
+} where
+  one_fits : (i : ℕ) (d : MemberRow) → i < 1 → Fits (get_or only_a i d)
+  one_fits zero d lt = record { desc = omega arith; class = omega arith; place = omega arith }
+  one_fits (suc i) d lt = absurd (omega (arith, lt))
+
+not_by_places : ArePlaces (row 7 8 0 1 ∷ row 7 8 0 0 ∷ []) → ⊥
+not_by_places are = let le = are.ascend 0 1 (row 0 0 0 0) (omega arith) (omega arith) in absurd (omega (arith, le))
+
+-- a number of more than 32 bits
+not_fitting : ArePlaces (row 7 8 0 4294967296 ∷ []) → ⊥
+not_fitting are = let lt = (are.fit 0 (row 0 0 0 0) (omega arith)).place in absurd (omega (arith, lt))
+
+-- the first method with the name and the descriptor of one of B: m stands at 1 and 2 there
+first_like : IsFirstLike program 1 1 1 × IsFirstLike program 1 2 1
+first_like = (
+  λ m at. ap (λ (x : Method). method_place (methods_at program 1) x.name x.desc) (sym (same_Some (method 1 (codes "m")) m at)),
+  λ m at. ap (λ (x : Method). method_place (methods_at program 1) x.name x.desc) (sym (same_Some (method 1 (codes "m")) m at)),
+)
+
+not_itself : IsFirstLike program 1 2 2 → ⊥
+not_itself like = let e : 1 ≡ 2 = same_Some 1 2 (like (method 1 (codes "m")) refl) in absurd (omega (arith, e))
+
+not_of_another_name : IsFirstLike program 1 1 0 → ⊥
+not_of_another_name like = let e : 1 ≡ 0 = same_Some 1 0 (like (method 1 (codes "m")) refl) in absurd (omega (arith, e))
+
+-- the least places of rows of the same class and numbers: those of the rows 0, 1 and 2 of a class
+abbrev three : List MemberRow
+three = row 7 8 0 0 ∷ row 7 8 0 1 ∷ row 7 9 0 2 ∷ []
+
+firsts : AreFirsts three three (0 ∷ 0 ∷ 2 ∷ [])
+firsts = record { long = refl; each = each } where
+  least : (r : MemberRow) → Contains three r → IsSuch 7 9 0 r → 2 ≤ r.place
+  least r there such = go there.0 there.1 there.2 where
+    go : (k : ℕ) → k < 3 → get_or three k r ≡ r → 2 ≤ r.place
+    go zero lt is = let desc : 8 ≡ r.desc = ap (λ (x : MemberRow). x.desc) is in let own = such.desc_is in absurd (omega (arith, desc, own))
+    go (suc zero) lt is = let desc : 8 ≡ r.desc = ap (λ (x : MemberRow). x.desc) is in let own = such.desc_is in absurd (omega (arith, desc, own))
+    go (suc (suc zero)) lt is = let place : 2 ≡ r.place = ap (λ (x : MemberRow). x.place) is in omega (arith, place)
+    go (suc (suc (suc k))) lt is = absurd (omega (arith, lt))
+
+  each : (at : ℕ) → at < 3 → IsLeast three (get_or three at (row 0 0 0 0)).name (get_or three at (row 0 0 0 0)).desc (get_or three at (row 0 0 0 0)).class (get_or (0 ∷ 0 ∷ 2 ∷ []) at 0)
+  each zero lt = record { row = row 7 8 0 0; within = (0, omega arith, refl); such = record { name_is = refl; desc_is = refl; class_is = refl }; place_is = refl; least = λ r there such. omega arith }
+  each (suc zero) lt = record { row = row 7 8 0 0; within = (0, omega arith, refl); such = record { name_is = refl; desc_is = refl; class_is = refl }; place_is = refl; least = λ r there such. omega arith }
+  each (suc (suc zero)) lt = record { row = row 7 9 0 2; within = (2, omega arith, refl); such = record { name_is = refl; desc_is = refl; class_is = refl }; place_is = refl; least = least }
+  each (suc (suc (suc at))) lt = absurd (omega (arith, lt))
+
+-- a later one isn't the first
+later_given : AreFirsts three three (0 ∷ 1 ∷ 2 ∷ []) → ⊥
+later_given are = let le = (are.each 1 (omega arith)).least (row 7 8 0 0) (0, omega arith, refl) (record { name_is = refl; desc_is = refl; class_is = refl }) in absurd (omega (arith, le))
+
+-- nor one of another descriptor
+other_given : AreFirsts three three (0 ∷ 0 ∷ 0 ∷ []) → ⊥
+other_given are =
+    let it = are.each 2 (omega arith) in
+    go it.row it.within.0 it.within.1 it.within.2 it.such it.place_is where
+      go : (r : MemberRow) (k : ℕ) → k < 3 → get_or three k r ≡ r → IsSuch 7 9 0 r → r.place ≡ 0 → ⊥
+      go r zero lt is such at = let desc : 8 ≡ r.desc = ap (λ (x : MemberRow). x.desc) is in let own = such.desc_is in absurd (omega (arith, desc, own))
+      go r (suc zero) lt is such at = let desc : 8 ≡ r.desc = ap (λ (x : MemberRow). x.desc) is in let own = such.desc_is in absurd (omega (arith, desc, own))
+      go r (suc (suc zero)) lt is such at = let place : 2 ≡ r.place = ap (λ (x : MemberRow). x.place) is in absurd (omega (arith, place, at))
+      go r (suc (suc (suc k))) lt is such at = absurd (omega (arith, lt))
+
+one_left_out : AreFirsts three three (0 ∷ 0 ∷ []) → ⊥
+one_left_out are = let e : 2 ≡ 3 = are.long in absurd (omega (arith, e))
 
 not_there : IsRowAt only_a 1 1 (row 7 8 1 1) → ⊥
 not_there is = let class : 0 ≡ 1 = ap (λ (x : MemberRow). x.class) (in_only_a (row 7 8 1 1) is.within) in absurd (omega (arith, class))
@@ -352,13 +435,14 @@ other_method are = let is = are.are.methods_are.each 0 (row 7 8 0 0) (omega arit
 none_taken : (test : Method → Bool) → AreTakable [] test [] []
 none_taken test = record { each = λ r there. absurd (none_there r there); all = λ r there is. there; order = none_in_order }
 
-no_calls : (texts : Texts) (calls : CallTable) → texts.entries ≡ [] → calls.places.items ≡ [] → calls.plain.items ≡ [] → calls.instance.items ≡ [] → calls.marked ≡ None → IsCallTable [] calls
-no_calls texts calls empty places_is plain_is instance_is marked_is = record {
+no_calls : (texts : Texts) (calls : CallTable) → texts.entries ≡ [] → calls.places.items ≡ [] → calls.firsts.items ≡ [] → calls.plain.items ≡ [] → calls.instance.items ≡ [] → calls.marked ≡ None → IsCallTable [] calls
+no_calls texts calls empty places_is firsts_is plain_is instance_is marked_is = record {
   rows = [];
   methods = no_methods texts empty;
   places = λ r there. subst (λ (rs : List MemberRow). Contains rs r) places_is there;
   all_places = λ r there. absurd (none_there r there);
-  places_ascend = subst (IsNonDecreasingBy place_key) (sym places_is) (IsNonDecreasingBy-short place_key [] (omega arith));
+  ordered = subst ArePlaces (sym places_is) none_placed;
+  firsts_are = subst (λ (rs : List MemberRow). AreFirsts [] rs calls.firsts.items) (sym places_is) (record { long = ap length firsts_is; each = λ at lt. absurd (omega (arith, lt)) });
   plain = subst (AreTakable [] is_plain []) (sym plain_is) (none_taken is_plain);
   instance = subst (AreTakable [] is_not_static []) (sym instance_is) (none_taken is_not_static);
   marked = subst (λ (o : Option Marked). IfSome o (AreMarked [] calls.plain.items calls.instance.items)) (sym marked_is) tt;
@@ -372,4 +456,4 @@ lost_place calls none is =
 
 -- places of a class after those of a later one
 out_of_order : (p : Program) (calls : CallTable) → calls.places.items ≡ row 7 8 1 1 ∷ row 7 8 0 0 ∷ [] → IsCallTable p calls → ⊥
-out_of_order p calls are is = let le = subst (IsNonDecreasingBy place_key) are is.places_ascend 0 1 (row 0 0 0 0) (omega arith) (omega arith) in absurd (omega (arith, le))
+out_of_order p calls are is = let le = subst (IsNonDecreasingBy place_key) are is.ordered.ascend 0 1 (row 0 0 0 0) (omega arith) (omega arith) in absurd (omega (arith, le))

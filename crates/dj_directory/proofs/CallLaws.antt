@@ -1,32 +1,31 @@
 -- What calls look in: the rows of the methods that a call may take.
-use Rattle.std.proofs.Common.{◌≡◌, ℕ, zero, suc, ◌+◌, ◌<◌, ◌≤◌, ◌^◌, ◌&&◌, ◌⊎◌, Bool, true, false, not, nat_eq, bit_and, List, [], ◌∷◌, ◌++◌, length, get_or, All, Contains, Option, Some, None, IfSome, refl, sym, ap, ◌∙◌, subst, arith, inl, inr, if◌then◌else◌}
-use Rattle.std.specs.Prelude.{slice_get, map}
+use Rattle.std.proofs.Common.{◌≡◌, ℕ, zero, suc, ◌+◌, ◌<◌, ◌≤◌, ◌^◌, ◌&&◌, ◌⊎◌, Bool, true, false, not, ltb, nat_eq, bit_and, List, [], ◌∷◌, ◌++◌, length, get_or, All, Contains, Option, Some, None, IfSome, refl, sym, ap, ◌∙◌, subst, arith, inl, inr, if◌then◌else◌}
+use Rattle.std.specs.Prelude.{slice_get}
 use Rattle.std.specs.Option.{option_map}
-use Rattle.std.specs.List.Sorted.{IsPermutation, IsNonDecreasingBy}
-use Rattle.std.proofs.lemmas.Bool.{cases_lt, false≢true, eq-eqb, eqb-true}
+use Rattle.std.specs.List.Sorted.{IsPartitionPoint, IsPartitionedBy, IsPermutation, IsNonDecreasingBy}
+use Rattle.std.proofs.lemmas.Bool.{cases_lt, false≢true, eq-eqb, eqb-true, ltb-false, ltb-true}
 use Rattle.std.proofs.lemmas.Bool.Decides.{nat_tests}
-use Rattle.std.proofs.lemmas.List.{get_or_default, length-map}
+use Rattle.std.proofs.lemmas.List.{get_or_append_left, get_or_default, get_or_push, length-map, length_push}
 use Rattle.std.proofs.lemmas.List.Elements.{Contains-push, Contains-push_cases, Contains-append_left}
-use Rattle.std.proofs.lemmas.List.Sorted.{Contains-permutation, IsPermutation-sym}
+use Rattle.std.proofs.lemmas.List.Sorted.{Contains-permutation, IsPartitionedBy-ltb, IsPermutation-sym}
 use Rattle.std.proofs.lemmas.Nat.Bits.{and_pow, bit_at-lt}
 use Rattle.std.proofs.lemmas.Option.{same_Some, none-some, slice_get-map}
-use Rattle.dj_names.specs.Types.{Name}
-use Rattle.dj_names.specs.declared.descriptor.Desc.{Desc}
-use Rattle.dj_model.specs.Program.{Program, Method, is_private, is_static}
-use Rattle.dj_declared.specs.Files.{desc_in}
-use Rattle.dj_declared.specs.Members.{IsDescriptor, method_flags, method_place}
+use Rattle.dj_names.specs.trusted.Types.{Name}
+use Rattle.dj_model.specs.trusted.Program.{Program, Method, is_private, is_static}
+use Rattle.dj_declared.specs.trusted.Files.{desc_in}
+use Rattle.dj_declared.specs.Members.{method_flags, method_place}
 use Rattle.dj_declared.proofs.DescTests.{desc_in_is, is_descriptor}
 use Rattle.dj_classes.specs.Tables.{methods_at}
 use Rattle.dj_directory.specs.declared.rows.MemberRow.{MemberRow}
-use Rattle.dj_directory.specs.Rows.{Named, method_named, methods_named, Texts, number_in, key_of, Fits, AreInOrder, IsSuch, IsLeast, IsTold, IsRow, IsDirectory, AreRowsWith}
-use Rattle.dj_directory.specs.Calls.{takes, tests, passes, IsWhether, IsFirstOf, DeclareFirst, DeclareLike, DeclaresLike, AreMethods, IsTakable, AreTakable, AreMarked, IsNearestFirst, IsNearestLike, IsRowAt, IsCallTable}
+use Rattle.dj_directory.specs.DirectoryRows.{Named, method_named, methods_named, pair_of, row_at, number_in, key_of, Fits, AreInOrder, IsSuch, IsLeast, IsThere, IsTold, IsRow, AreRowsWith}
+use Rattle.dj_directory.specs.Calls.{takes, tests, passes, IsWhether, IsFirstOf, DeclareFirst, DeclareLike, DeclaresLike, AreMethods, IsTakable, AreTakable, AreMarked, IsFirstLike, IsNearestFirst, IsNearestLike, IsPlaced, ArePlaces, AreFirsts, place_key, IsRowAt, IsCallTable}
 use Rattle.dj_directory.specs.declared.calls.Marked.{Marked}
 use Rattle.dj_directory.specs.Spans.{AreMarks, AreNear, AreNearest, AreSpans, IsNearestIn, IsWithin, StartsFrom, class_in, end_in, mark_of, start_in}
 use Rattle.dj_directory.specs.declared.spans.Spans.{Spans}
 use Rattle.dj_directory.specs.declared.marks.Marks.{Marks}
 use Rattle.dj_directory.specs.declared.calls.CallTable.{CallTable}
 use Rattle.dj_directory.proofs.NumberLaws.{number_is}
-use Rattle.dj_directory.proofs.RowLaws.{fit_all}
+use Rattle.dj_directory.proofs.RowLaws.{firsts, fit_all, seconds}
 use Rattle.dj_directory.proofs.PlaceLaws.{first_method, inside, method_there, row_in}
 
 -- ---- flags
@@ -83,6 +82,9 @@ least_as rows name name2 desc desc2 class class2 place named described same leas
 pub not_first : (rows : List MemberRow) (row : MemberRow) → IsTold rows row.name row.desc row.class None → IsLeast rows row.name row.desc row.class row.place → ⊥
 not_first rows row none least = none least.row least.within least.such
 
+pub no_row : (rows : List MemberRow) (row : MemberRow) → IsTold rows row.name row.desc row.class None → Contains rows row → ⊥
+no_row rows row none there = none row there (record { name_is = refl; desc_is = refl; class_is = refl })
+
 pub first_or_not : (rows : List MemberRow) (row : MemberRow) (first : ℕ) → IsTold rows row.name row.desc row.class (Some first) → IsWhether (IsLeast rows row.name row.desc row.class row.place) (nat_eq first row.place)
 first_or_not rows row first told = go (nat_eq first row.place) refl where
   go : (b : Bool) → nat_eq first row.place ≡ b → IsWhether (IsLeast rows row.name row.desc row.class row.place) b
@@ -99,6 +101,92 @@ pub takable_by : (program : Program) (test : Method → Bool) (rows : List Membe
     → IsWhether (IsLeast rows row.name row.desc row.class row.place) b → IsWhether (IsTakable program test rows row) b
 takable_by program test rows row true passed first = record { first = first; passed = passed }
 takable_by program test rows row false passed other = λ takable. other takable.first
+
+-- ---- where rows stand
+
+pub parted_places : (rows : List MemberRow) (key : ℕ) → ArePlaces rows → IsPartitionedBy (λ row. ltb (place_key row) key) rows
+parted_places rows key ordered = IsPartitionedBy-ltb place_key rows key ordered.ascend
+
+abbrev nothing : MemberRow
+nothing = record { name = 0; desc = 0; class = 0; place = 0 }
+
+module _ (rows : List MemberRow) (class place i : ℕ) (class_fits : class < 4294967296) (place_fits : place < 4294967296) (ordered : ArePlaces rows)
+    (point : IsPartitionPoint (λ row. ltb (place_key row) (pair_of class place) ≡ true) (λ row. ltb (place_key row) (pair_of class place) ≡ false) rows i) where
+  key_at : (at : ℕ) → IsPlaced rows class place at → place_key (row_at rows at) ≡ pair_of class place
+  key_at at placed = ap (λ (k : ℕ). pair_of k (row_at rows at).place) placed.class_is ∙ ap (pair_of class) placed.place_is
+
+  after_point : (at : ℕ) → IsPlaced rows class place at → i ≤ at
+  after_point at placed = elim (cases_lt at i) [
+    | inl before ↦
+        (let low = ltb-true (place_key (row_at rows at)) (pair_of class place) (point.0 at nothing (omega arith) before) in
+        let key = key_at at placed in
+        absurd (omega (arith, low, key)))
+    | inr after ↦ after
+  ]
+
+  key_here : (at : ℕ) → IsPlaced rows class place at → place_key (row_at rows i) ≡ pair_of class place
+  key_here at placed =
+      let after = after_point at placed in
+      let within : i < length rows = (let lt = placed.within in omega (arith, after, lt)) in
+      let high = ltb-false (place_key (row_at rows i)) (pair_of class place) (point.1 i nothing (omega arith) within) in
+      let rise = ordered.ascend i at nothing after placed.within in
+      let key = key_at at placed in
+      omega (arith, high, rise, key)
+
+  -- where one is placed, the one at the point is
+  pub placed_here : (at : ℕ) → IsPlaced rows class place at → IsPlaced rows class place i
+  placed_here at placed =
+      let after = after_point at placed in
+      let within : i < length rows = (let lt = placed.within in omega (arith, after, lt)) in
+      let fits = ordered.fit i nothing within in
+      record {
+        within = within;
+        class_is = firsts (row_at rows i).class (row_at rows i).place class place fits.place place_fits (key_here at placed);
+        place_is = seconds (row_at rows i).class (row_at rows i).place class place fits.place place_fits (key_here at placed);
+      }
+
+pub row_placed : (rows : List MemberRow) (class place at : ℕ) → IsPlaced rows class place at → IsRowAt rows class place (row_at rows at)
+row_placed rows class place at placed = record { within = (at, placed.within, get_or_default rows at (row_at rows at) nothing placed.within); class_is = placed.class_is; place_is = placed.place_is }
+
+pub copied_places : (rows slice copied places : List MemberRow) → copied ≡ slice → slice ≡ rows → IsPermutation copied places → IsPermutation rows places
+copied_places rows slice copied places one two moved = subst (λ (rs : List MemberRow). IsPermutation rs places) (one ∙ two) moved
+
+pub in_copied : (rows places : List MemberRow) → IsPermutation rows places → (row : MemberRow) → Contains places row → Contains rows row
+in_copied rows places moved row there = Contains-permutation places rows row (IsPermutation-sym rows places moved) there
+
+-- rows that stand among others in order have numbers of 32 bits, as these do
+pub places_fit : (rows places : List MemberRow) → AreInOrder rows → ((row : MemberRow) → Contains places row → Contains rows row) → All Fits places
+places_fit rows places order within = λ i d lt. fit_all rows (get_or places i d) order (within (get_or places i d) (i, lt, get_or_default places i (get_or places i d) d lt))
+
+-- ---- the first places
+
+-- those of the rows so far
+pub record AreFirstsOf (rows places : List MemberRow) (count : ℕ) (firsts : List ℕ) : Type 0 where
+  pub long : length firsts ≡ count
+  pub each : (at : ℕ) → at < count → at < length places → IsLeast rows (row_at places at).name (row_at places at).desc (row_at places at).class (get_or firsts at 0)
+
+pub none_of : (rows places : List MemberRow) (none : List ℕ) → none ≡ [] → AreFirstsOf rows places 0 none
+none_of rows places none empty = record { long = ap length empty; each = λ at lt. absurd (omega (arith, lt)) }
+
+pub one_of : (rows places : List MemberRow) (count first : ℕ) (own more : List ℕ) (row : MemberRow) → AreFirstsOf rows places count own → row_at places count ≡ row → IsLeast rows row.name row.desc row.class first → more ≡ own ++ first ∷ []
+    → AreFirstsOf rows places (count + 1) more
+one_of rows places count first own more row are same least is = record {
+  long = (let long = are.long in let pushed = ap length is ∙ length_push own first in omega (arith, long, pushed));
+  each = λ at lt within. elim (cases_lt at count) [
+    | inl before ↦
+        (let long = are.long in
+        subst (IsLeast rows (row_at places at).name (row_at places at).desc (row_at places at).class)
+        (sym (ap (λ (xs : List ℕ). get_or xs at 0) is ∙ get_or_append_left own (first ∷ []) 0 at (omega (arith, before, long)))) (are.each at before within))
+    | inr after ↦
+        (let here : count ≡ at = omega (arith, after, lt) in
+        subst (λ (n : ℕ). IsLeast rows (row_at places n).name (row_at places n).desc (row_at places n).class (get_or more n 0)) here
+        (subst (λ (r : MemberRow). IsLeast rows r.name r.desc r.class (get_or more count 0)) (sym same)
+        (subst (IsLeast rows row.name row.desc row.class) (sym (ap (λ (xs : List ℕ). get_or xs count 0) is ∙ get_or_push own first 0 count are.long)) least)))
+  ];
+}
+
+pub all_of : (rows places : List MemberRow) (count : ℕ) (firsts : List ℕ) → AreFirstsOf rows places count firsts → count ≡ length places → AreFirsts rows places firsts
+all_of rows places count firsts are all = record { long = are.long ∙ all; each = λ at lt. are.each at (omega (arith, lt, all)) lt }
 
 -- ---- those that a call may take, so far
 
@@ -264,6 +352,9 @@ module _ (program : Program) (rows : List MemberRow) (methods : AreMethods progr
     pub declare_like : (test : Method → Bool) (taken found : List MemberRow) → AreTakable program test rows taken → length program < 2 ^ 31 → AreRowsWith taken row.name row.desc found → DeclareLike program test class member found
     declare_like test taken found takable few with_them = λ m at. declare_first row is.within m (at_row m at) test taken found takable few with_them
 
+    pub first_like : (first : ℕ) → IsLeast rows row.name row.desc row.class first → IsFirstLike program class member first
+    first_like first least = λ m at. subst (λ (k : ℕ). method_place (methods_at program k) m.name m.desc ≡ Some first) is.class_is (sym (first_told row is.within m (at_row m at) row.class (Some first) (in_class row is.within) least))
+
     pub nearest_like : (test : Method → Bool) (taken marks : List MemberRow) (spans : Spans) (below : ℕ) (near : Option ℕ) → AreTakable program test rows taken → AreSpans program spans → AreMarks spans taken marks
         → IsNearestIn spans marks row.name row.desc (start_in spans below + 1) near → IsNearestLike program test class member below near
     nearest_like test taken marks spans below near takable nested marks_are told = λ m at. nearest_first row is.within m (at_row m at) test taken marks spans below near takable nested marks_are told
@@ -325,3 +416,20 @@ pub marked_items : (program : Program) (plain instance plain_items instance_item
     → IfSome marked (AreMarked program plain_items instance_items)
 marked_items program plain instance plain_items instance_items marked first second are =
     subst (λ (rows : List MemberRow). IfSome marked (AreMarked program plain_items rows)) second (subst (λ (rows : List MemberRow). IfSome marked (AreMarked program rows instance)) first are)
+
+-- ---- all methods are placed
+
+pub all_placed : (program : Program) (calls : CallTable) → IsCallTable program calls → (class member : ℕ) → class < length program → member < length (methods_at program class)
+    → ((at : ℕ) → IsPlaced calls.places.items class member at → ⊥) → ⊥
+all_placed program calls is class member less within none =
+    let named = length-map (methods_at program class) method_named in
+    let there : IsThere is.rows class member = is.methods.are.methods_are.whole class member less (omega (arith, within, named)) in
+    let placed = is.all_places there.row there.within in
+    let same : row_at calls.places.items placed.0 ≡ there.row = get_or_default calls.places.items placed.0 nothing there.row placed.1 ∙ placed.2 in
+    none placed.0 (record { within = placed.1; class_is = ap (λ (r : MemberRow). r.class) same ∙ there.class_is; place_is = ap (λ (r : MemberRow). r.place) same ∙ there.place_is })
+
+pub first_at : (program : Program) (calls : CallTable) → IsCallTable program calls → (class member at : ℕ) → IsPlaced calls.places.items class member at → IsFirstLike program class member (get_or calls.firsts.items at 0)
+first_at program calls is class member at placed =
+    let row : MemberRow = row_at calls.places.items at in
+    let own = row_placed calls.places.items class member at placed in
+    first_like program is.rows is.methods row class member (record { within = is.places row own.within; class_is = placed.class_is; place_is = placed.place_is }) (get_or calls.firsts.items at 0) (is.firsts_are.each at placed.within)

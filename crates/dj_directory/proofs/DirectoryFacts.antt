@@ -1,16 +1,16 @@
--- Numbers of texts, and the places that rows tell, by plain values, each with something that it is not.
-use Rattle.std.proofs.Common.{◌≡◌, ℕ, ltb, true, false, List, [], ◌∷◌, map, length, get_or, Some, None, Bor, codes, refl, sym, ap, ◌∙◌, arith}
+-- Numbers of texts, and the places that rows give, by plain values, each with something that it is not.
+use Rattle.std.proofs.Common.{◌≡◌, ℕ, zero, suc, ltb, true, false, List, [], ◌∷◌, map, length, get_or, Some, None, Bor, codes, refl, sym, ap, ◌∙◌, arith}
 use Rattle.std.specs.Cmp.Lexicographic.{bytes_decides}
 use Rattle.std.proofs.lemmas.Bool.{false≢true}
-use Rattle.dj_names.specs.Types.{Name, same_name}
-use Rattle.dj_names.specs.Library.{int}
+use Rattle.dj_names.specs.trusted.Types.{Name, same_name}
+use Rattle.dj_names.specs.trusted.Library.{int}
 use Rattle.dj_names.specs.declared.descriptor.Desc.TheVariants as descs
-use Rattle.dj_model.specs.Types.{no_parameters}
-use Rattle.dj_model.specs.Linking.{is_plain}
+use Rattle.dj_model.specs.trusted.Types.{no_parameters}
+use Rattle.dj_model.specs.trusted.Linking.{is_plain}
 use Rattle.dj_directory.specs.declared.rows.MemberRow.{MemberRow}
-use Rattle.dj_directory.specs.Numberings.{Numbering, number_among, number_of, DeclareFields}
+use Rattle.dj_directory.specs.Numberings.{ClassesDiffer, Numbering, number_among, number_of, DeclareFields}
 use Rattle.dj_directory.specs.Calls.{DeclareFirst}
-use Rattle.dj_directory.specs.Rows.{Named, place_of, Texts, number_in, AreDifferent, AreFirst, key_of, IsTold}
+use Rattle.dj_directory.specs.DirectoryRows.{Named, place_of, Texts, number_in, AreAlike, AreDifferent, AreFirst, HasFirst, IsRepeat, IsThere, RowsDiffer, key_of, IsTold}
 use Rattle.dj_directory.proofs.NumberLaws.{bor, number_is}
 
 -- ---- numbers
@@ -96,6 +96,70 @@ the_second_is_not told = let le = told.least (row 1 2 0 0) (0, omega arith, refl
 
 something_is_told : IsTold rows 1 2 1 None → ⊥
 something_is_told told = told (row 1 2 1 1) (2, omega arith, refl) (record { name_is = refl; desc_is = refl; class_is = refl })
+
+-- rows are alike whatever their places are
+alike : AreAlike (row 1 2 0 0) (row 1 2 0 3)
+alike = record { name_is = refl; desc_is = refl; class_is = refl }
+
+not_of_other_name : AreAlike (row 1 2 0 0) (row 2 2 0 0) → ⊥
+not_of_other_name are = let name = are.name_is in absurd (omega (arith, name))
+
+not_of_other_desc : AreAlike (row 1 2 0 0) (row 1 1 0 0) → ⊥
+not_of_other_desc are = let desc = are.desc_is in absurd (omega (arith, desc))
+
+not_of_other_class : AreAlike (row 1 2 0 0) (row 1 2 1 0) → ⊥
+not_of_other_class are = let class = are.class_is in absurd (omega (arith, class))
+
+-- the second of the rows repeats the first, which repeats none, as does the third, whose class is another
+second_repeats : IsRepeat rows 1
+second_repeats = record { some = omega arith; alike = record { name_is = refl; desc_is = refl; class_is = refl } }
+
+first_repeats : IsRepeat rows 0 → ⊥
+first_repeats is = let some = is.some in absurd (omega (arith, some))
+
+third_repeats : IsRepeat rows 2 → ⊥
+third_repeats is = let class = is.alike.class_is in absurd (omega (arith, class))
+
+-- a row is stood for by an earlier one, and not by a later one
+earlier_stands : HasFirst (row 1 2 0 0 ∷ []) (row 1 2 0 3)
+earlier_stands = record { first = row 1 2 0 0; within = (0, omega arith, refl); alike = record { name_is = refl; desc_is = refl; class_is = refl }; before = omega arith }
+
+later_stands : HasFirst (row 1 2 0 3 ∷ []) (row 1 2 0 0) → ⊥
+later_stands has =
+    let at = has.within.0 in
+    let lt = has.within.1 in
+    let first : at ≡ 0 = omega (arith, lt) in
+    let is : row 1 2 0 3 ≡ has.first = ap (λ (k : ℕ). get_or (row 1 2 0 3 ∷ []) k has.first) (sym first) ∙ has.within.2 in
+    let place = ap (λ (r : MemberRow). r.place) is in
+    let before = has.before in
+    absurd (omega (arith, place, before))
+
+-- rows of two classes differ, and those of one class don't
+abbrev two : List MemberRow
+two = row 1 2 0 0 ∷ row 1 2 1 1 ∷ []
+
+rows_of_two : RowsDiffer two
+rows_of_two zero zero d lt within = absurd (omega (arith, lt))
+rows_of_two zero (suc zero) d lt within = λ are. let class = are.class_is in absurd (omega (arith, class))
+rows_of_two (suc i) (suc zero) d lt within = absurd (omega (arith, lt))
+rows_of_two i (suc (suc j)) d lt within = absurd (omega (arith, within))
+rows_of_two (suc i) zero d lt within = absurd (omega (arith, lt))
+
+rows_of_one : RowsDiffer rows → ⊥
+rows_of_one differ = differ 0 1 (row 1 2 0 0) (omega arith) (omega arith) alike
+
+one_class : ClassesDiffer rows → ⊥
+one_class differ = differ 0 1 (row 1 2 0 0) (omega arith) (omega arith) refl
+
+-- a row isn't that of another place
+row_at_place : IsThere (row 1 2 0 3 ∷ []) 0 0 → ⊥
+row_at_place there =
+    let at = there.within.0 in
+    let lt = there.within.1 in
+    let first : at ≡ 0 = omega (arith, lt) in
+    let is : row 1 2 0 3 ≡ there.row = ap (λ (k : ℕ). get_or (row 1 2 0 3 ∷ []) k there.row) (sym first) ∙ there.within.2 in
+    let place = ap (λ (r : MemberRow). r.place) is ∙ there.place_is in
+    absurd (omega (arith, place))
 
 -- a row that repeats another isn't a first one
 repeat_is_refused : AreFirst rows rows → ⊥

@@ -8,7 +8,7 @@ use Rattle.std.proofs.lemmas.List.Elements.{Contains-push, Contains-push_cases, 
 use Rattle.std.proofs.lemmas.List.Quantifiers.{all_pairs_push}
 use Rattle.std.proofs.lemmas.List.Sorted.{IsNonDecreasingBy-push, IsNonDecreasingBy-short}
 use Rattle.dj_directory.specs.declared.rows.MemberRow.{MemberRow}
-use Rattle.dj_directory.specs.Rows.{key_of, Fits, AreInOrder, IsSuch, IsLeast, IsTold, row_at, AreAlike, IsRepeat, HasFirst, AreFirst, AreRowsWith}
+use Rattle.dj_directory.specs.DirectoryRows.{key_of, Fits, AreInOrder, IsSuch, IsLeast, IsTold, row_at, AreAlike, IsRepeat, HasFirst, AreFirst, AreRowsWith}
 use Rattle.dj_directory.specs.Numberings.{ClassesDiffer}
 use Rattle.dj_directory.proofs.RowLaws.{fit_all, such_between, such_key}
 use Rattle.dj_directory.proofs.SpanLaws.{ascend_at}
@@ -40,13 +40,13 @@ alike_between low mid row mid_fits fits alike rise rises =
 
 -- ---- the first rows so far
 
--- the row is one of so many
+-- the row is one of this many
 pub record IsAmong (rows : List MemberRow) (count : ℕ) (row : MemberRow) : Type 0 where
   pub at : ℕ
   pub before : at < count
   pub is : get_or rows at row ≡ row
 
--- the first ones of so many rows
+-- the first ones of this many rows
 pub record AreFirstOf (rows : List MemberRow) (count : ℕ) (firsts : List MemberRow) : Type 0 where
   pub ascend : IsNonDecreasingBy key_of firsts
   pub among : (row : MemberRow) → Contains firsts row → IsAmong rows count row

@@ -7,13 +7,13 @@ use Rattle.std.proofs.lemmas.List.{length_push, get_or_append_left}
 use Rattle.std.proofs.Math.Seq.{get_or-append_seam}
 use Rattle.std.proofs.lemmas.List.Elements.{All-push, All-weaker, Contains-push, Contains-append_left}
 use Rattle.std.proofs.lemmas.List.Sorted.{All-permutation, Contains-permutation}
-use Rattle.dj_names.specs.Types.{Name}
+use Rattle.dj_names.specs.trusted.Types.{Name}
 use Rattle.dj_names.specs.declared.descriptor.Desc.{Desc}
-use Rattle.dj_model.specs.Program.{Method, Field}
+use Rattle.dj_model.specs.trusted.Program.{Method, Field}
 use Rattle.dj_declared.specs.Texts.{text_in}
 use Rattle.dj_declared.specs.Named.{IsNamedBy}
 use Rattle.dj_directory.specs.declared.rows.MemberRow.{MemberRow}
-use Rattle.dj_directory.specs.Rows.{Named, method_named, field_named, Members, Numbers, Texts, number_in, Keep, AreDifferent, IsNumbered, key_of, Fits, IsRow, IsThere, AreSoFar, AreKnown, NumbersAll, IsRowBy, AreRows}
+use Rattle.dj_directory.specs.DirectoryRows.{Named, method_named, field_named, Members, Numbers, Texts, number_in, Keep, AreDifferent, IsNumbered, key_of, Fits, IsRow, IsThere, AreSoFar, AreKnown, NumbersAll, IsRowBy, AreRows}
 
 -- ---- one row
 
@@ -81,7 +81,7 @@ class_done number members class place rows past far = record {
 
 -- ---- the texts of a class
 
--- so many texts have numbers
+-- this many texts have numbers
 pub record IsNumbering (old now : Texts) (texts : List Name) (count : ℕ) (known : List ℕ) : Type 0 where
   pub kept : Keep (number_in old) (number_in now)
   pub different : AreDifferent now

@@ -5,18 +5,18 @@ use Rattle.std.specs.Option.{option_map}
 use Rattle.std.proofs.lemmas.Bool.{cases_lt}
 use Rattle.std.proofs.lemmas.List.{length-map}
 use Rattle.std.proofs.lemmas.Option.{slice_get_past}
-use Rattle.dj_names.specs.Types.{Name, same_name, same_desc}
+use Rattle.dj_names.specs.trusted.Types.{Name, same_name, same_desc}
 use Rattle.dj_names.specs.declared.descriptor.Desc.{Desc}
-use Rattle.dj_names.specs.Descriptors.{Describes}
+use Rattle.dj_names.specs.trusted.Descriptors.{Describes}
 use Rattle.dj_names.proofs.DescLaws.{described_once}
-use Rattle.dj_model.specs.Program.{Program, Method, Field, fields_of, is_named}
-use Rattle.dj_declared.specs.Files.{desc_in}
+use Rattle.dj_model.specs.trusted.Program.{Program, Method, Field, fields_of, is_named}
+use Rattle.dj_declared.specs.trusted.Files.{desc_in}
 use Rattle.dj_declared.specs.Members.{IsDescriptor, method_place, field_place}
-use Rattle.dj_declared.proofs.DescTests.{same_name_is, same_name_itself, same_desc_is, same_desc_itself}
+use Rattle.dj_declared.proofs.DescTests.{desc_in_is, is_descriptor, same_name_is, same_name_itself, same_desc_is, same_desc_itself}
 use Rattle.dj_classes.specs.Tables.{methods_of, methods_at, fields_at}
 use Rattle.dj_directory.specs.Numberings.{DeclareFields, DeclareMethods, Numbering, number_among, number_of}
 use Rattle.dj_directory.specs.declared.rows.MemberRow.{MemberRow}
-use Rattle.dj_directory.specs.Rows.{Named, method_named, field_named, methods_named, fields_named, Members, place_of, Texts, texts_of, number_in, AreDifferent, IsSuch, IsTold, IsRow, AreRows, AreRowsWith, IsDirectory}
+use Rattle.dj_directory.specs.DirectoryRows.{Named, method_named, field_named, methods_named, fields_named, Members, place_of, Texts, texts_of, number_in, AreDifferent, IsSuch, IsTold, IsRow, IsThere, AreRows, AreRowsWith, IsDirectory}
 use Rattle.dj_directory.proofs.GatherLaws.{kept_row}
 use Rattle.dj_directory.proofs.NumberLaws.{number_is}
 use Rattle.dj_directory.proofs.FirstLaws.{told_by_first, least_first, such_first}
@@ -180,7 +180,7 @@ named_there name desc (x ∷ members) (suc place) m at is none = go (is_named na
   go true some none = none_some 0 (sym none)
   go false some none = some (no_later (place_of members name desc) none)
 
--- the member at the place that is told has this name and this descriptor
+-- the member at the place that is found has this name and this descriptor
 abbrev IsNamedAt : Name → Desc → List Named → ℕ → Type 0
 IsNamedAt name desc members place = (m : Named) × (slice_get members place ≡ Some m) × (is_named name desc m.0 m.1 ≡ true)
 
@@ -196,7 +196,7 @@ first_there name desc (x ∷ members) place told = go (is_named name desc x.0 x.
   go true named rest told = subst (IsNamedAt name desc (x ∷ members)) (one 0 place told) (x, refl, named)
   go false named rest told = later_there (place_of members name desc) refl rest told
 
--- ---- what a directory tells
+-- ---- what a directory answers
 
 -- the numbers of a directory
 abbrev pub numbering : Program → Texts → Numbering
@@ -306,6 +306,31 @@ module _ (program : Program) (texts : Texts) (methods fields first_methods first
         });
   }
 
+  -- the first method of a name and a descriptor in a class has a row among the first ones
+  pub first_method_there : (class place : ℕ) (n : Name) (d : Desc) → class < length program → method_place (methods_at program class) n d ≡ Some place → IsThere first_methods class place
+  first_method_there class place n d less told =
+      let at = first_there n d (methods_named program class) place (method_place_is (methods_at program class) n d ∙ told) in
+      let own = is.methods_are.whole class place less (inside (methods_named program class) place at.0 at.1) in
+      let row_is = row_in texts (methods_named program) (length program) methods is.methods_are own.row own.within in
+      let same : (row_is.name, row_is.desc) ≡ at.0 =
+      one_member (row_is.name, row_is.desc) at.0
+      (sym row_is.there ∙ ap (λ (k : ℕ). slice_get (methods_named program k) own.row.place) own.class_is ∙ ap (slice_get (methods_named program class)) own.place_is ∙ at.1) in
+      let parts = both_parts (same_name at.0.0 n) (same_desc at.0.1 d) at.2 in
+      let name_same : row_is.name ≡ n = ap (λ (m : Named). m.0) same ∙ same_name_is at.0.0 n parts.0 in
+      let desc_same : desc_in row_is.text ≡ d = desc_in_is row_is.text row_is.desc row_is.spelled ∙ ap (λ (m : Named). m.1) same ∙ same_desc_is at.0.1 d parts.1 in
+      let has = is.first_methods_are.each own.row own.within in
+      let so = such_first own.row.name own.row.desc class own.row has.first (record { name_is = refl; desc_is = refl; class_is = own.class_is }) has.alike in
+      let least = least_first methods first_methods is.first_methods_are own.row.name own.row.desc class has.first has.within so in
+      let tells = first_method class own.row.name own.row.desc (Some has.first.place) less
+      (told_by_first methods first_methods is.first_methods_are own.row.name own.row.desc class (Some has.first.place) least) n row_is.text
+      (number_is texts n ∙ ap (number_in texts) (sym name_same) ∙ row_is.name_is) (number_is texts row_is.text ∙ row_is.desc_is) (is_descriptor row_is.text row_is.desc row_is.spelled) in
+      record {
+        row = has.first;
+        within = has.within;
+        class_is = so.class_is;
+        place_is = one has.first.place place (tells ∙ ap (method_place (methods_at program class) n) desc_same ∙ told);
+      }
+
   -- and stands among those of its class
   pub method_at : (row : MemberRow) → Contains methods row → row.place < length (methods_at program row.class)
   method_at row there =
@@ -344,3 +369,28 @@ module _ (program : Program) (texts : Texts) (methods fields first_methods first
         sym (first_field class name desc None less (told_by_first fields first_fields is.first_fields_are name desc class None (λ row there such.
         none row (with_them.all row there such.name_is such.desc_is (let same = such.class_is in omega (arith, same, less, few))) such.class_is)) n d n_is d_is valid);
   }
+
+  -- the first field of a name and a descriptor in a class has a row among the first ones
+  pub first_field_there : (class place : ℕ) (n : Name) (d : Desc) → class < length program → field_place (fields_at program class) n d ≡ Some place → IsThere first_fields class place
+  first_field_there class place n d less told =
+      let at = first_there n d (fields_named program class) place (field_place_is (fields_at program class) n d ∙ told) in
+      let own = is.fields_are.whole class place less (inside (fields_named program class) place at.0 at.1) in
+      let row_is = row_in texts (fields_named program) (length program) fields is.fields_are own.row own.within in
+      let same : (row_is.name, row_is.desc) ≡ at.0 =
+      one_member (row_is.name, row_is.desc) at.0
+      (sym row_is.there ∙ ap (λ (k : ℕ). slice_get (fields_named program k) own.row.place) own.class_is ∙ ap (slice_get (fields_named program class)) own.place_is ∙ at.1) in
+      let parts = both_parts (same_name at.0.0 n) (same_desc at.0.1 d) at.2 in
+      let name_same : row_is.name ≡ n = ap (λ (m : Named). m.0) same ∙ same_name_is at.0.0 n parts.0 in
+      let desc_same : desc_in row_is.text ≡ d = desc_in_is row_is.text row_is.desc row_is.spelled ∙ ap (λ (m : Named). m.1) same ∙ same_desc_is at.0.1 d parts.1 in
+      let has = is.first_fields_are.each own.row own.within in
+      let so = such_first own.row.name own.row.desc class own.row has.first (record { name_is = refl; desc_is = refl; class_is = own.class_is }) has.alike in
+      let least = least_first fields first_fields is.first_fields_are own.row.name own.row.desc class has.first has.within so in
+      let tells = first_field class own.row.name own.row.desc (Some has.first.place) less
+      (told_by_first fields first_fields is.first_fields_are own.row.name own.row.desc class (Some has.first.place) least) n row_is.text
+      (number_is texts n ∙ ap (number_in texts) (sym name_same) ∙ row_is.name_is) (number_is texts row_is.text ∙ row_is.desc_is) (is_descriptor row_is.text row_is.desc row_is.spelled) in
+      record {
+        row = has.first;
+        within = has.within;
+        class_is = so.class_is;
+        place_is = one has.first.place place (tells ∙ ap (field_place (fields_at program class) n) desc_same ∙ told);
+      }

@@ -5,7 +5,7 @@ use Rattle.std.proofs.lemmas.Bool.{ltb-true, ltb-false, cases_lt}
 use Rattle.std.proofs.lemmas.List.{get_or_default, get_or-drop, get_or-take, length-drop, length-take-le}
 use Rattle.std.proofs.lemmas.List.Sorted.{IsPartitionedBy-ltb}
 use Rattle.dj_directory.specs.declared.rows.MemberRow.{MemberRow}
-use Rattle.dj_directory.specs.Rows.{pair_of, key_of, Fits, AreInOrder, AreRowsWith, IsSuch, IsAnswer, IsTold}
+use Rattle.dj_directory.specs.DirectoryRows.{pair_of, key_of, Fits, AreInOrder, AreRowsWith, IsSuch, IsAnswer, IsTold}
 
 pub parted : (rows : List MemberRow) (key : ℕ) → AreInOrder rows → IsPartitionedBy (λ row. ltb (key_of row) key) rows
 parted rows key order = IsPartitionedBy-ltb key_of rows key order.ascend
@@ -16,7 +16,7 @@ target name desc class = pair_of name desc * 18446744073709551616 + pair_of clas
 
 -- ---- keys
 
--- of two numbers as one, each is told by it
+-- a pair of numbers as one number determines both
 pub firsts : (a b x y : ℕ) → b < 4294967296 → y < 4294967296 → pair_of a b ≡ pair_of x y → a ≡ x
 firsts a b x y lt less e = omega (arith, lt, less, e)
 

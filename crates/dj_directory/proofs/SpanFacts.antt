@@ -3,15 +3,15 @@ use Rattle.std.proofs.Common.{◌≡◌, ℕ, zero, suc, ◌<◌, ◌≤◌, ◌
 use Rattle.std.specs.List.Sorted.{IsNonDecreasingBy}
 use Rattle.std.proofs.lemmas.List.Sorted.{IsNonDecreasingBy-push, IsNonDecreasingBy-short}
 use Rattle.std.proofs.lemmas.Option.{none-some}
-use Rattle.dj_names.specs.Types.{Name}
-use Rattle.dj_model.specs.Program.{Program, Method}
-use Rattle.dj_model.specs.Rows.{class_with, method_with, code}
+use Rattle.dj_names.specs.trusted.Types.{Name}
+use Rattle.dj_model.specs.trusted.Program.{Program, Method}
+use Rattle.dj_model.specs.SmallRuns.{class_with, method_with, code}
 use Rattle.dj_directory.specs.declared.rows.MemberRow.{MemberRow}
 use Rattle.dj_directory.specs.declared.spans.Spans.{Spans}
 use Rattle.dj_directory.specs.declared.marks.Marks.{Marks}
 use Rattle.dj_directory.specs.declared.calls.Marked.{Marked}
 use Rattle.dj_directory.specs.Calls.{AreMarked}
-use Rattle.dj_directory.specs.Rows.{AreInOrder, Fits, key_of}
+use Rattle.dj_directory.specs.DirectoryRows.{AreInOrder, Fits, key_of}
 use Rattle.dj_directory.specs.Spans.{start_in, end_in, class_in, IsWithin, IsNested, AreSpans, mark_of, AreMarks, IsStart, IsEnd, IsLast, IsTold, StartsFrom, Covers, AreNearest, IsNearestIn, AreNear}
 
 -- ---- a program
@@ -53,7 +53,7 @@ mark = (refl, refl)
 no_member : mark_of (row 7 8 1 4) 3 ≡ row 7 8 3 4 → ⊥
 no_member e = let place : 1 ≡ 4 = ap (λ (r : MemberRow). r.place) e in absurd (omega (arith, place))
 
--- ---- the last one, and what a mark tells
+-- ---- the last one, and what a mark says
 
 last : IsLast (None ∷ Some 2 ∷ []) 2
 last = record { some = omega arith; is = refl }

@@ -8,7 +8,7 @@ use Rattle.std.proofs.lemmas.List.Elements.{All-push, Contains-push, Contains-ap
 use Rattle.std.proofs.lemmas.List.Sorted.{All-permutation, Contains-permutation}
 use Rattle.dj_directory.specs.declared.rows.MemberRow.{MemberRow}
 use Rattle.dj_directory.specs.declared.spans.Spans.{Spans}
-use Rattle.dj_directory.specs.Rows.{pair_of, key_of, Fits, AreInOrder}
+use Rattle.dj_directory.specs.DirectoryRows.{pair_of, key_of, Fits, AreInOrder}
 use Rattle.dj_directory.specs.Spans.{AreMarks, AreNearest, Covers, IsEnd, IsLast, IsNearestIn, IsStart, IsTold, StartsFrom, class_in, end_in, mark_of, start_in}
 use Rattle.dj_directory.proofs.RowLaws.{firsts, seconds, small, wides, target, fit_all, IsPointAt}
 

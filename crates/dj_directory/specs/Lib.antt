@@ -1,4 +1,4 @@
 pub mod Numberings
-pub mod Rows
+pub mod DirectoryRows
 pub mod Calls
 pub mod Spans

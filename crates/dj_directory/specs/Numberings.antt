@@ -1,13 +1,13 @@
 -- The texts that name members of the classes of a program, each by a number.
 use Rattle.std.specs.Prelude.{◌≡◌, ℕ, ◌<◌, List, [], ◌∷◌, Contains, Option, Some, None, length, if◌then◌else◌}
 use Rattle.std.specs.List.{AllPairs}
-use Rattle.dj_names.specs.Types.{Name, same_name}
+use Rattle.dj_names.specs.trusted.Types.{Name, same_name}
 use Rattle.dj_names.specs.declared.descriptor.Desc.{Desc}
-use Rattle.dj_model.specs.Program.{Program}
+use Rattle.dj_model.specs.trusted.Program.{Program}
 use Rattle.dj_declared.specs.Members.{method_place, field_place}
 use Rattle.dj_classes.specs.Tables.{methods_at, fields_at}
 use Rattle.dj_directory.specs.declared.rows.MemberRow.{MemberRow}
-use Rattle.dj_directory.specs.Rows.{IsThere}
+use Rattle.dj_directory.specs.DirectoryRows.{IsThere}
 
 -- the classes, and texts with their numbers
 pub record Numbering : Type 0 where

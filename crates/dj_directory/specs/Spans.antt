@@ -1,11 +1,11 @@
 -- The nearest class that declares a member, by spans of classes in a walk through the tree of superclasses.
 use Rattle.std.specs.Prelude.{◌≡◌, ℕ, ◌-◌, ◌<◌, ◌≤◌, List, Contains, Option, Some, None, IfSome, length, get_or}
-use Rattle.dj_model.specs.Program.{Program}
+use Rattle.dj_model.specs.trusted.Program.{Program}
 use Rattle.dj_classes.specs.Tables.{super_number}
 use Rattle.dj_directory.specs.declared.rows.MemberRow.{MemberRow}
 use Rattle.dj_directory.specs.declared.spans.Spans.{Spans}
 use Rattle.dj_directory.specs.declared.marks.Marks.{Marks}
-use Rattle.dj_directory.specs.Rows.{AreInOrder}
+use Rattle.dj_directory.specs.DirectoryRows.{AreInOrder}
 
 abbrev pub start_in : Spans → ℕ → ℕ
 start_in spans class = get_or spans.starts.items class 4294967295
@@ -55,12 +55,12 @@ pub record IsLast (nearest : List (Option ℕ)) (class : ℕ) : Type 0 where
   pub some : 0 < length nearest
   pub is : get_or nearest (length nearest - 1) None ≡ Some class
 
--- the mark at the place tells the class, or that there is none
+-- the mark at the place names the class, or says that there is none
 pub record IsTold (nearest : List (Option ℕ)) (at : ℕ) (near : Option ℕ) : Type 0 where
   pub there : at < length nearest
   pub is : near ≡ get_or nearest at None
 
--- a class is told, which starts at the step or after it
+-- a class is named that starts at the step or after it
 abbrev pub StartsFrom : (ℕ → ℕ) → Option ℕ → ℕ → Type 0
 StartsFrom start None step = ⊥
 StartsFrom start (Some class) step = step ≤ start class
@@ -70,7 +70,7 @@ abbrev pub Covers : Spans → List MemberRow → ℕ → Option ℕ → Type 0
 Covers spans marks at near = (mark other : MemberRow) (k : ℕ) → at < length marks → get_or marks at mark ≡ mark → k ≤ at → get_or marks k other ≡ other → IsStart spans other
     → other.name ≡ mark.name → other.desc ≡ mark.desc → mark.class < end_in spans other.place → StartsFrom (start_in spans) near other.class
 
--- the same of the first marks
+-- the same for the first marks
 abbrev pub AreNearest : Spans → List MemberRow → List (Option ℕ) → Type 0
 AreNearest spans marks nearest = (at : ℕ) → at < length nearest → Covers spans marks at (get_or nearest at None)
 

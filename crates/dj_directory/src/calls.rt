@@ -1,9 +1,9 @@
 //! What calls look in: methods by their places, and those that a call may take by the numbers of their names and descriptors.
-ghost use Rattle.std.specs.Prelude.{◌≡◌, ◌<◌, Contains, length, IfOk, IfSome, if◌then◌else◌};
+ghost use Rattle.std.specs.Prelude.{◌≡◌, ℕ, ◌<◌, true, false, Contains, length, None, IfOk, IfSome, if◌then◌else◌};
 ghost use Rattle.std.specs.List.Sorted.{IsNonDecreasingBy, IsPermutation};
 ghost use Rattle.dj_classes.specs.Tables.{methods_at};
-ghost use Rattle.dj_directory.specs.Calls.{AreMarked, AreMethods, AreTakable, DeclareLike, DeclaresLike, IsCallTable, IsNearestLike, IsRowAt, IsTakable, IsWhether, place_key, takes, tests};
-ghost use Rattle.dj_directory.specs.Rows.{AreInOrder, IsLeast};
+ghost use Rattle.dj_directory.specs.Calls.{AreFirsts, AreMarked, AreMethods, ArePlaces, AreTakable, DeclareLike, DeclaresLike, IsCallTable, IsFirstLike, IsNearestLike, IsPlaced, IsRowAt, IsTakable, IsWhether, place_key, takes, tests};
+ghost use Rattle.dj_directory.specs.DirectoryRows.{AreInOrder, IsLeast};
 
 use crate::directory::Directory;
 use crate::marks::Marks;
@@ -19,7 +19,7 @@ const PRIVATE: u16 = 0x0002;
 // JVMS table 4.6-A.
 const STATIC: u16 = 0x0008;
 
-/// What tells at once the nearest class that declares a method.
+/// What gives at once the nearest class that declares a method.
 #[derive(Drop)]
 pub struct Marked {
     /// Where the classes stand in the tree of superclasses.
@@ -35,6 +35,10 @@ pub struct Marked {
 pub struct CallTable {
     /// All methods, in the order of their classes and places.
     pub places: Vec<MemberRow>,
+    /// By class, how many of them stand before its first one.
+    pub starts: Vec<usize>,
+    /// By where they stand, the place of the first method of the same class that has the same name and the same descriptor.
+    pub firsts: Vec<u32>,
     /// Of each class the first method of a name and a descriptor, where it is neither private nor static. They stand in the order of numbers.
     pub plain: Vec<MemberRow>,
     /// The same, where it isn't static.
@@ -138,18 +142,61 @@ fn put_in_places(rows: &mut Vec<MemberRow>)
     rows.sort_unstable_by_key(|row| place_key(*row));
 }
 
-// The row of the method at a place, by halving.
-fn row_at(rows: &[MemberRow], class: u32, place: u32) -> Option<MemberRow>
-    ensures { IfSome result (IsRowAt rows.now class place) }
+// Whether the row that stands there is that of the method at a place.
+fn is_placed(rows: &[MemberRow], at: usize, class: u32, place: u32) -> bool
+    ensures placed { result ≡ true → IsPlaced rows.now class place at }
+    ensures other { result ≡ false → IsPlaced rows.now class place at → ⊥ }
+{
+    match rows.get(at) {
+        Some(row) => row.class == class && row.place == place,
+        None => false,
+    }
+}
+
+// Where the row of the method at a place stands, by halving.
+fn halved(rows: &[MemberRow], class: u32, place: u32) -> Option<usize>
+    requires { ArePlaces rows.now }
+    ensures some { IfSome result (IsPlaced rows.now class place) }
+    ensures none { result ≡ None → (at : ℕ) → IsPlaced rows.now class place at → ⊥ }
 {
     let key = pair_of(class, place);
     let at = rows.partition_point(|row| place_key(*row) < key);
-    let row = *rows.get(at)?;
-    if row.class == class && row.place == place {
-        Some(row)
+    if is_placed(rows, at, class, place) {
+        Some(at)
     } else {
         None
     }
+}
+
+// By class, how many rows stand before its first one.
+fn starts_of(
+    alloc: Global,
+    table: &ClassTable,
+    rows: &[MemberRow],
+) -> Result<Vec<usize>, NoMemory> {
+    let mut starts = Vec::new(alloc);
+    for class in 0..table.class_count() {
+        let key = pair_of(class, 0);
+        let start = rows.partition_point(|row| place_key(*row) < key);
+        starts.push(start)?;
+    }
+    Ok(starts)
+}
+
+// By where rows stand, the first place of a row of the same numbers and the same class.
+fn firsts_of(alloc: Global, rows: &[MemberRow], places: &[MemberRow]) -> Result<Vec<u32>, NoMemory>
+    requires order { AreInOrder rows.now }
+    requires within { (row : MemberRow) → Contains places.now row → Contains rows.now row }
+    ensures { IfOk result (λ firsts. AreFirsts rows.now places.now firsts.items) }
+{
+    let mut firsts = Vec::new(alloc);
+    for row in places {
+        let Some(first) = place_in(rows, row.name, row.desc, row.class) else {
+            unreachable!()
+        };
+        firsts.push(first)?;
+    }
+    Ok(firsts)
 }
 
 impl CallTable {
@@ -157,17 +204,64 @@ impl CallTable {
     pub fn of(alloc: Global, table: &ClassTable) -> Result<CallTable, NoMemory>
         ensures { IfOk result (IsCallTable table.now) }
     {
-        let mut rows = Directory::of(alloc, table)?.into_methods();
+        let rows = Directory::of(alloc, table)?.into_methods();
         let plain = takable(alloc, table, &rows, false)?;
         let instance = takable(alloc, table, &rows, true)?;
         let marked = mark_classes(alloc, table, &plain, &instance)?;
-        put_in_places(&mut rows);
+        let mut places = rows.as_slice().to_vec(alloc)?;
+        put_in_places(&mut places);
+        let starts = starts_of(alloc, table, &places)?;
+        let firsts = firsts_of(alloc, &rows, &places)?;
         Ok(CallTable {
-            places: rows,
+            places,
+            starts,
+            firsts,
             plain,
             instance,
             marked,
         })
+    }
+
+    // Where the row of the method at a place stands if it is as far from the first one of its class as the method from the first of the class.
+    fn near(&self, class: u32, place: u32) -> Option<usize> {
+        let start = self.starts.get(class as usize)?;
+        start.checked_add(place as usize)
+    }
+
+    // Where the row of the method at a place stands.
+    fn index_of(&self, class: u32, place: u32) -> Option<usize>
+        requires { ArePlaces self.now.places.items }
+        ensures some { IfSome result (IsPlaced self.now.places.items class place) }
+        ensures none { result ≡ None → (at : ℕ) → IsPlaced self.now.places.items class place at → ⊥ }
+    {
+        match self.near(class, place) {
+            Some(at) if is_placed(&self.places, at, class, place) => Some(at),
+            _ => halved(&self.places, class, place),
+        }
+    }
+
+    // The row of the method at a place.
+    fn row_at(&self, class: u32, place: u32) -> Option<MemberRow>
+        requires { ArePlaces self.now.places.items }
+        ensures some { IfSome result (IsRowAt self.now.places.items class place) }
+        ensures none { result ≡ None → (at : ℕ) → IsPlaced self.now.places.items class place at → ⊥ }
+    {
+        let at = self.index_of(class, place)?;
+        Some(self.places[at])
+    }
+
+    /// The place of the first method of its class that has the name and the descriptor of the method at a place.
+    pub fn first_like(&self, table: &ClassTable, class: u32, member: u32) -> u32
+        requires table { IsCallTable table.now self.now }
+        requires there { class < length table.now }
+        requires within { member < length (methods_at table.now class) }
+        ensures { IsFirstLike table.now class member result }
+    {
+        let _ = table;
+        match self.index_of(class, member) {
+            Some(at) => self.firsts[at],
+            None => unreachable!(),
+        }
     }
 
     // Those that a call may take.
@@ -193,7 +287,7 @@ impl CallTable {
         ensures { IfSome result (λ rows. DeclareLike table.now (tests private_too) class member rows.now) }
     {
         let _ = table.class_count();
-        let row = row_at(&self.places, class, member)?;
+        let row = self.row_at(class, member)?;
         Some(rows_with(self.taken(private_too), row.name, row.desc))
     }
 
@@ -211,7 +305,7 @@ impl CallTable {
         ensures { IfSome result (λ place. DeclaresLike table.now (tests private_too) class member other place) }
     {
         let _ = table;
-        let row = row_at(&self.places, class, member)?;
+        let row = self.row_at(class, member)?;
         place_in(self.taken(private_too), row.name, row.desc, other)
     }
 
@@ -229,7 +323,7 @@ impl CallTable {
         ensures { IfSome result (IsNearestLike table.now (tests private_too) class member below) }
     {
         let _ = table;
-        let row = row_at(&self.places, class, member)?;
+        let row = self.row_at(class, member)?;
         let Some(marked) = &self.marked else {
             return None;
         };

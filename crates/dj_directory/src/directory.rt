@@ -1,11 +1,13 @@
 ghost use Rattle.std.specs.Prelude.{◌≡◌, ℕ, ◌<◌, ◌⊎◌, Contains, List, Some, None, length, IfOk, IfSome};
-ghost use Rattle.dj_declared.specs.Files.{desc_in};
+ghost use Rattle.dj_names.specs.declared.descriptor.Desc.{Desc};
+ghost use Rattle.dj_names.specs.trusted.Types.{Name};
+ghost use Rattle.dj_declared.specs.trusted.Files.{desc_in};
 ghost use Rattle.dj_declared.specs.Members.{IsDescriptor, method_place, field_place};
 ghost use Rattle.dj_classes.specs.Tables.{methods_at, fields_at};
 ghost use Rattle.dj_directory.specs.Calls.{AreMethods};
 ghost use Rattle.dj_directory.specs.Numberings.{ClassesDiffer, DeclareFields, DeclareMethods, number_of};
 ghost use Rattle.dj_directory.specs.declared.rows.MemberRow.{MemberRow};
-ghost use Rattle.dj_directory.specs.Rows.{IsRow, fields_named, methods_named};
+ghost use Rattle.dj_directory.specs.DirectoryRows.{AreInOrder, IsRow, IsThere, RowsDiffer, fields_named, methods_named};
 
 use crate::gather::add_class;
 use crate::numbers::number_in;
@@ -29,7 +31,7 @@ pub struct Directory<'a> {
 
 impl<'a> Model for Directory<'a> {
     ghost use Rattle.dj_directory.specs.Numberings.{Numbering};
-    ghost use Rattle.dj_directory.specs.Rows.{texts_of, IsDirectory};
+    ghost use Rattle.dj_directory.specs.DirectoryRows.{texts_of, IsDirectory};
 
     ghost Value = { Numbering };
 
@@ -127,6 +129,9 @@ impl<'a> Directory<'a> {
     pub fn method_rows(&self) -> &[MemberRow]
         ensures there { (row : MemberRow) → Contains result.now row → row.class < length self.now.program }
         ensures named { (row : MemberRow) → Contains result.now row → IsRow (number_of self.now) (methods_named self.now.program) row }
+        ensures whole { (class place : ℕ) (name : Name) (desc : Desc) → class < length self.now.program → method_place (methods_at self.now.program class) name desc ≡ Some place → IsThere result.now class place }
+        ensures once { RowsDiffer result.now }
+        ensures order { AreInOrder result.now }
     {
         &self.first_methods
     }
@@ -135,6 +140,9 @@ impl<'a> Directory<'a> {
     pub fn field_rows(&self) -> &[MemberRow]
         ensures there { (row : MemberRow) → Contains result.now row → row.class < length self.now.program }
         ensures named { (row : MemberRow) → Contains result.now row → IsRow (number_of self.now) (fields_named self.now.program) row }
+        ensures whole { (class place : ℕ) (name : Name) (desc : Desc) → class < length self.now.program → field_place (fields_at self.now.program class) name desc ≡ Some place → IsThere result.now class place }
+        ensures once { RowsDiffer result.now }
+        ensures order { AreInOrder result.now }
     {
         &self.first_fields
     }

@@ -1,5 +1,5 @@
 ghost use Rattle.std.specs.Prelude.{◌≡◌, ◌+◌, ◌<◌, length, map, IfOk, OnOk};
-ghost use Rattle.dj_directory.specs.Rows.{method_named, field_named, AreDifferent, NumbersAll, IsRowBy, AddsRows, IsGathering};
+ghost use Rattle.dj_directory.specs.DirectoryRows.{method_named, field_named, AreDifferent, NumbersAll, IsRowBy, AddsRows, IsGathering};
 
 use crate::numbers::number_text;
 use crate::rows::MemberRow;

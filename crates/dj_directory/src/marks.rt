@@ -1,7 +1,7 @@
-//! The nearest class that declares a member, by halving. The spans of the classes of such rows start and end at marks, and each mark tells the nearest of these classes for what follows it.
-//! That of an end is looked up: it is what was nearest before the start. Ends are looked at while this is done, so that the spans need not be known to lie within each other.
+//! The nearest class that declares a member, by halving. The spans of the classes of such rows start and end at marks, and each mark gives the nearest of these classes for what follows it.
+//! For an end it is looked up: it is what was nearest before the start. Ends are checked on the way, so the spans need not be known to be nested.
 ghost use Rattle.std.specs.Prelude.{◌≡◌, ℕ, ◌+◌, ◌<◌, true, length, get_or, IfOk, IfSome};
-ghost use Rattle.dj_directory.specs.Rows.{AreInOrder, Fits};
+ghost use Rattle.dj_directory.specs.DirectoryRows.{AreInOrder, Fits};
 ghost use Rattle.dj_directory.specs.Spans.{AreMarks, AreNear, AreNearest, Covers, IsEnd, IsLast, IsNearestIn, IsTold, mark_of};
 
 use crate::rows::{MemberRow, first_not_below, key_of, put_in_order};
@@ -74,7 +74,7 @@ fn is_last_end(spans: &Spans, nearest: &[Option<u32>], mark: MemberRow) -> bool
     is_end(spans, mark) && is_last(nearest, mark.place)
 }
 
-// What a mark tells, where it is known.
+// What a mark says, where it is known.
 fn told_at(nearest: &[Option<u32>], at: usize) -> Option<Option<u32>>
     ensures { IfSome result (IsTold nearest.now at) }
 {
@@ -84,7 +84,7 @@ fn told_at(nearest: &[Option<u32>], at: usize) -> Option<Option<u32>>
     }
 }
 
-// What the last mark of these numbers before a step tells, where it is known.
+// What the last mark of these numbers before a step says, where it is known.
 fn nearest_before(
     marks: &[MemberRow],
     nearest: &[Option<u32>],

@@ -1,7 +1,7 @@
 //! Members by the numbers of their texts, in the order of these.
 ghost use Rattle.std.specs.Prelude.{◌≡◌, ◌<◌, ◌≤◌, ltb, true, false, length, IfOk};
 ghost use Rattle.std.specs.List.Sorted.{IsNonDecreasingBy, IsPartitionPoint, IsPermutation};
-ghost use Rattle.dj_directory.specs.Rows.{pair_of, key_of, AreAlike, AreFirst, AreInOrder, AreRowsWith, IsTold, IsAnswer, IsRepeat};
+ghost use Rattle.dj_directory.specs.DirectoryRows.{pair_of, key_of, AreAlike, AreFirst, AreInOrder, AreRowsWith, IsTold, IsAnswer, IsRepeat};
 
 use dj_names::NoMemory;
 use std::alloc::Global;
@@ -85,7 +85,7 @@ pub fn first_not_below(rows: &[MemberRow], key: u128) -> usize
     rows.partition_point(|row| key_of(*row) < key)
 }
 
-// The place that a row tells, if it is of these numbers.
+// The place in a row, if the row is of these numbers.
 fn place_if(row: MemberRow, name: u32, desc: u32, class: u32) -> Option<u32>
     ensures { IsAnswer row name desc class result }
 {

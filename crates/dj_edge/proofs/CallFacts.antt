@@ -12,9 +12,11 @@ use Rattle.dj_edge.specs.declared.host.HostError.TheVariants as host_errors
 use Rattle.dj_edge.specs.declared.host.HostAnswer.{HostAnswer}
 use Rattle.dj_edge.specs.declared.mem_sink.MemSink.{MemSink}
 use Rattle.dj_edge.specs.declared.mem_files.MemFiles.{MemFiles}
-use Rattle.dj_edge.specs.Counts.{Rose, one_more}
-use Rattle.dj_edge.specs.Held.{Held, bytes_at}
-use Rattle.dj_edge.specs.Calls.{ListCounts, CountsListing, ReadCounts, CountsRead, ReadTells, Gives, Writes, Puts, WriteCounts, CountsWrite}
+use Rattle.dj_edge.specs.trusted.Counts.{Rose}
+use Rattle.dj_edge.specs.Counts.{one_more}
+use Rattle.dj_edge.specs.trusted.Held.{Held, bytes_at}
+use Rattle.dj_edge.specs.trusted.Calls.{ListCounts, ReadCounts, ReadTells, Gives, Writes, WriteCounts}
+use Rattle.dj_edge.specs.Calls.{CountsListing, CountsRead, Puts, CountsWrite}
 use Rattle.dj_edge.specs.Listings.{ListsFolder}
 use Rattle.dj_edge.specs.Sinks.{piece_of, room_of, faults_of, Takes}
 use Rattle.dj_edge.specs.Stores.{fails_next, Reads}
@@ -59,16 +61,16 @@ write-failed = refl
 write-failed_not : (CountsWrite 3 3 (written (Err sink_errors.Failed)) → ⊥) × (CountsWrite 3 5 (written (Err sink_errors.Failed)) → ⊥) × (CountsWrite 3 4 (written (Err sink_errors.Memory)) → ⊥) × (CountsWrite 3 4 (written (Ok 1)) → ⊥)
 write-failed_not = (λ h. absurd cc, λ h. absurd cc, λ h. absurd cc, λ h. absurd cc)
 
--- in general a count that stands tells of no failed call, and it never falls
+-- in general a count that stays says that no call failed, and it never falls
 stands-not_failed : (ListCounts 3 3 (listed (Err list_errors.Failed)) → ⊥) × (ReadCounts 3 3 (read (Err read_errors.Failed)) → ⊥) × (WriteCounts 3 3 (written (Err sink_errors.Failed)) → ⊥)
 stands-not_failed = (λ h. omega (arith, h.1), λ h. omega (arith, h.1), λ h. omega (arith, h.1))
 
 falls-not : (ListCounts 3 2 (listed (Ok [])) → ⊥) × (ReadCounts 3 2 (read (Err read_errors.Memory)) → ⊥) × (WriteCounts 3 2 (written (Ok 1)) → ⊥)
 falls-not = (λ h. omega (arith, h), λ h. omega (arith, h), λ h. omega (arith, h))
 
--- ---- what calls tell
+-- ---- what calls report
 
--- a store that tells what it holds lacks a file only where it does, and one that doesn't tell lacks none
+-- Absent is reported only of a file that a store of known contents lacks; where they are unknown, of none
 tells-absent : (h : Held) (path : List ℕ) → bytes_at h path ≡ None → ReadTells (λ (bytes : List ℕ). bytes) (Some h) path 5 (read (Err read_errors.Absent))
 tells-absent h path none = none
 

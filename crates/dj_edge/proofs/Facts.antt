@@ -4,8 +4,9 @@ use Rattle.std.specs.Prelude.{codes}
 use Rattle.dj_edge.specs.declared.files.ReadError.{ReadError}
 use Rattle.dj_edge.specs.declared.files.ReadError.TheVariants as read_errors
 use Rattle.dj_edge.specs.declared.walk.EntryKind.TheVariants as kinds
-use Rattle.dj_edge.specs.Counts.{Rose, one_more}
-use Rattle.dj_edge.specs.Held.{is_class_path}
+use Rattle.dj_edge.specs.trusted.Counts.{Rose}
+use Rattle.dj_edge.specs.Counts.{one_more}
+use Rattle.dj_edge.specs.trusted.Held.{is_class_path}
 use Rattle.dj_edge.specs.Calls.{CountsRead}
 use Rattle.dj_edge.specs.Streams.{ReadsWithin}
 use Rattle.dj_edge.specs.Walks.{Tree, Place, inside_of, met_in, class_files_in, IsWalk}

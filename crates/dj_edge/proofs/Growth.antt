@@ -1,9 +1,9 @@
--- Counts that rise, and lists that grow by a front of a list.
+-- Counts that rise, and lists that grow by a prefix of a list.
 use Rattle.std.proofs.Common.{◌≡◌, ℕ, ◌+◌, ◌-◌, ◌<◌, ◌≤◌, List, [], ◌∷◌, ◌++◌, length, take, drop, get_or, Option, refl, sym, ap, ◌∙◌, append_assoc, append-nil, take-append-drop, arith}
 use Rattle.std.proofs.lemmas.List.{take_more, take_rest}
 use Rattle.std.specs.Io.KnownBytes.{Appends}
 use Rattle.std.proofs.KnownBytes.{Appends-trans}
-use Rattle.dj_edge.specs.Counts.{Rose, IsFront, GrowsByFront}
+use Rattle.dj_edge.specs.trusted.Counts.{Rose, IsFront, GrowsByFront}
 
 pub Rose-after_le : (before mid now : ℕ) → before ≤ mid → Rose mid now → Rose before now
 Rose-after_le before mid now below rose = (omega arith, omega arith)
@@ -27,7 +27,7 @@ module _ {A : Type 0} where
   pub IsFront-append : (xs ys : List A) → IsFront xs (xs ++ ys)
   IsFront-append xs ys = (ys, refl)
 
-  -- a front of what comes after a front
+  -- a prefix of what comes after a prefix
   pub IsFront-after : (xs ys zs : List A) → IsFront ys zs → IsFront (xs ++ ys) (xs ++ zs)
   IsFront-after xs ys zs front = (front.0, ap (λ l. xs ++ l) front.1 ∙ sym (append_assoc xs ys front.0))
 
@@ -35,7 +35,7 @@ module _ {A : Type 0} where
   IsFront-trans xs ys zs first second =
       (first.0 ++ second.0, second.1 ∙ ap (λ l. l ++ second.0) first.1 ∙ append_assoc xs first.0 second.0)
 
-  -- a front is extended by the next element
+  -- a prefix is extended by the next element
   pub IsFront-more : (all : List A) (i : ℕ) (d : A) → i < length all → IsFront (take i all ++ get_or all i d ∷ []) all
   IsFront-more all i d within = (drop (i + 1) all, sym (take-append-drop (i + 1) all) ∙ ap (λ l. l ++ drop (i + 1) all) (take_more all i d within))
 
@@ -48,11 +48,11 @@ module _ {A : Type 0} where
   pub GrowsByFront-take : (old new all : List A) (n : ℕ) → new ≡ old ++ take n all → GrowsByFront old new all
   GrowsByFront-take old new all n is = (take n all, IsFront-take n all, is)
 
-  -- a front of a front is a front
+  -- a prefix of a prefix is a prefix
   pub GrowsByFront-within : (old new part all : List A) → GrowsByFront old new part → IsFront part all → GrowsByFront old new all
   GrowsByFront-within old new part all grows front = (grows.0, IsFront-trans grows.0 part all grows.1 front, grows.2)
 
-  -- all of the first list, and then a front of the second
+  -- all of the first list, and then a prefix of the second
   pub GrowsByFront-after : (old mid new first second : List A) → mid ≡ old ++ first → GrowsByFront mid new second → GrowsByFront old new (first ++ second)
   GrowsByFront-after old mid new first second is grows =
       (first ++ grows.0, IsFront-after first grows.0 second grows.1, grows.2 ∙ ap (λ l. l ++ grows.0) is ∙ append_assoc old first grows.0)

@@ -16,9 +16,10 @@ use Rattle.std.proofs.lemmas.Bool.{cases_lt}
 use Rattle.std.proofs.lemmas.List.Elements.{All-from_recursion, All-filter, All-weaker, All-head, All-tail, filter_passes}
 use Rattle.std.proofs.lemmas.List.Kept.{AllPairs-cons}
 use Rattle.std.proofs.lemmas.List.Sorted.{ranks_by, IsPermutation-refl, IsPermutation-cons, IsPermutation-trans, IsPermutation-middle, IsPermutation-map, IsPermutation-sym, length_permutation}
-use Rattle.dj_edge.specs.Held.{Held, File, held_of, bytes_at, is_class_path, class_files}
-use Rattle.dj_edge.specs.Counts.{AllDiffer}
-use Rattle.dj_edge.specs.Calls.{IsListing}
+use Rattle.dj_edge.specs.trusted.Held.{Held, File, bytes_at, is_class_path, class_files}
+use Rattle.dj_edge.specs.Held.{held_of}
+use Rattle.dj_edge.specs.trusted.Counts.{AllDiffer}
+use Rattle.dj_edge.specs.trusted.Calls.{IsListing}
 use Rattle.dj_edge.specs.InMemory.{PathsDiffer, class_paths}
 use Rattle.dj_edge.proofs.Pairs.{AllPairs-nil, AllPairs-head, AllPairs-tail, AllPairs-map, AllPairs-weaker}
 use Rattle.dj_edge.proofs.Sorting.{pairs_from_sorted, same_texts}
@@ -118,7 +119,7 @@ sorted_listing folder held most found paths listing few moved sorted =
     (IsPermutation-trans (map string_bytes paths) (map string_bytes found) (map (λ file. file.0) (class_files folder held))
     (IsPermutation-sym (map string_bytes found) (map string_bytes paths) (IsPermutation-map string_bytes found paths moved)) (listing.told.0 few))
 
--- the same where a store may tell what it holds
+-- the same where a store's contents may be known
 pub sorted_where_told : {Z : Type 0} (told : Option Held) (folder : List ℕ) (most : ℕ) (found paths : List (String Z)) → IsListing told folder most (map string_bytes found)
     → IsPermutation found paths → IsSorted string_cmp paths
     → IfSome told (λ held. length (class_files folder held) ≤ most → map string_bytes paths ≡ map (λ file. file.0) (class_files folder held))

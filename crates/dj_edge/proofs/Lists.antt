@@ -5,7 +5,7 @@ use Rattle.std.proofs.lemmas.Bool.Decides.{nat_tests}
 use Rattle.std.proofs.Common.{◌≡◌, ℕ, ◌+◌, ◌<◌, true, List, [], ◌∷◌, ◌++◌, length, take, map, get_or, All, Option, Some, None, IfSome, sym, ap, ◌∙◌, subst, Result, Ok, Err, IfOk, inl, inr, arith}
 use Rattle.std.proofs.lemmas.List.{length-map, take_more, get_or-map}
 
--- one fact from another, where something is told
+-- one fact from another, where there is a value
 pub told_so : {A : Type 0} (o : Option A) (P Q : A → Type 0) → ((x : A) → P x → Q x) → IfSome o P → IfSome o Q
 told_so None P Q so p = tt
 told_so (Some x) P Q so p = so x p

@@ -14,9 +14,10 @@ use Rattle.std.proofs.lemmas.List.Kept.{AllPairs-filter}
 use Rattle.std.proofs.lemmas.List.Sorted.{All-permutation, IsPermutation-refl, IsPermutation-reverse, IsPermutation-trans, IsPermutation-sym, length_permutation}
 use Rattle.dj_edge.specs.declared.order.Order.{Order}
 use Rattle.dj_edge.specs.declared.order.Order.TheVariants.{Given, Reversed}
-use Rattle.dj_edge.specs.Held.{Held, File, held_of, bytes_at, is_class_path, class_files}
-use Rattle.dj_edge.specs.Counts.{AllDiffer}
-use Rattle.dj_edge.specs.Calls.{IsListing}
+use Rattle.dj_edge.specs.trusted.Held.{Held, File, bytes_at, is_class_path, class_files}
+use Rattle.dj_edge.specs.Held.{held_of}
+use Rattle.dj_edge.specs.trusted.Counts.{AllDiffer}
+use Rattle.dj_edge.specs.trusted.Calls.{IsListing}
 use Rattle.dj_edge.specs.InMemory.{String, file_in, files_in, PathsDiffer, in_order, class_paths}
 use Rattle.dj_edge.proofs.Pairs.{AllPairs-take, AllPairs-reverse, AllPairs-map, AllPairs-unmap}
 use Rattle.dj_edge.proofs.Listings.{text_cmp, none_found, bytes_at-held_of, class_paths_moved, class_files_pass, class_files_held}

@@ -15,9 +15,9 @@ use Rattle.std.proofs.lemmas.List.Sorted.{All-permutation, IsPermutation-sym}
 use Rattle.std.proofs.lemmas.Map.Keys.{Less-from_sorted}
 use Rattle.std.proofs.lemmas.Map.Text.{is_eq-slice_cmp}
 use Rattle.std.proofs.lemmas.Slice.Eq.{bytes_eq-Decides}
-use Rattle.dj_edge.specs.Held.{is_class_path}
-use Rattle.dj_edge.specs.Counts.{AllDiffer}
-use Rattle.dj_edge.specs.Calls.{IsListing}
+use Rattle.dj_edge.specs.trusted.Held.{is_class_path}
+use Rattle.dj_edge.specs.trusted.Counts.{AllDiffer}
+use Rattle.dj_edge.specs.trusted.Calls.{IsListing}
 use Rattle.dj_edge.specs.Listings.{AreOnce, IsListingOf}
 use Rattle.dj_edge.proofs.Pairs.{AllPairs-take, AllPairs-map, AllPairs-weaker, All-unmap}
 
@@ -61,7 +61,7 @@ once_from_sorted {Z} most paths sorted moved is_sorted =
       first = sym (take-map string_bytes most (dedup string_eq sorted));
     }
 
--- what is listed are class files, each once, at most so many
+-- what is listed are class files, each once, at most this many
 pub listing_from_once : (folder : List ℕ) (found : List (List ℕ)) (most : ℕ) (paths : List (List ℕ)) → IsListingOf folder found most paths → IsListing None folder most paths
 listing_from_once folder found most paths once =
     let P : List (List ℕ) → Type 0 = λ listed. IsListing None folder most listed in

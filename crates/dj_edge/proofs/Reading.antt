@@ -100,7 +100,7 @@ pub unread_past : (tree : Option Tree) (folder : List ℕ) (left : Option (List 
     → IfSome tree (λ t. (places : List Place) → t folder ≡ Some places → most < length places)
 unread_past tree folder left kept count most far past = past_most tree folder left far.seen most far.told (omega (arith, far.count_is))
 
--- ---- what the calls tell, at equal values
+-- ---- what the calls report, at equal values
 
 pub next_as : (a b : Option Tree) (old new : Option (List Place)) (met : Option Entry) (entry : Entry) → a ≡ b → met ≡ Some entry → IsNextEntry a old new (Ok met)
     → IfSome b (λ t. old ≡ option_map (λ (places : List Place). place_of entry ∷ places) new)

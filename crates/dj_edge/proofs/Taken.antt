@@ -10,7 +10,7 @@ use Rattle.dj_edge.specs.Streams.{ReadsMore, TakesAtMost}
 pub took_more : (a b c : Option (List ℕ)) (before taken now : List ℕ) → Consumes a b before → Consumes b c taken → now ≡ before ++ taken → Consumes a c now
 took_more a b c before taken now first second same = subst (Consumes a c) (sym same) (Consumes-trans a b c before taken first second)
 
--- more was taken than so many, so there is more
+-- more was taken than this many, so there is more
 pub took_past : (a b : Option (List ℕ)) (taken : List ℕ) (most : ℕ) → Consumes a b taken → most < length taken → IfSome a (λ all. most < length all)
 took_past None b taken most p past = tt
 took_past (Some x) None taken most p past = absurd p

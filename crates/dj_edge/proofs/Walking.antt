@@ -15,7 +15,7 @@ class_files-append xs ys =
     let is : Place → _ = λ place. is_file place.1 && has_class_name place.0 in
     ap (map (λ (place : Place). place.0)) (filter-append is xs ys) ∙ map-append (λ (place : Place). place.0) (filter is xs) (filter is ys)
 
--- a front and then the rest, where both are there
+-- a prefix and then the rest, where both are there
 abbrev pub joined : Option (List Place) → Option (List Place) → Option (List Place)
 joined a b = option_and_then (λ front. option_map (λ rest. front ++ rest) b) a
 

@@ -5,11 +5,11 @@ use Rattle.dj_edge.specs.declared.host.HostAnswer.{HostAnswer}
 use Rattle.dj_edge.specs.declared.host.HostError.{HostError}
 use Rattle.dj_edge.specs.declared.mem_host.MemHost.{MemHost}
 
--- the one word for identity hashes
+-- the word that is the identity hash of every object
 abbrev pub word_of : MemHost → ℤ
 word_of m = m.word
 
--- the next time
+-- the time that the host answers next
 abbrev pub clock_of : MemHost → ℤ
 clock_of m = m.clock
 

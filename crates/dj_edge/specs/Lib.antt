@@ -10,3 +10,4 @@ pub mod Walks
 pub mod Listings
 pub mod Reads
 pub mod Systems
+pub mod trusted

@@ -1,13 +1,13 @@
--- What a folder's listing has of the paths that a walk found.
+-- The paths that a listing of a folder answers, of those that a walk found.
 use Rattle.std.specs.Prelude.{◌≡◌, ℕ, ⊤, List, filter, take, All, Option, IfSome, Result, Ok, Err}
 use Rattle.std.specs.List.{Contains}
 use Rattle.dj_edge.specs.declared.files.ListError.{ListError}
 use Rattle.dj_edge.specs.declared.files.ListError.TheVariants as list_errors
-use Rattle.dj_edge.specs.Held.{is_class_path}
-use Rattle.dj_edge.specs.Counts.{AllDiffer}
+use Rattle.dj_edge.specs.trusted.Held.{is_class_path}
+use Rattle.dj_edge.specs.trusted.Counts.{AllDiffer}
 use Rattle.dj_edge.specs.Walks.{Tree, IsWalk, IsUnmet, met_below}
 
--- each of the texts stands once, in some order, and these are the first of them, at most so many
+-- these are the first of the texts, each once and in some order, and at most this many
 pub record AreOnce (texts : List (List ℕ)) (most : ℕ) (listed : List (List ℕ)) : Type 0 where
   pub all : List (List ℕ)
   pub differ : AllDiffer all
@@ -15,8 +15,8 @@ pub record AreOnce (texts : List (List ℕ)) (most : ℕ) (listed : List (List �
   pub whole : All (Contains all) texts
   pub first : listed ≡ take most all
 
--- the paths are those found that begin with the folder and a slash and end with .class, each once, or any most of them where
--- there are more
+-- the paths are those found that begin with the folder and a slash and end with .class, each once; where there are more than `most`, any
+-- `most` of them
 abbrev pub IsListingOf : List ℕ → List (List ℕ) → ℕ → List (List ℕ) → Type 0
 IsListingOf folder found most paths = AreOnce (filter (is_class_path folder) found) most paths
 

@@ -7,7 +7,7 @@ use Rattle.dj_edge.specs.declared.files.ReadError.{ReadError}
 use Rattle.dj_edge.specs.declared.files.ReadError.TheVariants as read_errors
 use Rattle.dj_edge.specs.declared.order.Order.{Order}
 use Rattle.dj_edge.specs.declared.mem_files.MemFiles.{MemFiles}
-use Rattle.dj_edge.specs.Held.{File}
+use Rattle.dj_edge.specs.trusted.Held.{File}
 use Rattle.dj_edge.specs.Counts.{one_more}
 use Rattle.dj_edge.specs.InMemory.{String, files_in, in_order, class_paths, is_failing}
 
@@ -23,7 +23,7 @@ order_of m = m.order
 abbrev pub failing_of : MemFiles → List ℕ
 failing_of m = m.failing.items
 
--- how many calls there were, which is the next call's number. The count stands still at 2 ^ 64 - 1
+-- how many calls there were, up to 2 ^ 64 - 1. It is the next call's number
 abbrev pub calls_of : MemFiles → ℕ
 calls_of m = m.calls
 
@@ -31,7 +31,7 @@ calls_of m = m.calls
 abbrev pub faults_of : MemFiles → ℕ
 faults_of m = m.faults
 
--- the folders and paths that were asked
+-- the folders and paths that were asked for
 abbrev pub asked_of : MemFiles → List (List ℕ)
 asked_of m = map string_bytes m.asked.items
 
@@ -39,14 +39,14 @@ asked_of m = map string_bytes m.asked.items
 abbrev pub fails_next : MemFiles → Bool
 fails_next m = is_failing (failing_of m) (calls_of m)
 
--- a call is counted, and changes neither the files, their order nor which calls fail
+-- a call is counted; the files, their order and the numbers of the calls that fail don't change
 pub record IsOneCall (old new : MemFiles) : Type 0 where
   pub files : files_of new ≡ files_of old
   pub order : order_of new ≡ order_of old
   pub failing : failing_of new ≡ failing_of old
   pub calls : calls_of new ≡ one_more (calls_of old)
 
--- the first paths in the order of listings; a call fails exactly where its number is one of those that fail
+-- the first paths in the order of listings. A call fails exactly where its number is one of those that fail
 abbrev pub Lists : MemFiles → MemFiles → List ℕ → ℕ → Result (Vec String) ListError → Type 0
 Lists old new folder most (Ok paths) = (fails_next old ≡ false) × (faults_of new ≡ faults_of old)
     × (map string_bytes paths.items ≡ take most (in_order (order_of old) (class_paths folder (files_of old))))

@@ -1,5 +1,5 @@
 ghost use Rattle.std.specs.Prelude.{◌≡◌, ◌≤◌, ℕ, List, Option, Result, IfOk, map, string_bytes};
-ghost use Rattle.dj_edge.specs.Held.{Held};
+ghost use Rattle.dj_edge.specs.trusted.Held.{Held};
 
 use std::alloc::Global;
 use thiserror::Error;
@@ -24,7 +24,7 @@ pub enum ReadError {
     /// The store has no such path.
     #[error("there is no such file")]
     Absent,
-    /// There are more bytes than were asked for.
+    /// There are more bytes than the caller allows.
     #[error("the file is too long")]
     TooLong,
     /// There was no memory.
@@ -32,20 +32,20 @@ pub enum ReadError {
     Memory,
 }
 
-/// A store of files, which calls only read.
+/// A store of files. Its calls only read.
 pub trait Files {
-    ghost use Rattle.dj_edge.specs.Calls.{IsListing, ListAsks, ListCounts, ReadTells, ReadAsks, ReadCounts};
+    ghost use Rattle.dj_edge.specs.trusted.Calls.{IsListing, ListAsks, ListCounts, ReadTells, ReadAsks, ReadCounts};
 
-    /// What is held, where the store tells it. No call changes it.
+    /// What the store holds, where its contents are known. No call changes it.
     ghost held: { Self → Option Held };
 
-    /// How many calls failed. The count stands still at 2^64 - 1, and no call makes it less.
+    /// How many calls failed, up to 2^64 - 1. No call makes it less.
     ghost faults: { Self → ℕ };
 
-    /// The folders and paths that were asked, in order.
+    /// The folders and paths that were asked for, in order.
     ghost asked: { Self → List (List ℕ) };
 
-    /// The class files in the folder or below it, at most `most` of them, in any order.
+    /// The paths of the class files in the folder or below it, at most `most` of them, in any order.
     fn list(&mut self, alloc: Global, folder: &str, most: u32) -> Result<Vec<String>, ListError>
         ensures unchanged { held self.new ≡ held self.old }
         ensures asks { ListAsks (asked self.old) (asked self.new) folder.now result }
@@ -54,7 +54,7 @@ pub trait Files {
         ensures lists { IfOk result (λ paths.
             IsListing (held self.old) folder.now most (map string_bytes paths.items)) };
 
-    /// The bytes of the file, at most `most` of them.
+    /// The bytes of the file, which may have at most `most`.
     fn read(&mut self, alloc: Global, path: &str, most: u64) -> Result<Vec<u8>, ReadError>
         ensures unchanged { held self.new ≡ held self.old }
         ensures asks { ReadAsks (asked self.old) (asked self.new) path.now result }

@@ -1,6 +1,7 @@
 //! The class files and the bytes of files in folders, as a store of files.
 ghost use Rattle.std.specs.Prelude.{◌≡◌, ◌≤◌, [], ◌∷◌, ◌++◌, None, IfOk, OnOk, OnErr, map, string_bytes};
-ghost use Rattle.dj_edge.specs.Calls.{IsListing, ListAsks, ListCounts, CountsListing, ReadTells, ReadAsks, ReadCounts, CountsRead};
+ghost use Rattle.dj_edge.specs.trusted.Calls.{IsListing, ListAsks, ListCounts, ReadTells, ReadAsks, ReadCounts};
+ghost use Rattle.dj_edge.specs.Calls.{CountsListing, CountsRead};
 ghost use Rattle.dj_edge.specs.Listings.{ListsFolder};
 ghost use Rattle.dj_edge.specs.Reads.{ReadsFile};
 ghost use Rattle.dj_edge.specs.Systems.{system_of};
@@ -11,7 +12,7 @@ use crate::opens::{OpensFiles, read_file};
 use crate::walk::Folders;
 use std::alloc::{AllocError, Global};
 
-/// A store of the files of a system that reads one folder, and opens one file, at a time. It does not tell what is held.
+/// A store of the files of a system, which reads one folder at a time and opens one file at a time. Its contents aren't known.
 #[derive(Drop)]
 pub struct FolderFiles<S: Folders + OpensFiles + Drop> {
     system: S,
@@ -20,7 +21,7 @@ pub struct FolderFiles<S: Folders + OpensFiles + Drop> {
 }
 
 impl<S: Folders + OpensFiles + Drop> FolderFiles<S> {
-    /// The files of the system, of which nothing was asked.
+    /// The files of the system; nothing was asked for yet.
     pub fn new(alloc: Global, system: S) -> FolderFiles<S>
         ensures system { system_of result ≡ system }
         ensures faults { ⟦<FolderFiles<S> as Files>⟧.faults result ≡ 0 }
@@ -34,7 +35,7 @@ impl<S: Folders + OpensFiles + Drop> FolderFiles<S> {
     }
 }
 
-/// Appends a text to those that were asked.
+/// Appends a text to what was asked for.
 fn ask(alloc: Global, asked: &mut Vec<String>, text: &str) -> Result<(), AllocError>
     ensures ok { OnOk result (map string_bytes asked.new.items ≡ map string_bytes asked.old.items ++ text.now ∷ []) }
     ensures err { OnErr result (asked.new.items ≡ asked.old.items) }

@@ -25,7 +25,7 @@ pub enum HostError {
 
 /// What differs from one machine to another, and from run to run.
 pub trait Host {
-    ghost use Rattle.dj_edge.specs.Calls.{Gives};
+    ghost use Rattle.dj_edge.specs.trusted.Calls.{Gives};
 
     /// The answers so far.
     ghost given: { Self → List HostAnswer };

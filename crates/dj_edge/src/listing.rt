@@ -1,7 +1,7 @@
 //! The class files of a folder, each once, as a walk finds them.
 ghost use Rattle.std.specs.Prelude.{◌≡◌, ◌&&◌, None, map, filter, IfOk, codes, nat_eq, string_bytes};
 ghost use Rattle.std.specs.List.{starts_with, ends_with};
-ghost use Rattle.dj_edge.specs.Calls.{IsListing};
+ghost use Rattle.dj_edge.specs.trusted.Calls.{IsListing};
 ghost use Rattle.dj_edge.specs.Listings.{AreOnce, IsListingOf, ListsFolder};
 
 use crate::files::ListError;
@@ -23,7 +23,7 @@ fn keep_below(start: &[u8], paths: &mut Vec<String>)
     paths.retain(|path| is_below(start, path.as_str()));
 }
 
-/// Each of the paths once, and at most so many.
+/// Each of the paths once, and at most this many.
 fn each_once(mut paths: Vec<String>, most: u32) -> Result<Vec<String>, AllocError>
     ensures { IfOk result (λ listed. AreOnce (map string_bytes paths.items) most (map string_bytes listed.items)) }
 {
@@ -33,7 +33,7 @@ fn each_once(mut paths: Vec<String>, most: u32) -> Result<Vec<String>, AllocErro
     Ok(paths)
 }
 
-/// The class files of the folder among the paths that were found, each once, and at most so many.
+/// The class files of the folder among the paths that were found, each once, and at most this many.
 fn listing_of(
     alloc: Global,
     folder: &str,

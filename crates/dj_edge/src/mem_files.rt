@@ -6,7 +6,7 @@ use crate::order::Order;
 use crate::stored::{bytes_under, listing};
 use std::alloc::{AllocError, Global};
 
-/// Adds to what was asked.
+/// Adds to what was asked for.
 fn ask(asked: &mut Vec<String>, text: String) -> Result<(), AllocError>
     ensures ok { OnOk result (asked.new.items ≡ asked.old.items ++ text ∷ []) }
     ensures err { OnErr result (asked.new.items ≡ asked.old.items) }
@@ -61,8 +61,10 @@ impl MemFiles {
 
 impl Files for MemFiles {
     ghost use Rattle.std.specs.Prelude.{◌≡◌, ◌≤◌, Some, List, ℕ, Option, Result, IfOk, map, string_bytes};
-    ghost use Rattle.dj_edge.specs.Held.{Held, held_of};
-    ghost use Rattle.dj_edge.specs.Calls.{IsListing, ListAsks, ListCounts, CountsListing, ReadTells, ReadAsks, ReadCounts, CountsRead};
+    ghost use Rattle.dj_edge.specs.trusted.Held.{Held};
+    ghost use Rattle.dj_edge.specs.Held.{held_of};
+    ghost use Rattle.dj_edge.specs.trusted.Calls.{IsListing, ListAsks, ListCounts, ReadTells, ReadAsks, ReadCounts};
+    ghost use Rattle.dj_edge.specs.Calls.{CountsListing, CountsRead};
     ghost use Rattle.dj_edge.specs.Stores.{files_of, faults_of, asked_of, IsOneCall, Lists, Reads};
 
     ghost held = { λ m. Some (held_of (files_of m)) };

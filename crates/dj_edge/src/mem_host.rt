@@ -31,7 +31,7 @@ impl Host for MemHost {
     ghost use Rattle.std.specs.Prelude.{List};
     ghost use Rattle.dj_edge.specs.declared.host.HostAnswer.{HostAnswer};
     ghost use Rattle.dj_edge.specs.declared.host.HostAnswer.TheVariants.{Word, Nanos, Millis};
-    ghost use Rattle.dj_edge.specs.Calls.{Gives};
+    ghost use Rattle.dj_edge.specs.trusted.Calls.{Gives};
     ghost use Rattle.dj_edge.specs.Hosts.{given_of, AnswersWord, AnswersTime};
 
     ghost given = { given_of };

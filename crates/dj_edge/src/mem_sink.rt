@@ -3,7 +3,7 @@ ghost use Rattle.std.specs.Prelude.{◌≤◌};
 use crate::sink::{Sink, SinkError};
 use std::alloc::Global;
 
-/// A sink into memory, with room for so many bytes.
+/// A sink into memory, with room for this many bytes.
 #[derive(Drop)]
 pub struct MemSink {
     piece: u32,
@@ -43,7 +43,8 @@ impl MemSink {
 
 impl Sink for MemSink {
     ghost use Rattle.std.specs.Prelude.{◌≡◌, ◌<◌, ◌≤◌, ℕ, List, Option, Some, length};
-    ghost use Rattle.dj_edge.specs.Calls.{Writes, WriteCounts, CountsWrite};
+    ghost use Rattle.dj_edge.specs.trusted.Calls.{Writes, WriteCounts};
+    ghost use Rattle.dj_edge.specs.Calls.{CountsWrite};
     ghost use Rattle.dj_edge.specs.Sinks.{piece_of, bytes_of, faults_of, Takes};
 
     ghost written = { λ m. Some (bytes_of m) };

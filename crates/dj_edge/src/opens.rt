@@ -12,16 +12,16 @@ pub trait OpensFiles {
     /// An open file.
     type File: Read + Drop;
 
-    /// What each file has, where it is told. No call changes it.
+    /// The contents of each file, where they are known. No call changes them.
     ghost contents: { Self → Option Contents };
 
-    /// The file of the path, and how long it is said to be, which is only a hint of how much room to make.
+    /// The file of the path, and the system's word on how long it is, which only decides how much room is made.
     fn open_file(&mut self, path: &str) -> Result<(Self::File, u64), ReadError>
         ensures unchanged { contents self.new ≡ contents self.old }
         ensures opens { IsFileOpened (λ file. Self.File.remaining file) (contents self.old) path.now result };
 }
 
-/// The bytes of a file that has at most `most`, else that there are more.
+/// The bytes of a file that has at most `most`; else it is too long.
 pub fn read_file<O: OpensFiles>(
     alloc: Global,
     opens: &mut O,

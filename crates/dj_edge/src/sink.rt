@@ -1,5 +1,6 @@
 ghost use Rattle.std.specs.Prelude.{ℕ, ◌<◌, ◌≤◌, List, Option, length};
-ghost use Rattle.dj_edge.specs.Calls.{Writes, Puts, WriteCounts};
+ghost use Rattle.dj_edge.specs.trusted.Calls.{Writes, WriteCounts};
+ghost use Rattle.dj_edge.specs.Calls.{Puts};
 
 use thiserror::Error;
 
@@ -16,13 +17,13 @@ pub enum SinkError {
 
 /// Where bytes go.
 pub trait Sink {
-    /// What was written, where the sink tells it.
+    /// What was written, where that is known.
     ghost written: { Self → Option (List ℕ) };
 
-    /// How many writes failed. The count stands still at 2^64 - 1, and no write makes it less.
+    /// How many writes failed, up to 2^64 - 1. No write makes it less.
     ghost faults: { Self → ℕ };
 
-    /// Writes some of the bytes from the front, at least one, and answers how many.
+    /// Writes the first of these bytes, at least one, and returns how many.
     fn write(&mut self, piece: &[u8]) -> Result<usize, SinkError>
         requires { 0 < length piece.now }
         ensures writes { Writes (written self.old) (written self.new) piece.now result }
@@ -30,7 +31,7 @@ pub trait Sink {
         ensures counts { WriteCounts (faults self.old) (faults self.new) result };
 }
 
-/// Writes all of the bytes. After an error a front of them is written.
+/// Writes all of the bytes. Where it fails, a prefix of them is written.
 pub fn put_all<S: Sink>(sink: &mut S, bytes: &[u8]) -> Result<(), SinkError>
     ensures puts { Puts (S.written sink.old) (S.written sink.new) bytes.now result }
     ensures never_falls { S.faults sink.old ≤ S.faults sink.new }

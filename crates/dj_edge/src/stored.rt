@@ -4,7 +4,7 @@ ghost use Rattle.std.specs.Ordering.{nat_cmp};
 ghost use Rattle.std.specs.Cmp.Lexicographic.{slice_cmp};
 ghost use Rattle.std.specs.FinMap.{find};
 ghost use Rattle.std.specs.List.{starts_with, ends_with};
-ghost use Rattle.dj_edge.specs.Held.{is_class_path};
+ghost use Rattle.dj_edge.specs.trusted.Held.{is_class_path};
 ghost use Rattle.dj_edge.specs.InMemory.{files_in, PathsDiffer, in_order, class_paths};
 
 use crate::order::Order;
@@ -23,7 +23,7 @@ pub fn bytes_under<'a>(files: &'a [(String, Vec<u8>)], path: &[u8]) -> Option<&'
     None
 }
 
-/// Whether no path stands twice.
+/// Whether no path appears twice.
 pub fn paths_differ(held: &[(String, Vec<u8>)]) -> bool
     ensures { IsTrue result ↔ PathsDiffer (files_in held.now) }
 {

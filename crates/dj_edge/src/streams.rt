@@ -1,7 +1,7 @@
 //! One write of a piece, and reading to the end within a bound, over the readers and writers of std.
 ghost use Rattle.std.specs.Prelude.{◌≡◌, ◌≢◌, ◌↔◌, ◌+◌, ◌<◌, ◌≤◌, length};
 ghost use Rattle.std.specs.IoError.{error_kind};
-ghost use Rattle.dj_edge.specs.Calls.{Writes};
+ghost use Rattle.dj_edge.specs.trusted.Calls.{Writes};
 ghost use Rattle.dj_edge.specs.Streams.{ReadsMore, ReadsWithin, TakesAtMost};
 
 use crate::files::ReadError;
@@ -21,7 +21,7 @@ fn sink_error(error: io::Error) -> SinkError
     }
 }
 
-/// Writes some bytes from the front of the piece, at least one, by one write. A write that takes none is a failure.
+/// Writes the first bytes of the piece, at least one, by one write. A write that takes none is a failure.
 pub fn write_piece<W: Write>(writer: &mut W, piece: &[u8]) -> Result<usize, SinkError>
     requires { 0 < length piece.now }
     ensures { Writes (W.contents writer.old) (W.contents writer.new) piece.now result }
@@ -45,7 +45,7 @@ pub fn read_error(error: io::Error) -> ReadError
     }
 }
 
-/// How many bytes one read asks for at most.
+/// The most bytes that one read takes.
 const CHUNK: usize = 8_192;
 
 /// What one read found.
@@ -57,7 +57,7 @@ pub enum Found {
     End,
 }
 
-/// One read of bytes that come behind those that were read before, up to one more than `most` in all.
+/// One read of bytes, which are added to those that were read before, up to one more than `most` in all.
 fn read_more<R: Read>(reader: &mut R, bytes: &mut Vec<u8>, most: u64) -> Result<Found, ReadError>
     requires { length bytes.old.items ≤ most }
     ensures { ReadsMore (R.remaining reader.old) (R.remaining reader.new) bytes.old.items bytes.new.items most result }
@@ -80,8 +80,8 @@ fn read_more<R: Read>(reader: &mut R, bytes: &mut Vec<u8>, most: u64) -> Result<
     }
 }
 
-/// All bytes of the reader where they are at most `most`, else that there are more, which one byte more tells.
-/// Room is made for `expected` bytes before the first read, so that a reader of so many bytes takes no more room than they.
+/// All bytes of the reader where they are at most `most`; else it is too long, which reading one byte more shows.
+/// Room is made for `expected` bytes before the first read, so that a reader of as many bytes takes no more room.
 pub fn read_bounded<R: Read>(
     alloc: Global,
     reader: &mut R,

@@ -9,17 +9,17 @@ use std::alloc::Global;
 /// How many levels of folders are walked: the folder itself and 64 below it.
 const LEVELS: u32 = 65;
 
-/// How many entries one walk meets at most.
+/// The most entries that one walk meets.
 const MOST_ENTRIES: u32 = 1_048_576;
 
-/// What an entry of a folder is, or what the link leads to that it is.
+/// What an entry of a folder is, or what the link at the entry leads to.
 #[derive(Clone, Copy)]
 pub enum EntryKind {
     /// A folder.
     Folder,
-    /// A file that ends.
+    /// A regular file.
     File,
-    /// A pipe, a socket or a device: reading it may wait for ever.
+    /// Anything else, such as a pipe, a socket or a device: reading it may wait for ever.
     Other,
 }
 
@@ -36,7 +36,7 @@ impl Entry {
     ghost use Rattle.std.specs.Prelude.{◌≡◌};
     ghost use Rattle.dj_edge.specs.Walks.{place_of, is_kept};
 
-    /// Whether a walk looks at it: it is a folder, or named as a class file.
+    /// Whether the walk keeps it: it is a folder, or has the name of a class file.
     fn is_kept(&self) -> bool
         ensures { result ≡ is_kept (place_of self.now) }
     {
@@ -49,18 +49,18 @@ impl Entry {
 
 /// What reads folders, one at a time.
 pub trait Folders {
-    /// What each folder has, where it is told. No call changes it.
+    /// The contents of each folder, where they are known. No call changes them.
     ghost tree: { Self → Option Tree };
 
-    /// What the open folder has that was not read yet, or none where it can't be read to its end.
+    /// The entries of the open folder that weren't read yet; none where it can't be read to its end.
     ghost left: { Self → Option (List Place) };
 
-    /// Opens the folder, in place of the one that was open.
+    /// Opens the folder; the one that was open is closed.
     fn open(&mut self, folder: &str) -> Result<(), ListError>
         ensures unchanged { tree self.new ≡ tree self.old }
         ensures opens { IsOpened (tree self.old) (left self.new) folder.now result };
 
-    /// The next entry of the open folder, none at its end. It fails where the entry can't be looked at or its name is not UTF-8.
+    /// The next entry of the open folder; none at its end. It fails where the entry can't be looked at or its name is not UTF-8.
     fn next(&mut self, alloc: Global) -> Result<Option<Entry>, ListError>
         ensures unchanged { tree self.new ≡ tree self.old }
         ensures reads { IsNextEntry (tree self.old) (left self.old) (left self.new) result };
@@ -69,13 +69,13 @@ pub trait Folders {
 /// What a walk keeps of a folder.
 #[derive(Drop)]
 struct FolderEntries {
-    /// The folders in it, and what is named as a class file.
+    /// The folders in it, and what has the name of a class file.
     kept: Vec<Entry>,
     /// How many entries it has.
     count: u32,
 }
 
-/// Adds an entry where a walk looks at it.
+/// Adds an entry where a walk keeps it.
 fn keep(kept: &mut Vec<Entry>, entry: Entry) -> Result<(), ListError>
     ensures kept { OnOk result (map place_of kept.new.items ≡ map place_of kept.old.items ++ filter is_kept (place_of entry ∷ [])) }
     ensures no_fault { IfErr result (λ error. error ≡ Memory) }
@@ -90,7 +90,7 @@ fn keep(kept: &mut Vec<Entry>, entry: Entry) -> Result<(), ListError>
     }
 }
 
-/// Reads a folder, which has at most `most` entries. Those that a walk doesn't look at are counted alone.
+/// Reads a folder, which may have at most `most` entries. Those that a walk doesn't keep are only counted.
 fn read_folder<F: Folders>(
     alloc: Global,
     folders: &mut F,
@@ -112,7 +112,7 @@ fn read_folder<F: Folders>(
     Err(ListError::Failed)
 }
 
-/// What a walk met so far.
+/// What a walk has met so far.
 #[derive(Drop)]
 struct Walk {
     found: Vec<String>,
@@ -120,7 +120,7 @@ struct Walk {
 }
 
 impl Walk {
-    /// Takes an entry, and answers whether it is a folder. A class file is found; no other thing may be named as one.
+    /// Takes an entry, and returns whether it is a folder. A class file is added to those found; anything else that has the name of one makes the walk fail.
     fn take(&mut self, entry: &Entry) -> Result<bool, ListError>
         ensures few { self.new.entries ≡ self.old.entries }
         ensures taken { IsTaken entry.now self.old self.new result }
@@ -143,7 +143,7 @@ impl Walk {
     }
 }
 
-/// Walks a folder and those below it, so many levels.
+/// Walks a folder and those below it, down to this many levels.
 fn walk_folder<F: Folders>(
     alloc: Global,
     folders: &mut F,
@@ -169,8 +169,8 @@ fn walk_folder<F: Folders>(
     Ok(())
 }
 
-/// The class files in the folder or below it, each path as it was met. It fails exactly where a folder can't be read or lies
-/// more than 64 levels below the first, where more than 1,048,576 entries are met, or where a class file's name is not a file's.
+/// The class files in the folder or below it, each path as it was met. It fails exactly where a folder can't be read or is more than 64
+/// levels below the first, where more than 1,048,576 entries are met, or where something that is no file has the name of a class file.
 pub fn files_below<F: Folders>(
     alloc: Global,
     folders: &mut F,

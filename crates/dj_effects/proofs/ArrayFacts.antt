@@ -5,10 +5,10 @@ use Rattle.std.specs.Prelude.{option_and_then}
 use Rattle.std.proofs.lemmas.Bool.{ltb-true}
 use Rattle.dj_names.specs.declared.run.Element.{Element}
 use Rattle.dj_names.specs.declared.run.Raised.TheVariants as raises
-use Rattle.dj_names.specs.Heaps.{Object, Instance, Array, Text}
-use Rattle.dj_model.specs.Instructions.{Access}
-use Rattle.dj_model.specs.Arrays as model
-use Rattle.dj_model.specs.Arrays.{Found, array_at, array_in, reaches}
+use Rattle.dj_names.specs.trusted.Heaps.{Object, Instance, Array, Text}
+use Rattle.dj_model.specs.trusted.Instructions.{Access}
+use Rattle.dj_model.specs.trusted.Arrays as model
+use Rattle.dj_model.specs.trusted.Arrays.{Found, array_at, array_in, reaches}
 use Rattle.dj_heap.specs.Heaps.{LimitedHeap, contents_of, object_in, element_in}
 use Rattle.dj_heap.specs.Lengths.{object_length}
 use Rattle.dj_heap.specs.Calls.{made_as}

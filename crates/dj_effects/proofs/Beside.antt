@@ -1,10 +1,10 @@
--- Where an array isn't reached, the operands that are told are those before.
+-- Where an array isn't reached, the operands that are reported are those before.
 use Rattle.std.proofs.Common.{◌≡◌, ℕ, Bool, true, false, ℤ, pos, negsuc, List, nat_lt, Result, Ok, Err, if◌then◌else◌, refl, sym, subst}
 use Rattle.std.specs.Prelude.{⊤}
 use Rattle.dj_names.specs.declared.run.Element.{Element}
-use Rattle.dj_model.specs.Instructions.{Access}
-use Rattle.dj_model.specs.Arrays as model
-use Rattle.dj_model.specs.Arrays.{Found, reaches}
+use Rattle.dj_model.specs.trusted.Instructions.{Access}
+use Rattle.dj_model.specs.trusted.Arrays as model
+use Rattle.dj_model.specs.trusted.Arrays.{Found, reaches}
 use Rattle.dj_stack.specs.Frames.{StackFrame, top_operands}
 use Rattle.dj_effects.specs.declared.way.Flow.{Flow}
 use Rattle.dj_effects.specs.declared.way.Flow.TheVariants as goes

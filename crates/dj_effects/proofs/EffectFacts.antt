@@ -1,14 +1,14 @@
--- What is told of effects, at plain values.
+-- What is said of effects, at plain values.
 use Rattle.std.proofs.Common.{◌≡◌, ℕ, true, false, pos, negsuc, List, [], ◌∷◌, map, Option, Some, None, refl, ap, arith}
 use Rattle.std.specs.Int.{int_wrap}
 use Rattle.dj_names.specs.declared.descriptor.Kind.TheVariants as kinds
 use Rattle.dj_names.specs.declared.run.Value.{Value}
 use Rattle.dj_names.specs.declared.run.Value.TheVariants as values
 use Rattle.dj_names.specs.declared.run.Raised.TheVariants as raises
-use Rattle.dj_model.specs.Instructions as model
-use Rattle.dj_model.specs.Numbers.{compute}
-use Rattle.dj_model.specs.State as states
-use Rattle.dj_model.specs.Values.{Values, left, on_values}
+use Rattle.dj_model.specs.trusted.Instructions as model
+use Rattle.dj_model.specs.trusted.Numbers.{compute}
+use Rattle.dj_model.specs.trusted.State as states
+use Rattle.dj_model.specs.trusted.Values.{Values, left, on_values}
 use Rattle.dj_stack.specs.Frames.{StackFrame}
 use Rattle.dj_effects.specs.declared.actions.Slots.TheVariants as slots
 use Rattle.dj_effects.specs.declared.actions.Movement.TheVariants as moves
@@ -73,7 +73,7 @@ run e = absurd cc
 not_run_so : IsActionOf (Some actions.Nop) (model.Other 168 model.Nothing) → ⊥
 not_run_so e = absurd cc
 
--- ---- what an effect tells
+-- ---- the parts of an effect
 
 abbrev operands_told : Option Values → List Value
 operands_told None = []
@@ -135,7 +135,7 @@ elsewhere does = elsewhere_apart does.effect
 moved_on : Does model.Nop (frames 7 [] two) (frames 8 [] two) (Some ways.Next) → ⊥
 moved_on does = let e = does.number in absurd cc
 
--- locals are told too
+-- locals are compared too
 other_local_apart : Some (left (Some (values.Int (pos 4)) ∷ []) (values.Int (pos 9) ∷ []) states.Next) ≡ Some (left (Some (values.Int (pos 9)) ∷ []) (values.Int (pos 9) ∷ []) states.Next) → ⊥
 other_local_apart e = let same : Some (values.Int (pos 4)) ∷ [] ≡ Some (values.Int (pos 9)) ∷ [] = ap locals_told e in absurd cc
 

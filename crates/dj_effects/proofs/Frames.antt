@@ -1,9 +1,9 @@
 -- What a call and another one after it leave as it was.
 use Rattle.std.proofs.Common.{◌≡◌, List, Option, Some, sym, ap, ◌∙◌}
 use Rattle.dj_names.specs.declared.run.Value.{Value}
-use Rattle.dj_model.specs.Instructions.{Instruction}
-use Rattle.dj_model.specs.State.{Next}
-use Rattle.dj_model.specs.Values.{left, on_values}
+use Rattle.dj_model.specs.trusted.Instructions.{Instruction}
+use Rattle.dj_model.specs.trusted.State.{Next}
+use Rattle.dj_model.specs.trusted.Values.{left, on_values}
 use Rattle.dj_stack.specs.Frames.{StackFrame, SameButOperands, top_locals, top_operands}
 use Rattle.dj_effects.specs.declared.way.Way.TheVariants as ways
 use Rattle.dj_effects.specs.Does.{Does}

@@ -1,4 +1,4 @@
--- What is told of effects on arrays, at plain values.
+-- What is said of effects on arrays, at plain values.
 use Rattle.std.proofs.Common.{◌≡◌, ◌^◌, ℕ, Bool, true, false, ℤ, pos, negsuc, List, [], ◌∷◌, map, Option, Some, None, nat_eq, Result, Ok, Err, refl, ap, arith}
 use Rattle.std.specs.Int.{int_wrap}
 use Rattle.dj_names.specs.declared.run.Value.{Value}
@@ -7,11 +7,11 @@ use Rattle.dj_names.specs.declared.run.Element.TheVariants as elements
 use Rattle.dj_names.specs.declared.run.Raised.TheVariants as raises
 use Rattle.dj_names.specs.declared.run.Outcome.{Outcome}
 use Rattle.dj_names.specs.declared.run.Outcome.TheVariants as outcomes
-use Rattle.dj_names.specs.Heaps.{Object, Array}
-use Rattle.dj_model.specs.Instructions as model
-use Rattle.dj_model.specs.State as states
-use Rattle.dj_model.specs.State.{Next, Raise}
-use Rattle.dj_model.specs.Arrays.{Null, NoArray, IsArray, OnHeap, flows, array_length, load_element, make_array, store_element}
+use Rattle.dj_names.specs.trusted.Heaps.{Object, Array}
+use Rattle.dj_model.specs.trusted.Instructions as model
+use Rattle.dj_model.specs.trusted.State as states
+use Rattle.dj_model.specs.trusted.State.{Next, Raise}
+use Rattle.dj_model.specs.trusted.Arrays.{Null, NoArray, IsArray, OnHeap, flows, array_length, load_element, make_array, store_element}
 use Rattle.dj_heap.specs.Heaps.{LimitedHeap}
 use Rattle.dj_stack.specs.Frames.{StackFrame}
 use Rattle.dj_effects.specs.declared.way.Way.TheVariants as ways
@@ -102,7 +102,7 @@ loaded_without_sign : DoesOnHeap (load_element model.Bytes) (frames (values.Int 
 unfolding load_element
 loaded_without_sign does = loaded_without_sign_apart does.effect
 
--- the heap is told
+-- the heap is compared too
 changed_apart : Some (flows (heap (negsuc 5)).heap (values.Int (negsuc 5) ∷ []) (Ok Next)) ≡ Some (flows (heap (pos 0)).heap (values.Int (negsuc 5) ∷ []) (Ok Next)) → ⊥
 changed_apart e = let same : pos 1 ∷ negsuc 5 ∷ [] ≡ pos 1 ∷ pos 0 ∷ [] = ap elements_told e in absurd cc
 
@@ -187,6 +187,6 @@ told = refl
 told_wrong : IsTakenSo takes_itself (values.Ref 4 ∷ values.Int (pos 0) ∷ values.Ref 5 ∷ []) true → ⊥
 told_wrong e = absurd cc
 
--- of a number nothing has to be told
+-- for a number nothing has to hold
 told_nothing : IsTakenSo takes_itself (values.Int (pos 4) ∷ values.Int (pos 0) ∷ values.Ref 5 ∷ []) true
 told_nothing = tt

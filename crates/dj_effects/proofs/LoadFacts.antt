@@ -11,11 +11,11 @@ use Rattle.dj_names.specs.declared.run.Value.TheVariants as values
 use Rattle.dj_names.specs.declared.run.Element.{Element}
 use Rattle.dj_names.specs.declared.run.Element.TheVariants as elements
 use Rattle.dj_names.specs.declared.run.Raised.TheVariants as raises
-use Rattle.dj_names.specs.Heaps.{Object, Array, Heap, element_value}
-use Rattle.dj_model.specs.Instructions.{Access}
-use Rattle.dj_model.specs.State.{Next}
-use Rattle.dj_model.specs.Arrays as model
-use Rattle.dj_model.specs.Arrays.{Found, array_at, array_length, flows, length_of, load_element, load_from, only, reaches, with_value}
+use Rattle.dj_names.specs.trusted.Heaps.{Object, Array, Heap, element_value}
+use Rattle.dj_model.specs.trusted.Instructions.{Access}
+use Rattle.dj_model.specs.trusted.State.{Next}
+use Rattle.dj_model.specs.trusted.Arrays as model
+use Rattle.dj_model.specs.trusted.Arrays.{Found, array_at, array_length, flows, length_of, load_element, load_from, only, reaches, with_value}
 use Rattle.dj_heap.specs.Heaps.{LimitedHeap, contents_of, object_in, element_in, low_bits, IsKeptIn}
 use Rattle.dj_effects.specs.declared.way.Way.TheVariants as ways
 use Rattle.dj_effects.specs.declared.way.Flow.{Flow}

@@ -2,8 +2,8 @@
 use Rattle.std.proofs.Common.{◌≡◌, ◌<◌, ◌≤◌, ℕ, zero, suc, ◌-◌, Bool, true, false, List, [], ◌∷◌, length, set, Option, Some, None, nat_eq, if◌then◌else◌, refl, arith}
 use Rattle.std.proofs.lemmas.List.{length-set}
 use Rattle.dj_names.specs.declared.run.Value.{Value}
-use Rattle.dj_model.specs.Numbers.{is_long}
-use Rattle.dj_model.specs.Values.{is_some_wide, local_at, without_half}
+use Rattle.dj_model.specs.trusted.Numbers.{is_long}
+use Rattle.dj_model.specs.trusted.Values.{is_some_wide, local_at, without_half}
 
 pub past : (locals : List (Option Value)) (slot : ℕ) → length locals ≤ slot → local_at locals slot ≡ None
 past [] slot e = refl

@@ -9,9 +9,9 @@ use Rattle.dj_names.specs.declared.run.Value.TheVariants as values
 use Rattle.dj_names.specs.declared.run.Element.{Element}
 use Rattle.dj_names.specs.declared.run.Raised.TheVariants as raises
 use Rattle.dj_names.specs.declared.run.Outcome.TheVariants as outcomes
-use Rattle.dj_names.specs.Heaps.{Array, Heap, array_size}
-use Rattle.dj_model.specs.State.{Next, Raise}
-use Rattle.dj_model.specs.Arrays.{flows, make_array, make_elements}
+use Rattle.dj_names.specs.trusted.Heaps.{Array, Heap, array_size}
+use Rattle.dj_model.specs.trusted.State.{Next, Raise}
+use Rattle.dj_model.specs.trusted.Arrays.{flows, make_array, make_elements}
 use Rattle.dj_heap.specs.Heaps.{LimitedHeap, Makes, Refuses}
 use Rattle.dj_heap.specs.declared.errors.HeapError.TheVariants as errors
 use Rattle.dj_effects.specs.DoesOnHeap.{FitsOnHeapIn}

@@ -1,9 +1,9 @@
 -- Operands that are moved, as the model has it.
 use Rattle.std.proofs.Common.{◌≡◌, ◌≤◌, ◌+◌, ℕ, List, ◌++◌, length, Option, Some, None, refl, arith, length-append}
 use Rattle.dj_names.specs.declared.run.Value.{Value}
-use Rattle.dj_model.specs.Instructions.{Swap}
-use Rattle.dj_model.specs.Numbers.{is_long}
-use Rattle.dj_model.specs.Values.{Cut, doubled, dropped, moved, one_slot, swapped, two_slots, under_one, under_two}
+use Rattle.dj_model.specs.trusted.Instructions.{Swap}
+use Rattle.dj_model.specs.trusted.Numbers.{is_long}
+use Rattle.dj_model.specs.trusted.Values.{Cut, doubled, dropped, moved, one_slot, swapped, two_slots, under_one, under_two}
 use Rattle.dj_effects.specs.declared.actions.Slots.{Slots}
 use Rattle.dj_effects.specs.declared.actions.Slots.TheVariants as slots
 use Rattle.dj_effects.specs.declared.actions.Movement.TheVariants as moves

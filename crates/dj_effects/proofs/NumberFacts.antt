@@ -5,11 +5,11 @@ use Rattle.dj_names.specs.declared.descriptor.Kind.{Kind}
 use Rattle.dj_names.specs.declared.run.Value.{Value}
 use Rattle.dj_names.specs.declared.run.Raised.{Raised}
 use Rattle.dj_names.specs.declared.run.Raised.TheVariants as raises
-use Rattle.dj_names.specs.Heaps.{value_number}
-use Rattle.dj_model.specs.Instructions.{BinaryOperation, Compute}
-use Rattle.dj_model.specs.Numbers.{divided, compute, given_kind, is_of_kind, left_kind, right_kind}
-use Rattle.dj_model.specs.State.{Next, Raise}
-use Rattle.dj_model.specs.Values.{Values, computed, left, on_values}
+use Rattle.dj_names.specs.trusted.Heaps.{value_number}
+use Rattle.dj_model.specs.trusted.Instructions.{BinaryOperation, Compute}
+use Rattle.dj_model.specs.trusted.Numbers.{divided, compute, given_kind, is_of_kind, left_kind, right_kind}
+use Rattle.dj_model.specs.trusted.State.{Next, Raise}
+use Rattle.dj_model.specs.trusted.Values.{Values, computed, left, on_values}
 use Rattle.dj_effects.specs.Does.{FitsIn}
 use Rattle.dj_effects.specs.Results.{of_two, value_result}
 use Rattle.dj_effects.proofs.ArrayFacts.{not_null}

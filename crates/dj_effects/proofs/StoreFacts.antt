@@ -8,13 +8,13 @@ use Rattle.dj_names.specs.declared.run.Value.TheVariants as values
 use Rattle.dj_names.specs.declared.run.Element.{Element}
 use Rattle.dj_names.specs.declared.run.Element.TheVariants as elements
 use Rattle.dj_names.specs.declared.run.Raised.TheVariants as raises
-use Rattle.dj_names.specs.Heaps.{Object, Array, Heap, kept, value_number, with_object}
-use Rattle.dj_model.specs.Instructions as instructions
-use Rattle.dj_model.specs.Instructions.{Access}
-use Rattle.dj_model.specs.Numbers.{is_of_kind}
-use Rattle.dj_model.specs.State.{Next, Raise}
-use Rattle.dj_model.specs.Arrays as model
-use Rattle.dj_model.specs.Arrays.{Found, access_kind, array_at, flows, is_taken, only, reaches, store_at, store_element, store_in}
+use Rattle.dj_names.specs.trusted.Heaps.{Object, Array, Heap, kept, value_number, with_object}
+use Rattle.dj_model.specs.trusted.Instructions as instructions
+use Rattle.dj_model.specs.trusted.Instructions.{Access}
+use Rattle.dj_model.specs.trusted.Numbers.{is_of_kind}
+use Rattle.dj_model.specs.trusted.State.{Next, Raise}
+use Rattle.dj_model.specs.trusted.Arrays as model
+use Rattle.dj_model.specs.trusted.Arrays.{Found, access_kind, array_at, flows, is_taken, only, reaches, store_at, store_element, store_in}
 use Rattle.dj_heap.specs.Heaps.{LimitedHeap, object_in, low_bits, with_number, Replaces}
 use Rattle.dj_effects.specs.declared.way.Way.TheVariants as ways
 use Rattle.dj_effects.specs.declared.way.Flow.{Flow}
@@ -24,7 +24,7 @@ use Rattle.dj_effects.specs.Arrays.{array_told, outside, place_at, place_of, tak
 use Rattle.dj_effects.specs.Tops.{has_place}
 use Rattle.dj_effects.proofs.ArrayFacts.{told_array, place_is, array_there, inside}
 
--- ---- whether an array takes a reference, told of the one that stands on the operands
+-- ---- whether an array takes a reference, asked only for the pair on the operands
 
 pub told_so : (takes : ℕ → ℕ → Bool) (taken : Bool) (access : Access) (heap : Heap ℕ) (operands : List Value) → IsTakenSo takes operands taken
     → store_element takes access heap operands ≡ store_element (λ r v. taken) access heap operands

@@ -1,10 +1,11 @@
--- A table from low on, by its places.
-use Rattle.std.proofs.Common.{◌≡◌, ◌≤◌, ℕ, zero, suc, ◌&&◌, Bool, true, false, ℤ, pos, negsuc, ◌+ℤ◌, ◌-ℤ◌, ◌≤ℤ◌, ◌<ℤ◌, List, [], ◌∷◌, length, drop, get_or, ◌+◌, ◌<◌, Some, slice_get, unsigned_abs, int_lt, int_le, if◌then◌else◌, refl, sym, ap, subst, ◌∙◌, arith}
+-- A table from low on, by its places, and pairs, by the first with a match.
+use Rattle.std.proofs.Common.{◌≡◌, ◌≤◌, ℕ, zero, suc, ◌&&◌, Bool, true, false, ℤ, pos, negsuc, ◌+ℤ◌, ◌-ℤ◌, ◌≤ℤ◌, ◌<ℤ◌, List, [], ◌∷◌, length, get_or, ◌<◌, Option, Some, None, slice_get, unwrap_or, unsigned_abs, int_lt, int_le, if◌then◌else◌, refl, sym, ap, subst, ◌∙◌, arith}
 use Rattle.std.proofs.lemmas.Int.{ints}
-use Rattle.dj_model.specs.Numbers.{same_number, target_of}
-use Rattle.std.proofs.lemmas.List.{at_drop_more, at_drop_all}
+use Rattle.std.specs.Option.{option_map}
+use Rattle.dj_ops.specs.Lookups.{first_target}
+use Rattle.dj_model.specs.trusted.Numbers.{same_number, target_of}
 use Rattle.std.proofs.lemmas.Option.{slice_get-get_or}
-use Rattle.dj_model.specs.Opcodes.{lookup_pairs, table_pairs}
+use Rattle.dj_model.specs.trusted.Opcodes.{lookup_pairs, table_pairs}
 
 same_when : (s t : Bool) (a b : ℤ) → int_le a b ≡ s → int_le b a ≡ t → a ≤ℤ b → b ≤ℤ a → (s && t) ≡ true
 same_when true true a b e f under over = refl
@@ -86,23 +87,15 @@ table_outside targets low z default above past = past_places targets low z (unsi
 
 -- ---- pairs
 
-first_left : (pairs : List (ℤ × ℤ)) (default : ℕ) (z : ℤ) (pair : ℤ × ℤ) (b : Bool) → same_number pair.0 z ≡ b
-    → target_of (lookup_pairs (pair ∷ pairs)) default z ≡ (if b then unsigned_abs pair.1 else target_of (lookup_pairs pairs) default z)
-first_left pairs default z pair b e = ap (λ (b : Bool). if b then unsigned_abs pair.1 else target_of (lookup_pairs pairs) default z) e
+first_decides : (pairs : List (ℤ × ℤ)) (default : ℕ) (z : ℤ) → target_of (lookup_pairs pairs) default z ≡ unwrap_or (option_map unsigned_abs (first_target pairs z)) default
+first_decides [] default z = refl
+first_decides (pair ∷ pairs) default z = by_match (first_decides pairs default z) (same_number pair.0 z) where
+  by_match : target_of (lookup_pairs pairs) default z ≡ unwrap_or (option_map unsigned_abs (first_target pairs z)) default → (same : Bool) → (if same then unsigned_abs pair.1 else target_of (lookup_pairs pairs) default z) ≡ unwrap_or (option_map unsigned_abs (if same then Some pair.1 else first_target pairs z)) default
+  by_match rest true = refl
+  by_match rest false = rest
 
-pub pair_met : (pairs : List (ℤ × ℤ)) (i default : ℕ) (z : ℤ) (pair : ℤ × ℤ) → i < length pairs → pair ≡ get_or pairs i pair → same_number pair.0 z ≡ true
-    → target_of (lookup_pairs (drop i pairs)) default z ≡ unsigned_abs pair.1
-pair_met pairs i default z pair less is met =
-    at_drop_more (λ (pairs : List (ℤ × ℤ)). target_of (lookup_pairs pairs) default z) pairs i pair less
-    ∙ (ap (λ (pair : ℤ × ℤ). target_of (lookup_pairs (pair ∷ drop (i + 1) pairs)) default z) (sym is)
-    ∙ first_left (drop (i + 1) pairs) default z pair true met)
+pub pair_found : (pairs : List (ℤ × ℤ)) (default : ℕ) (z target : ℤ) → Some target ≡ first_target pairs z → unsigned_abs target ≡ target_of (lookup_pairs pairs) default z
+pair_found pairs default z target is = ap (λ (found : Option ℤ). unwrap_or (option_map unsigned_abs found) default) is ∙ sym (first_decides pairs default z)
 
-pub pair_passed : (pairs : List (ℤ × ℤ)) (i default : ℕ) (z : ℤ) (pair : ℤ × ℤ) → i < length pairs → pair ≡ get_or pairs i pair → same_number pair.0 z ≡ false
-    → target_of (lookup_pairs (drop (i + 1) pairs)) default z ≡ target_of (lookup_pairs (drop i pairs)) default z
-pair_passed pairs i default z pair less is other =
-    sym (at_drop_more (λ (pairs : List (ℤ × ℤ)). target_of (lookup_pairs pairs) default z) pairs i pair less
-    ∙ (ap (λ (pair : ℤ × ℤ). target_of (lookup_pairs (pair ∷ drop (i + 1) pairs)) default z) (sym is)
-    ∙ first_left (drop (i + 1) pairs) default z pair false other))
-
-pub pairs_end : (pairs : List (ℤ × ℤ)) (i default : ℕ) (z : ℤ) → length pairs ≤ i → target_of (lookup_pairs (drop i pairs)) default z ≡ default
-pairs_end pairs i default z past = at_drop_all (λ (pairs : List (ℤ × ℤ)). target_of (lookup_pairs pairs) default z) pairs i past
+pub no_pair : (pairs : List (ℤ × ℤ)) (default : ℕ) (z : ℤ) → None ≡ first_target pairs z → default ≡ target_of (lookup_pairs pairs) default z
+no_pair pairs default z is = ap (λ (found : Option ℤ). unwrap_or (option_map unsigned_abs found) default) is ∙ sym (first_decides pairs default z)

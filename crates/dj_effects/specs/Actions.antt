@@ -2,10 +2,10 @@
 use Rattle.std.specs.Prelude.{◌≡◌, Bool, true, false, Option, Some, None}
 use Rattle.dj_names.specs.declared.descriptor.Kind.{Kind}
 use Rattle.dj_names.specs.declared.descriptor.Kind.TheVariants as kinds
-use Rattle.dj_names.specs.Types.{base_array}
-use Rattle.dj_model.specs.Instructions as model
-use Rattle.dj_model.specs.Instructions.{Instruction}
-use Rattle.dj_model.specs.Opcodes.{table_pairs, lookup_pairs}
+use Rattle.dj_names.specs.trusted.Types.{base_array}
+use Rattle.dj_model.specs.trusted.Instructions as model
+use Rattle.dj_model.specs.trusted.Instructions.{Instruction}
+use Rattle.dj_model.specs.trusted.Opcodes.{table_pairs, lookup_pairs}
 use Rattle.dj_effects.specs.declared.actions.Slots.TheVariants as slots
 use Rattle.dj_effects.specs.declared.actions.Movement.{Movement}
 use Rattle.dj_effects.specs.declared.actions.Movement.TheVariants as moves

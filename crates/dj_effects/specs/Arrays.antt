@@ -1,4 +1,4 @@
--- The code's own: the place of an array that an access and an index reach.
+-- Used by the code alone: the place of an array that an access and an index reach.
 use Rattle.std.specs.Prelude.{ℕ, ◌^◌, Bool, true, ℤ, pos, negsuc, unsigned_abs, length, nat_lt, Result, Ok, Err, if◌then◌else◌}
 use Rattle.std.specs.Int.{w32, int_wrap, int_rem_euclid}
 use Rattle.dj_names.specs.declared.run.Value.{Value}
@@ -6,8 +6,8 @@ use Rattle.dj_names.specs.declared.run.Value.TheVariants as values
 use Rattle.dj_names.specs.declared.run.Element.{Element}
 use Rattle.dj_names.specs.declared.run.Element.TheVariants as elements
 use Rattle.dj_names.specs.declared.run.Raised.TheVariants as raises
-use Rattle.dj_model.specs.Instructions.{Access}
-use Rattle.dj_model.specs.Arrays.{Found, Null, NoArray, IsArray, reaches}
+use Rattle.dj_model.specs.trusted.Instructions.{Access}
+use Rattle.dj_model.specs.trusted.Arrays.{Found, Null, NoArray, IsArray, reaches}
 use Rattle.dj_effects.specs.declared.way.Way.TheVariants as ways
 use Rattle.dj_effects.specs.declared.way.Flow.{Flow}
 use Rattle.dj_effects.specs.declared.way.Flow.TheVariants as goes

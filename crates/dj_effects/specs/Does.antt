@@ -1,9 +1,9 @@
 -- What an instruction on values does to the frames.
 use Rattle.std.specs.Prelude.{◌≡◌, ◌≤◌, ⊤, ℕ, List, length, Option, Some, None}
 use Rattle.dj_names.specs.declared.run.Value.{Value}
-use Rattle.dj_model.specs.Instructions.{Instruction}
-use Rattle.dj_model.specs.State as model
-use Rattle.dj_model.specs.Values.{Values, left, on_values}
+use Rattle.dj_model.specs.trusted.Instructions.{Instruction}
+use Rattle.dj_model.specs.trusted.State as model
+use Rattle.dj_model.specs.trusted.Values.{Values, left, on_values}
 use Rattle.dj_stack.specs.Frames.{StackFrame, SameFrames, top_locals, top_number, top_operands, top_room}
 use Rattle.dj_effects.specs.declared.way.Way.{Way}
 use Rattle.dj_effects.specs.declared.way.Way.TheVariants as ways
@@ -14,12 +14,12 @@ way_view (ways.To number) = model.To number
 way_view (ways.Raise raised) = model.Raise raised
 way_view (ways.Back v) = model.Back v
 
--- the operands that an effect tells: where something is raised, those before it
+-- the operands after an effect: where an exception is raised, those before it
 abbrev pub told_operands : List StackFrame → List StackFrame → Way → List Value
 told_operands old new (ways.Raise raised) = top_operands old
 told_operands old new way = top_operands new
 
--- the effect that the new frames and the answer tell
+-- the effect that the new frames and the answer mean
 abbrev pub told : List StackFrame → List StackFrame → Option Way → Option Values
 told old new None = None
 told old new (Some way) = Some (left (top_locals new) (told_operands old new way) (way_view way))

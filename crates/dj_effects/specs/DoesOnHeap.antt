@@ -4,9 +4,9 @@ use Rattle.dj_names.specs.declared.run.Value.{Value}
 use Rattle.dj_names.specs.declared.run.Value.TheVariants as values
 use Rattle.dj_names.specs.declared.run.Outcome.{Outcome}
 use Rattle.dj_names.specs.declared.run.Outcome.TheVariants as outcomes
-use Rattle.dj_names.specs.Heaps.{Heap}
-use Rattle.dj_model.specs.State as model
-use Rattle.dj_model.specs.Arrays.{OnHeap, flows}
+use Rattle.dj_names.specs.trusted.Heaps.{Heap}
+use Rattle.dj_model.specs.trusted.State as model
+use Rattle.dj_model.specs.trusted.Arrays.{OnHeap, flows}
 use Rattle.dj_heap.specs.Heaps.{LimitedHeap}
 use Rattle.dj_stack.specs.Frames.{StackFrame, SameButOperands, top_operands, top_room}
 use Rattle.dj_effects.specs.Does.{way_view, told_operands}
@@ -18,7 +18,7 @@ flow_view (goes.Goes way) = Ok (way_view way)
 flow_view goes.Link = Err outcomes.Link
 flow_view (goes.HeapFull used size) = Err (outcomes.HeapFull used size)
 
--- the operands that an effect tells: where the run doesn't just go on, those before it
+-- the operands after an effect: where the run doesn't just go on, those before it
 abbrev pub told_beside : List StackFrame → List StackFrame → Flow → List Value
 told_beside old new (goes.Goes way) = told_operands old new way
 told_beside old new flow = top_operands old

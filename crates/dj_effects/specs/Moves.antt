@@ -1,8 +1,8 @@
--- The code's own: upper operands that are moved.
+-- Used by the code alone: upper operands that are moved.
 use Rattle.std.specs.Prelude.{◌≤◌, ⊤, ℕ, Bool, List, [], ◌∷◌, length, Option, Some, None, if◌then◌else◌}
 use Rattle.dj_names.specs.declared.run.Value.{Value}
-use Rattle.dj_model.specs.Numbers.{is_long}
-use Rattle.dj_model.specs.Values.{Cut, one_slot, two_slots, under}
+use Rattle.dj_model.specs.trusted.Numbers.{is_long}
+use Rattle.dj_model.specs.trusted.Values.{Cut, one_slot, two_slots, under}
 use Rattle.dj_effects.specs.declared.actions.Slots.{Slots}
 use Rattle.dj_effects.specs.declared.actions.Slots.TheVariants as slots
 use Rattle.dj_effects.specs.declared.moves.Piece.{Piece}

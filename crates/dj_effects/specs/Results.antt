@@ -1,11 +1,11 @@
--- The code's own: what is computed from values.
+-- Used by the code alone: what is computed from values.
 use Rattle.std.specs.Prelude.{◌&&◌, ℤ, Option, Some, None, Result, Ok, Err, if◌then◌else◌}
 use Rattle.dj_names.specs.declared.descriptor.Kind.{Kind}
 use Rattle.dj_names.specs.declared.run.Value.{Value}
 use Rattle.dj_names.specs.declared.run.Raised.{Raised}
-use Rattle.dj_names.specs.Heaps.{number_value, value_number}
-use Rattle.dj_model.specs.Instructions.{BinaryOperation, UnaryOperation}
-use Rattle.dj_model.specs.Numbers.{is_of_kind, left_kind, right_kind, given_kind, compute, taken_kind, converted_kind, convert}
+use Rattle.dj_names.specs.trusted.Heaps.{number_value, value_number}
+use Rattle.dj_model.specs.trusted.Instructions.{BinaryOperation, UnaryOperation}
+use Rattle.dj_model.specs.trusted.Numbers.{is_of_kind, left_kind, right_kind, given_kind, compute, taken_kind, converted_kind, convert}
 
 abbrev pub value_result : Kind → Result ℤ Raised → Result Value Raised
 value_result kind (Ok z) = Ok (number_value kind z)

@@ -1,4 +1,5 @@
 use dj_names::{Base, Element, Kind, Value};
+use dj_ops::Pairs;
 
 /// What takes one slot, or two.
 #[derive(Clone, Copy)]
@@ -126,7 +127,7 @@ pub enum PlainAction<'a> {
     /// A jump by the first match.
     Lookup {
         default: u64,
-        pairs: &'a [(i32, i64)],
+        pairs: &'a Pairs,
     },
     Return(Option<Kind>),
     /// An array of this base type, with such elements.

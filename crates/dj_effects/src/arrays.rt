@@ -1,10 +1,10 @@
 ghost use Rattle.std.specs.Prelude.{◌≡◌, ◌<◌, ◌^◌, ℕ, Bool, true, Some, IfOk};
 ghost use Rattle.dj_names.specs.declared.descriptor.Kind.TheVariants as kinds;
 ghost use Rattle.dj_names.specs.declared.run.Element.TheVariants as elements;
-ghost use Rattle.dj_names.specs.Heaps.{value_number};
-ghost use Rattle.dj_model.specs.Arrays as arrays;
-ghost use Rattle.dj_model.specs.Arrays.{access_kind, array_at, reaches};
-ghost use Rattle.dj_model.specs.Numbers.{is_of_kind};
+ghost use Rattle.dj_names.specs.trusted.Heaps.{value_number};
+ghost use Rattle.dj_model.specs.trusted.Arrays as arrays;
+ghost use Rattle.dj_model.specs.trusted.Arrays.{access_kind, array_at, reaches};
+ghost use Rattle.dj_model.specs.trusted.Numbers.{is_of_kind};
 ghost use Rattle.dj_heap.specs.Heaps.{low_bits};
 ghost use Rattle.dj_stack.specs.Frames.{top_operands};
 ghost use Rattle.dj_effects.specs.Actions.{access_view};
@@ -48,7 +48,7 @@ pub fn store_element(
     store_told(frames, heap, access, is_taken)
 }
 
-// It is told whether the array takes a reference.
+// Whether the array takes the reference is given.
 #[tactic(auto, using(crate::proofs::StoreFacts::no_value, crate::proofs::StoreFacts::no_place, crate::proofs::StoreFacts::no_such_value, crate::proofs::ArrayFacts::element_there))]
 fn store_told(frames: &mut Frames, heap: &mut Heap, access: Access, is_taken: bool) -> Option<Flow>
     ensures { DoesOnHeap (arrays.store_element (λ r v. is_taken) (access_view access)) frames.old frames.new heap.old heap.new result }
@@ -71,7 +71,7 @@ fn store_told(frames: &mut Frames, heap: &mut Heap, access: Access, is_taken: bo
 }
 
 /// An array is taken, and its length pushed.
-#[tactic(auto, using(crate::proofs::LoadFacts::tells_length, crate::proofs::LoadFacts::tells_no_length), unfolding(dj_model::specs::Arrays::array_length))]
+#[tactic(auto, using(crate::proofs::LoadFacts::tells_length, crate::proofs::LoadFacts::tells_no_length), unfolding(dj_model::specs::trusted::Arrays::array_length))]
 pub fn array_length(frames: &mut Frames, heap: &Heap) -> Option<Flow>
     requires { FitsOnHeap arrays.array_length frames.old heap.now }
     ensures { DoesOnHeap arrays.array_length frames.old frames.new heap.now heap.now result }
@@ -88,8 +88,8 @@ pub fn array_length(frames: &mut Frames, heap: &Heap) -> Option<Flow>
     }
 }
 
-/// A length is taken, and an array of the class with so many elements, all zero, is made and pushed.
-#[tactic(auto, unfolding(dj_model::specs::Arrays::make_array), using(crate::proofs::MakeFacts::makes, crate::proofs::MakeFacts::makes_none, crate::proofs::MakeFacts::makes_too_large))]
+/// A length is taken, and an array of the class with this many elements, all zero, is made and pushed.
+#[tactic(auto, unfolding(dj_model::specs::trusted::Arrays::make_array), using(crate::proofs::MakeFacts::makes, crate::proofs::MakeFacts::makes_none, crate::proofs::MakeFacts::makes_too_large))]
 pub fn new_array(
     frames: &mut Frames,
     heap: &mut Heap,

@@ -1,7 +1,7 @@
 ghost use Rattle.std.specs.Prelude.{◌≡◌, if◌then◌else◌};
-ghost use Rattle.dj_model.specs.Instructions as model;
-ghost use Rattle.dj_model.specs.Numbers.{agrees, holds, same_number, target_of};
-ghost use Rattle.dj_model.specs.Opcodes.{lookup_pairs, table_pairs};
+ghost use Rattle.dj_model.specs.trusted.Instructions as model;
+ghost use Rattle.dj_model.specs.trusted.Numbers.{agrees, holds, same_number, target_of};
+ghost use Rattle.dj_model.specs.trusted.Opcodes.{lookup_pairs, table_pairs};
 ghost use Rattle.dj_effects.specs.Actions.{condition_view, test_view};
 ghost use Rattle.dj_effects.specs.Does.{Does};
 ghost use Rattle.dj_effects.specs.declared.way.Way.TheVariants as ways;
@@ -10,6 +10,7 @@ use crate::actions::{Condition, Test};
 use crate::top::{is_of_kind, pop};
 use crate::way::Way;
 use dj_names::{Kind, Value};
+use dj_ops::Pairs;
 use dj_stack::Frames;
 
 /// The run goes on at the target where the operands, which are taken, are such as the test asks.
@@ -25,15 +26,15 @@ pub fn branch(frames: &mut Frames, test: Test, target: u64) -> Option<Way>
 }
 
 /// The run goes on at the target.
-#[tactic(auto, unfolding(dj_model::specs::Values::on_values))]
+#[tactic(auto, unfolding(dj_model::specs::trusted::Values::on_values))]
 pub fn goto(frames: &mut Frames, target: u64) -> Option<Way>
     ensures { Does (model.Goto target) frames.old frames.new result }
 {
     Some(Way::To(target))
 }
 
-/// The run goes on where a table from low on tells it of the int that is taken.
-#[tactic(auto, unfolding(dj_model::specs::Values::on_values))]
+/// The run goes on where a table from low on says for the int that is taken.
+#[tactic(auto, unfolding(dj_model::specs::trusted::Values::on_values))]
 pub fn switch_table(frames: &mut Frames, default: u64, low: i32, targets: &[i64]) -> Option<Way>
     ensures { Does (model.Switch (table_pairs low targets.now) default) frames.old frames.new result }
 {
@@ -43,9 +44,9 @@ pub fn switch_table(frames: &mut Frames, default: u64, low: i32, targets: &[i64]
     }
 }
 
-/// The run goes on where the first match of the int that is taken tells it.
-#[tactic(auto, unfolding(dj_model::specs::Values::on_values))]
-pub fn switch_lookup(frames: &mut Frames, default: u64, pairs: &[(i32, i64)]) -> Option<Way>
+/// The run goes on where the first match of the int that is taken says.
+#[tactic(auto, unfolding(dj_model::specs::trusted::Values::on_values))]
+pub fn switch_lookup(frames: &mut Frames, default: u64, pairs: &Pairs) -> Option<Way>
     ensures { Does (model.Switch (lookup_pairs pairs.now) default) frames.old frames.new result }
 {
     match pop(frames) {
@@ -55,7 +56,7 @@ pub fn switch_lookup(frames: &mut Frames, default: u64, pairs: &[(i32, i64)]) ->
 }
 
 /// The method returns the top operand, of the kind, or nothing.
-#[tactic(auto, unfolding(dj_model::specs::Values::on_values))]
+#[tactic(auto, unfolding(dj_model::specs::trusted::Values::on_values))]
 pub fn return_top(frames: &mut Frames, kind: Option<Kind>) -> Option<Way>
     ensures { Does (model.Return kind) frames.old frames.new result }
 {
@@ -71,7 +72,7 @@ pub fn return_top(frames: &mut Frames, kind: Option<Kind>) -> Option<Way>
 }
 
 /// A reference is taken.
-#[tactic(auto, unfolding(dj_model::specs::Values::on_values))]
+#[tactic(auto, unfolding(dj_model::specs::trusted::Values::on_values))]
 pub fn monitor(frames: &mut Frames) -> Option<Way>
     ensures { Does model.Monitor frames.old frames.new result }
 {
@@ -83,7 +84,7 @@ pub fn monitor(frames: &mut Frames) -> Option<Way>
 
 // ---- tests
 
-#[tactic(auto, unfolding(dj_model::specs::Values::on_values))]
+#[tactic(auto, unfolding(dj_model::specs::trusted::Values::on_values))]
 fn with_zero(frames: &mut Frames, condition: Condition, target: u64) -> Option<Way>
     ensures { Does (model.Branch (model.WithZero (condition_view condition)) target) frames.old frames.new result }
 {
@@ -93,7 +94,7 @@ fn with_zero(frames: &mut Frames, condition: Condition, target: u64) -> Option<W
     }
 }
 
-#[tactic(auto, unfolding(dj_model::specs::Values::on_values))]
+#[tactic(auto, unfolding(dj_model::specs::trusted::Values::on_values))]
 fn of_ints(frames: &mut Frames, condition: Condition, target: u64) -> Option<Way>
     ensures { Does (model.Branch (model.OfInts (condition_view condition)) target) frames.old frames.new result }
 {
@@ -105,7 +106,7 @@ fn of_ints(frames: &mut Frames, condition: Condition, target: u64) -> Option<Way
     }
 }
 
-#[tactic(auto, unfolding(dj_model::specs::Values::on_values))]
+#[tactic(auto, unfolding(dj_model::specs::trusted::Values::on_values))]
 fn of_references(frames: &mut Frames, same: bool, target: u64) -> Option<Way>
     ensures { Does (model.Branch (model.OfReferences same) target) frames.old frames.new result }
 {
@@ -115,7 +116,7 @@ fn of_references(frames: &mut Frames, same: bool, target: u64) -> Option<Way>
     }
 }
 
-#[tactic(auto, unfolding(dj_model::specs::Values::on_values))]
+#[tactic(auto, unfolding(dj_model::specs::trusted::Values::on_values))]
 fn of_null(frames: &mut Frames, null: bool, target: u64) -> Option<Way>
     ensures { Does (model.Branch (model.OfNull null) target) frames.old frames.new result }
 {
@@ -175,14 +176,12 @@ fn table_target(default: u64, low: i32, targets: &[i64], z: i32) -> u64
 }
 
 // The target of the first match of a number.
-#[tactic(auto, using(crate::proofs::SwitchFacts::pair_met, crate::proofs::SwitchFacts::pair_passed, crate::proofs::SwitchFacts::pairs_end))]
-fn lookup_target(default: u64, pairs: &[(i32, i64)], z: i32) -> u64
+#[tactic(auto, using(crate::proofs::SwitchFacts::pair_found, crate::proofs::SwitchFacts::no_pair))]
+fn lookup_target(default: u64, pairs: &Pairs, z: i32) -> u64
     ensures { result ≡ target_of (lookup_pairs pairs.now) default z }
 {
-    for pair in pairs {
-        if same_number(pair.0, z) {
-            return pair.1.unsigned_abs();
-        }
+    match pairs.target_of(z) {
+        Some(target) => target.unsigned_abs(),
+        None => default,
     }
-    default
 }

@@ -1,7 +1,7 @@
 ghost use Rattle.std.specs.Prelude.{◌≡◌, ◌<◌, length, nat_lt};
-ghost use Rattle.dj_model.specs.Instructions as model;
-ghost use Rattle.dj_model.specs.Numbers.{is_long};
-ghost use Rattle.dj_model.specs.Values.{is_some_wide, last_slot, local_at, stored, without_half};
+ghost use Rattle.dj_model.specs.trusted.Instructions as model;
+ghost use Rattle.dj_model.specs.trusted.Numbers.{is_long};
+ghost use Rattle.dj_model.specs.trusted.Values.{is_some_wide, last_slot, local_at, stored, without_half};
 ghost use Rattle.dj_stack.specs.Frames.{SameButLocals, top_locals};
 ghost use Rattle.dj_effects.specs.Does.{Does, Fits};
 
@@ -12,7 +12,7 @@ use dj_names::{Kind, Value};
 use dj_stack::Frames;
 
 /// Nothing is done.
-#[tactic(auto, unfolding(dj_model::specs::Values::on_values))]
+#[tactic(auto, unfolding(dj_model::specs::trusted::Values::on_values))]
 pub fn nop(frames: &mut Frames) -> Option<Way>
     ensures { Does model.Nop frames.old frames.new result }
 {
@@ -20,7 +20,7 @@ pub fn nop(frames: &mut Frames) -> Option<Way>
 }
 
 /// A value is pushed.
-#[tactic(auto, unfolding(dj_model::specs::Values::on_values))]
+#[tactic(auto, unfolding(dj_model::specs::trusted::Values::on_values))]
 pub fn push(frames: &mut Frames, value: Value) -> Option<Way>
     requires { Fits (model.Push value) frames.old }
     ensures { Does (model.Push value) frames.old frames.new result }
@@ -30,7 +30,7 @@ pub fn push(frames: &mut Frames, value: Value) -> Option<Way>
 }
 
 /// A local variable of the kind is pushed.
-#[tactic(auto, unfolding(dj_model::specs::Values::on_values))]
+#[tactic(auto, unfolding(dj_model::specs::trusted::Values::on_values))]
 pub fn load(frames: &mut Frames, kind: Kind, slot: u16) -> Option<Way>
     requires { Fits (model.Load kind slot) frames.old }
     ensures { Does (model.Load kind slot) frames.old frames.new result }
@@ -44,7 +44,7 @@ pub fn load(frames: &mut Frames, kind: Kind, slot: u16) -> Option<Way>
 }
 
 /// The top operand, of the kind, is stored in a local variable.
-#[tactic(auto, unfolding(dj_model::specs::Values::on_values))]
+#[tactic(auto, unfolding(dj_model::specs::trusted::Values::on_values))]
 pub fn store(frames: &mut Frames, kind: Kind, slot: u16) -> Option<Way>
     ensures { Does (model.Store kind slot) frames.old frames.new result }
 {
@@ -57,7 +57,7 @@ pub fn store(frames: &mut Frames, kind: Kind, slot: u16) -> Option<Way>
 }
 
 /// A number is added to a local variable.
-#[tactic(auto, unfolding(dj_model::specs::Values::on_values), using(crate::proofs::LocalFacts::within))]
+#[tactic(auto, unfolding(dj_model::specs::trusted::Values::on_values), using(crate::proofs::LocalFacts::within))]
 pub fn increment(frames: &mut Frames, slot: u16, by: i16) -> Option<Way>
     ensures { Does (model.Increment slot by) frames.old frames.new result }
 {

@@ -1,7 +1,7 @@
 ghost use Rattle.std.specs.Prelude.{◌≡◌, ◌+◌, ◌++◌, ◌≤◌, Some, length};
-ghost use Rattle.dj_model.specs.Instructions as model;
-ghost use Rattle.dj_model.specs.Numbers.{is_long};
-ghost use Rattle.dj_model.specs.Values.{doubled, dropped, moved, one_slot, swapped, two_slots, under};
+ghost use Rattle.dj_model.specs.trusted.Instructions as model;
+ghost use Rattle.dj_model.specs.trusted.Numbers.{is_long};
+ghost use Rattle.dj_model.specs.trusted.Values.{doubled, dropped, moved, one_slot, swapped, two_slots, under};
 ghost use Rattle.dj_stack.specs.Frames.{SameButOperands, top_operands, top_room};
 ghost use Rattle.dj_effects.specs.Actions.{move_view};
 ghost use Rattle.dj_effects.specs.Does.{Does, Fits};
@@ -21,7 +21,7 @@ pub enum Piece {
 }
 
 /// The upper operands are moved.
-#[tactic(auto, unfolding(dj_model::specs::Values::on_values))]
+#[tactic(auto, unfolding(dj_model::specs::trusted::Values::on_values))]
 pub fn move_operands(frames: &mut Frames, movement: Movement) -> Option<Way>
     requires { Fits (model.Move (move_view movement)) frames.old }
     ensures { Does (model.Move (move_view movement)) frames.old frames.new result }
@@ -34,7 +34,7 @@ pub fn move_operands(frames: &mut Frames, movement: Movement) -> Option<Way>
 }
 
 // Whether the operands are such that they can be moved so. Then they are.
-#[tactic(auto, unfolding(dj_model::specs::Values::moved), using(crate::proofs::MoveFacts::moved_under))]
+#[tactic(auto, unfolding(dj_model::specs::trusted::Values::moved), using(crate::proofs::MoveFacts::moved_under))]
 fn moved(frames: &mut Frames, movement: Movement) -> bool
     requires { HasRoom (top_room frames.old) (moved is_long (move_view movement) (top_operands frames.old)) }
     ensures moved { moved is_long (move_view movement) (top_operands frames.old) ≡ moved_to result (top_operands frames.new) }

@@ -1,7 +1,7 @@
 ghost use Rattle.std.specs.Prelude.{◌≡◌};
 ghost use Rattle.dj_names.specs.declared.descriptor.Kind.TheVariants as kinds;
-ghost use Rattle.dj_model.specs.Instructions as model;
-ghost use Rattle.dj_model.specs.Numbers.{compute, convert};
+ghost use Rattle.dj_model.specs.trusted.Instructions as model;
+ghost use Rattle.dj_model.specs.trusted.Numbers.{compute, convert};
 ghost use Rattle.dj_effects.specs.Actions.{binary_view, operation_view, shift_view, unary_view};
 ghost use Rattle.dj_effects.specs.Does.{Does, Fits};
 ghost use Rattle.dj_effects.specs.Results.{of_one, of_two, value_result};
@@ -19,7 +19,7 @@ use dj_names::{Raised, Value};
 use dj_stack::Frames;
 
 /// Two numbers are taken, and what is computed of them is pushed, or an exception raised.
-#[tactic(auto, unfolding(dj_model::specs::Values::on_values))]
+#[tactic(auto, unfolding(dj_model::specs::trusted::Values::on_values))]
 pub fn compute(frames: &mut Frames, operation: BinaryOperation) -> Option<Way>
     requires { Fits (model.Compute (binary_view operation)) frames.old }
     ensures { Does (model.Compute (binary_view operation)) frames.old frames.new result }
@@ -37,7 +37,7 @@ pub fn compute(frames: &mut Frames, operation: BinaryOperation) -> Option<Way>
 }
 
 /// A number is taken, and what it is converted to is pushed.
-#[tactic(auto, unfolding(dj_model::specs::Values::on_values))]
+#[tactic(auto, unfolding(dj_model::specs::trusted::Values::on_values))]
 pub fn convert(frames: &mut Frames, operation: UnaryOperation) -> Option<Way>
     requires { Fits (model.Convert (unary_view operation)) frames.old }
     ensures { Does (model.Convert (unary_view operation)) frames.old frames.new result }
@@ -96,7 +96,7 @@ fn long_shifted(shift: Shift, a: Value, b: Value) -> Option<Result<Value, Raised
     }
 }
 
-#[tactic(auto, unfolding(dj_model::specs::Numbers::compute))]
+#[tactic(auto, unfolding(dj_model::specs::trusted::Numbers::compute))]
 fn longs_compared(a: Value, b: Value) -> Option<Result<Value, Raised>>
     ensures { result ≡ of_two model.CompareLongs a b }
 {
@@ -124,7 +124,7 @@ fn long_value(number: Result<i64, Raised>) -> Result<Value, Raised>
     }
 }
 
-#[tactic(auto, unfolding(dj_model::specs::Numbers::compute), using(crate::proofs::NumberFacts::no_divisor, crate::proofs::NumberFacts::some_divisor))]
+#[tactic(auto, unfolding(dj_model::specs::trusted::Numbers::compute), using(crate::proofs::NumberFacts::no_divisor, crate::proofs::NumberFacts::some_divisor))]
 fn of_ints(operation: Operation, a: i32, b: i32) -> Result<i32, Raised>
     ensures { result ≡ compute (operation_view kinds.Int operation) a b }
 {
@@ -140,7 +140,7 @@ fn of_ints(operation: Operation, a: i32, b: i32) -> Result<i32, Raised>
     }
 }
 
-#[tactic(auto, unfolding(dj_model::specs::Numbers::compute), using(crate::proofs::NumberFacts::no_divisor, crate::proofs::NumberFacts::some_divisor))]
+#[tactic(auto, unfolding(dj_model::specs::trusted::Numbers::compute), using(crate::proofs::NumberFacts::no_divisor, crate::proofs::NumberFacts::some_divisor))]
 fn of_longs(operation: Operation, a: i64, b: i64) -> Result<i64, Raised>
     ensures { result ≡ compute (operation_view kinds.Long operation) a b }
 {
@@ -156,7 +156,7 @@ fn of_longs(operation: Operation, a: i64, b: i64) -> Result<i64, Raised>
     }
 }
 
-#[tactic(auto, unfolding(dj_model::specs::Numbers::compute))]
+#[tactic(auto, unfolding(dj_model::specs::trusted::Numbers::compute))]
 fn shift_int(shift: Shift, a: i32, count: i32) -> Result<i32, Raised>
     ensures { result ≡ compute (shift_view kinds.Int shift) a count }
 {
@@ -167,7 +167,7 @@ fn shift_int(shift: Shift, a: i32, count: i32) -> Result<i32, Raised>
     })
 }
 
-#[tactic(auto, unfolding(dj_model::specs::Numbers::compute))]
+#[tactic(auto, unfolding(dj_model::specs::trusted::Numbers::compute))]
 fn shift_long(shift: Shift, a: i64, count: i32) -> Result<i64, Raised>
     ensures { result ≡ compute (shift_view kinds.Long shift) a count }
 {
@@ -179,7 +179,7 @@ fn shift_long(shift: Shift, a: i64, count: i32) -> Result<i64, Raised>
 }
 
 // What a value is converted to, where it is of such a kind.
-#[tactic(auto, unfolding(dj_model::specs::Numbers::convert))]
+#[tactic(auto, unfolding(dj_model::specs::trusted::Numbers::convert))]
 fn of_one(operation: UnaryOperation, a: Value) -> Option<Value>
     ensures { result ≡ of_one (unary_view operation) a }
 {

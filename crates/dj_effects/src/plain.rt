@@ -1,6 +1,6 @@
 ghost use Rattle.std.specs.Prelude.{Some, unsigned_abs};
-ghost use Rattle.dj_model.specs.Instructions.{Nothing};
-ghost use Rattle.dj_model.specs.Opcodes.{array_rows, bit_rows, constant_rows, instruction_of, jump_rows, last_rows, local_rows, new_array, number_rows, operand_does, row_does, simple, stack_rows, store_rows};
+ghost use Rattle.dj_model.specs.trusted.Instructions.{Nothing};
+ghost use Rattle.dj_model.specs.trusted.Opcodes.{array_rows, bit_rows, constant_rows, instruction_of, jump_rows, last_rows, local_rows, new_array, number_rows, operand_does, row_does, simple, stack_rows, store_rows};
 ghost use Rattle.dj_effects.specs.Actions.{IsActionOf};
 
 use crate::actions::{
@@ -11,7 +11,7 @@ use dj_names::{Base, Element, Kind, Value};
 use dj_ops::Instr;
 
 /// What an instruction does that names no constant; none where it names one, or isn't run.
-#[tactic(auto, unfolding(dj_model::specs::Opcodes::instruction_of))]
+#[tactic(auto, unfolding(dj_model::specs::trusted::Opcodes::instruction_of))]
 #[inline(always)]
 pub fn plain_action(instr: &Instr) -> Option<PlainAction<'_>>
     ensures { IsActionOf result (instruction_of instr.now Nothing) }
@@ -33,7 +33,7 @@ pub fn plain_action(instr: &Instr) -> Option<PlainAction<'_>>
         }),
         Instr::Lookup { default, pairs } => Some(PlainAction::Lookup {
             default: default.unsigned_abs(),
-            pairs: pairs.as_slice(),
+            pairs,
         }),
         Instr::Array { base } => array_action(*base),
         _ => None,
@@ -42,7 +42,7 @@ pub fn plain_action(instr: &Instr) -> Option<PlainAction<'_>>
 
 // ---- instructions without operands
 
-#[tactic(auto, unfolding(dj_model::specs::Opcodes::simple))]
+#[tactic(auto, unfolding(dj_model::specs::trusted::Opcodes::simple))]
 #[inline(always)]
 fn simple_action(op: u8) -> Option<PlainAction<'static>>
     ensures { IsActionOf result (simple Nothing op) }

@@ -1,5 +1,5 @@
 ghost use Rattle.std.specs.Prelude.{◌≡◌, length};
-ghost use Rattle.dj_model.specs.Numbers.{is_long, is_of_kind};
+ghost use Rattle.dj_model.specs.trusted.Numbers.{is_long, is_of_kind};
 ghost use Rattle.dj_stack.specs.Frames.{SameButOperands, top_locals, top_operands};
 ghost use Rattle.dj_effects.specs.Tops.{IsPlaceTop, IsTop};
 

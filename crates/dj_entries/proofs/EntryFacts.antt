@@ -1,8 +1,8 @@
 -- Entries, their parts, their order and their indexes, at plain values.
 use Rattle.std.proofs.Common.{◌≡◌, ℕ, true, false, pos, negsuc, List, [], ◌∷◌, map, codes, refl}
-use Rattle.dj_pool.specs.Pool as pool
-use Rattle.dj_pool.specs.Pool.{Constant, Hole, indexed}
-use Rattle.dj_entries.specs.Entries.{Entry, Utf8, Integer, Long, Class, Text, NameAndType, Field, Method, InterfaceMethod, Dynamic, same_entry, with_parts, each_once, index_of, pool_of}
+use Rattle.dj_pool.specs.trusted.Pool as pool
+use Rattle.dj_pool.specs.trusted.Pool.{Constant, Hole, indexed}
+use Rattle.dj_entries.specs.trusted.Entries.{Entry, Utf8, Integer, Long, Class, Text, NameAndType, Field, Method, InterfaceMethod, Dynamic, same_entry, with_parts, each_once, index_of, pool_of}
 
 abbrev a : List ℕ
 a = codes "a"

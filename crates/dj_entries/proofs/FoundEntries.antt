@@ -4,14 +4,14 @@ use Rattle.std.specs.Map.{keys_of, lookup}
 use Rattle.std.specs.List.{AllByRecursion}
 use Rattle.std.proofs.lemmas.Bool.{cases_Bool, le-leb, leb-true}
 use Rattle.std.proofs.lemmas.List.Elements.{Contains-append_right, Contains-append_cases}
-use Rattle.dj_names.specs.Types.{Name}
-use Rattle.dj_pool.specs.Pool as pool
-use Rattle.dj_pool.specs.Pool.{Constant}
+use Rattle.dj_names.specs.trusted.Types.{Name}
+use Rattle.dj_pool.specs.trusted.Pool as pool
+use Rattle.dj_pool.specs.trusted.Pool.{Constant}
 use Rattle.dj_entries.specs.declared.key.Key.{Key}
 use Rattle.dj_entries.specs.declared.key.Key.TheVariants as keys
 use Rattle.dj_entries.specs.Keys.{key_width, most_next, IsNumbered, StandsAt, IsWithin, FindsKey}
-use Rattle.dj_entries.specs.Entries.{Entry, Utf8, Integer, Long, Class, Text, NameAndType, Field, Method, InterfaceMethod, Dynamic, each_once, width, index_of, constant_of}
-use Rattle.dj_entries.specs.Room.{HasRoom}
+use Rattle.dj_entries.specs.trusted.Entries.{Entry, Utf8, Integer, Long, Class, Text, NameAndType, Field, Method, InterfaceMethod, Dynamic, each_once, width, index_of, constant_of}
+use Rattle.dj_entries.specs.trusted.Room.{HasRoom}
 use Rattle.dj_entries.specs.Pooling.{IsNumberOf, constant_of_key, constants_of, named_by, EndsIn, all_kept, HasNumber, HasIndex, AreKeysOf, keyed_entries, IsFull, found_index, IsSought}
 use Rattle.dj_entries.specs.PoolNeeds.{HasPlace}
 use Rattle.dj_entries.proofs.Members.{none_in, in_here, in_map, from_map, each_in, each_from}

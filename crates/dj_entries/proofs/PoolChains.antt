@@ -2,12 +2,12 @@
 use Rattle.std.proofs.Common.{◌≡◌, ℕ, List, [], ◌∷◌, ◌++◌, length, Contains, Option, Some, None, Result, Ok, Err, IfOk, refl, sym, ap, ◌∙◌, subst}
 use Rattle.std.specs.List.{AllByRecursion}
 use Rattle.std.proofs.lemmas.List.Elements.{Contains-append_left, Contains-append_right}
-use Rattle.dj_names.specs.Types.{Name}
-use Rattle.dj_pool.specs.Pool as pool
+use Rattle.dj_names.specs.trusted.Types.{Name}
+use Rattle.dj_pool.specs.trusted.Pool as pool
 use Rattle.dj_entries.specs.declared.key.Key.{Key}
 use Rattle.dj_entries.specs.declared.key.Key.TheVariants as keys
 use Rattle.dj_entries.specs.Keys.{IsPlaced, AddsKey}
-use Rattle.dj_entries.specs.Entries.{Entry, Utf8, Class, Text, NameAndType, Field, Method, InterfaceMethod, Dynamic, class_with_parts, names_with_parts, with_parts, index_of, constant_of}
+use Rattle.dj_entries.specs.trusted.Entries.{Entry, Utf8, Class, Text, NameAndType, Field, Method, InterfaceMethod, Dynamic, class_with_parts, names_with_parts, with_parts, index_of, constant_of}
 use Rattle.dj_entries.specs.Pooling.{IsNumberOf, constant_of_key, constants_in, entries_in, named_by, kept, all_kept, HasNumber, HasIndex, AreKeysOf, keyed_entries, IsFull, PutsOne, IsNoText, IsKeyOf, PutsAll, Stops, Puts, PutsPair, member_parts}
 use Rattle.dj_entries.proofs.Members.{in_here, each_in, each_from, each_append}
 use Rattle.dj_entries.proofs.PoolingLaws.{map_alike, text_is, new_number, number_with, constant_with, index_stays, keyed_are}

@@ -1,9 +1,9 @@
 -- Entries of keys, at their indexes, one by one.
 use Rattle.std.proofs.Common.{◌≡◌, true, false, ℕ, zero, suc, ◌+◌, ◌<◌, List, [], ◌∷◌, ◌++◌, map, take, get_or, slice_get, Contains, Option, Some, None, nat_lt, refl, sym, ap, ◌∙◌, subst, arith, unwrap_or, is_some}
 use Rattle.std.proofs.lemmas.Bool.{false≢true}
-use Rattle.dj_names.specs.Types.{Name}
-use Rattle.dj_pool.specs.Pool as pool
-use Rattle.dj_pool.specs.Pool.{Constant, Hole, takes_two, indexed, text_of}
+use Rattle.dj_names.specs.trusted.Types.{Name}
+use Rattle.dj_pool.specs.trusted.Pool as pool
+use Rattle.dj_pool.specs.trusted.Pool.{Constant, Hole, takes_two, indexed, text_of}
 use Rattle.dj_pool.specs.Views.{constant_of as constant_of_entry}
 use Rattle.dj_pool.specs.declared.pool.Entry as list
 use Rattle.dj_pool.specs.declared.pool.Entry.TheVariants as list_entries
@@ -12,7 +12,7 @@ use Rattle.dj_pool.proofs.ChangeLaws.{indexed_append}
 use Rattle.dj_entries.specs.declared.key.Key.{Key}
 use Rattle.dj_entries.specs.declared.key.Key.TheVariants as keys
 use Rattle.dj_entries.specs.Keys.{next_index, most_next}
-use Rattle.dj_entries.specs.Entries.{Utf8, index_of, constant_of, widths}
+use Rattle.dj_entries.specs.trusted.Entries.{Utf8, index_of, constant_of, widths}
 use Rattle.dj_entries.specs.Pooling.{constant_of_key, constants_in, HasNumber, EndsIn, keyed_entries, IsFull, PutsOne}
 use Rattle.dj_entries.proofs.Members.{in_here, in_map, from_map, each_in}
 use Rattle.dj_entries.proofs.PoolingLaws.{text_is, map_seam, index_absent}

@@ -4,7 +4,7 @@ use Rattle.std.specs.List.{list_any, prefix_len}
 use Rattle.std.proofs.lemmas.Bool.{cases_Bool, false≢true}
 use Rattle.std.proofs.lemmas.List.Elements.{Contains-append_right}
 use Rattle.dj_entries.specs.Keys.{most_next}
-use Rattle.dj_entries.specs.Entries.{Entry, same_entry, each_once, width, widths, before, index_of}
+use Rattle.dj_entries.specs.trusted.Entries.{Entry, same_entry, each_once, width, widths, before, index_of}
 use Rattle.dj_entries.specs.Pooling.{EndsIn, all_kept, HasIndex, IsFull}
 use Rattle.dj_entries.proofs.Members.{none_in, in_here, in_rest, in_cases, each_in}
 use Rattle.dj_entries.proofs.EntryLaws.{same_is, same_itself, index_is, once_from, once_differ, Differ}
@@ -173,7 +173,7 @@ index_in_once xs e h = let o = once xs in ap (λ l. index_of l e) o.parts ∙ in
 pub has_index_in_once : (xs : List Entry) (e : Entry) → HasIndex (all_kept [] xs) e → EndsIn (each_once xs) e
 has_index_in_once xs e h = subst (λ (n : ℕ). n + width e ≤ most_next) (sym (index_in_once xs e h.0)) h.1
 
--- what stands behind a front that lacks it has an index past the front's
+-- what stands behind a prefix that lacks it has an index past those of the prefix
 before_more : (es rest : List Entry) (e : Entry) → (Contains es e → ⊥) → widths es ≤ widths (before (es ++ rest) e)
 before_more [] rest e absent = omega arith
 before_more (x ∷ es) rest e absent = elim (cases_Bool (same_entry x e)) [

@@ -1,7 +1,7 @@
--- Whether an entry has room among all that are needed is told when it is put.
+-- Whether an entry has room among all that are needed is known when it is put.
 use Rattle.std.proofs.Common.{◌≡◌, inl, inr, true, List, [], ◌++◌, sym, ◌∙◌, subst}
-use Rattle.dj_entries.specs.Entries.{Entry, each_once, index_of}
-use Rattle.dj_entries.specs.Room.{HasRoom}
+use Rattle.dj_entries.specs.trusted.Entries.{Entry, each_once, index_of}
+use Rattle.dj_entries.specs.trusted.Room.{HasRoom}
 use Rattle.dj_entries.specs.Pooling.{EndsIn, all_kept, HasIndex, IsFull}
 use Rattle.dj_entries.specs.PoolNeeds.{HasPlace, LacksPlace, all_parts, PutsNeeds}
 use Rattle.dj_entries.proofs.Members.{each_in}

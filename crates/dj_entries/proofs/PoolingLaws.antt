@@ -5,13 +5,13 @@ use Rattle.std.specs.List.{AllByRecursion, prefix_len}
 use Rattle.std.proofs.lemmas.Bool.{cases_Bool, false≢true}
 use Rattle.std.proofs.lemmas.List.Elements.{Contains-append_left}
 use Rattle.std.specs.Cmp.Lexicographic.{bytes_decides}
-use Rattle.dj_names.specs.Types.{Name, same_name}
-use Rattle.dj_pool.specs.Pool as pool
-use Rattle.dj_pool.specs.Pool.{Constant, takes_two, indexed, constant_at, text_of, class_text_of, names_of, both, text_at, class_name_at, name_and_type_at}
+use Rattle.dj_names.specs.trusted.Types.{Name, same_name}
+use Rattle.dj_pool.specs.trusted.Pool as pool
+use Rattle.dj_pool.specs.trusted.Pool.{Constant, takes_two, indexed, constant_at, text_of, class_text_of, names_of, both, text_at, class_name_at, name_and_type_at}
 use Rattle.dj_entries.specs.declared.key.Key.{Key}
 use Rattle.dj_entries.specs.declared.key.Key.TheVariants as keys
 use Rattle.dj_entries.specs.Keys.{most_next}
-use Rattle.dj_entries.specs.Entries.{Entry, Utf8, Integer, Long, Class, Text, NameAndType, Field, Method, InterfaceMethod, Dynamic, same_entry, width, widths, before, index_of, constant_of, pool_of}
+use Rattle.dj_entries.specs.trusted.Entries.{Entry, Utf8, Integer, Long, Class, Text, NameAndType, Field, Method, InterfaceMethod, Dynamic, same_entry, width, widths, before, index_of, constant_of, pool_of}
 use Rattle.dj_entries.specs.Pooling.{IsNumberOf, constant_of_key, constants_of, entry_in, entries_in, named_by, HasNumber, HasIndex, AreKeysOf, keyed_entries}
 use Rattle.dj_entries.proofs.Members.{none_in, in_here, in_rest, in_cases, each_in, each_from}
 use Rattle.dj_entries.proofs.EntryLaws.{same_is, same_itself, constant_found, index_is}
@@ -23,7 +23,7 @@ module _ {A : Type 0} where
   rest_of [] = []
   rest_of (x ∷ xs) = xs
 
-  -- the element after a front
+  -- the element after a prefix
   at_seam : (front back : List A) (x d : A) → get_or (front ++ x ∷ back) (length front) d ≡ x
   at_seam [] back x d = refl
   at_seam (y ∷ front) back x d = at_seam front back x d

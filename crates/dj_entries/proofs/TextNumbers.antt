@@ -6,7 +6,7 @@ use Rattle.std.specs.Cmp.Lexicographic.{bytes_decides}
 use Rattle.std.proofs.lemmas.Bool.{cases_Bool, false≢true}
 use Rattle.std.proofs.lemmas.Iterator.Adapters.{position_from-zero}
 use Rattle.indexmap.specs.IndexSet.{insert_key}
-use Rattle.dj_names.specs.Types.{Name}
+use Rattle.dj_names.specs.trusted.Types.{Name}
 use Rattle.dj_entries.specs.Pooling.{IsFound}
 use Rattle.dj_entries.proofs.Members.{none_in, in_here, in_rest, in_cases}
 use Rattle.dj_entries.proofs.PoolingLaws.{map_seam}

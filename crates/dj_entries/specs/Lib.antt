@@ -1,7 +1,6 @@
-pub mod Entries
-pub mod Needs
 pub mod Room
 pub mod Keys
 pub mod Pooling
 pub mod PoolNeeds
 pub mod Walking
+pub mod trusted

@@ -1,10 +1,11 @@
 -- What the needs of a line do to the pool: the code's own words.
 use Rattle.std.specs.Prelude.{◌≡◌, ℕ, ◌⊎◌, Bool, true, false, nat_lt, List, [], map, length, Contains, Option}
 use Rattle.std.specs.List.{AllByRecursion, flat_map}
-use Rattle.dj_source.specs.Sources.{Source}
-use Rattle.dj_entries.specs.Entries.{Entry, Utf8, with_parts}
-use Rattle.dj_entries.specs.Needs.{needs_of, needed_entry}
-use Rattle.dj_entries.specs.Room.{IsShort, IsPastPool, IsFirst}
+use Rattle.dj_source.specs.trusted.Sources.{Source}
+use Rattle.dj_entries.specs.trusted.Entries.{Entry, Utf8, with_parts}
+use Rattle.dj_entries.specs.trusted.Needs.{needs_of, needed_entry}
+use Rattle.dj_entries.specs.trusted.Room.{IsShort, IsPastPool}
+use Rattle.dj_entries.specs.Room.{IsFirst}
 use Rattle.dj_entries.specs.Pooling.{EndsIn, all_kept, HasIndex, IsFull}
 
 -- the test of the code: a text has at most 65,535 bytes
@@ -15,7 +16,7 @@ abbrev pub short_entry : Entry → Bool
 short_entry (Utf8 text) = is_short text
 short_entry entry = true
 
--- it is short, stands there and ends where it may
+-- it is short, is in the pool and ends where it may
 abbrev pub HasPlace : List Entry → Entry → Type 0
 HasPlace es e = IsShort e × HasIndex es e
 

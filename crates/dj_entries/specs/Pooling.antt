@@ -2,17 +2,17 @@
 use Rattle.std.specs.Prelude.{◌≡◌, ℕ, ◌+◌, ◌<◌, ◌≤◌, ◌&&◌, nat_lt, nat_le, if◌then◌else◌, List, [], ◌∷◌, ◌++◌, length, map, get_or, Contains, Option, Some, None, Result, Ok, Err}
 use Rattle.std.specs.List.{AllByRecursion, list_any}
 use Rattle.std.specs.Option.{unwrap_or}
-use Rattle.dj_names.specs.Types.{Name}
-use Rattle.dj_pool.specs.Pool as pool
-use Rattle.dj_pool.specs.Pool.{Constant, indexed, text_at, class_name_at, name_and_type_at}
+use Rattle.dj_names.specs.trusted.Types.{Name}
+use Rattle.dj_pool.specs.trusted.Pool as pool
+use Rattle.dj_pool.specs.trusted.Pool.{Constant, indexed, text_at, class_name_at, name_and_type_at}
 use Rattle.dj_entries.specs.declared.key.Key.{Key}
 use Rattle.dj_entries.specs.declared.key.Key.TheVariants as keys
 use Rattle.dj_entries.specs.Keys.{most_next}
-use Rattle.dj_entries.specs.Entries.{Entry, Utf8, Integer, Long, Class, Text, NameAndType, Field, Method, InterfaceMethod, Dynamic, same_entry, class_with_parts, names_with_parts, with_parts, width, widths, index_of, constant_of}
+use Rattle.dj_entries.specs.trusted.Entries.{Entry, Utf8, Integer, Long, Class, Text, NameAndType, Field, Method, InterfaceMethod, Dynamic, same_entry, class_with_parts, names_with_parts, with_parts, width, widths, index_of, constant_of}
 
 -- ---- texts by their numbers
 
--- so many texts are before the first that is this one
+-- this many texts are before the first that is this one
 pub record IsNumberOf (texts : List Name) (text : Name) (number : ℕ) : Type 0 where
   pub front : List Name
   pub back : List Name
@@ -107,7 +107,7 @@ abbrev pub HasNumber : List Name → Key → Type 0
 HasNumber texts (keys.Utf8 number) = (text : Name) × IsNumberOf texts text number
 HasNumber texts key = Unit {0}
 
--- it stands there and ends where it may
+-- it is in the pool and ends where it may
 abbrev pub HasIndex : List Entry → Entry → Type 0
 HasIndex es e = Contains es e × EndsIn es e
 
@@ -171,11 +171,11 @@ member_parts class name desc = class_with_parts class ++ names_with_parts name d
 
 -- ---- look-ups
 
--- the index of an entry that stands there and ends where it may, or 0
+-- the index of an entry that is in the pool and ends where it may, or 0
 unfoldable pub found_index : List Entry → Entry → ℕ
 found_index es e = if list_any (same_entry e) es && nat_le (index_of es e + width e) most_next then index_of es e else 0
 
--- the key is that of the entry, if its parts stand there
+-- the key is that of the entry, if the pool has its parts
 pub record IsSought (es : List Entry) (key : Key) (e : Entry) : Type 0 where
   pub no_text : IsNoText key
   pub constant : constant_of_key [] key ≡ constant_of (found_index es) e

@@ -1,6 +1,6 @@
 //! The entries of a pool from their keys.
 ghost use Rattle.std.specs.Prelude.{◌≡◌, [], ◌∷◌, ◌++◌, map, IfOk, OnOk};
-ghost use Rattle.dj_pool.specs.Pool.{indexed, takes_two};
+ghost use Rattle.dj_pool.specs.trusted.Pool.{indexed, takes_two};
 ghost use Rattle.dj_pool.specs.Views.{constant_of};
 ghost use Rattle.dj_entries.specs.Pooling.{constant_of_key, constants_in};
 

@@ -1,10 +1,10 @@
-//! Indexes of entries that are in the pool; each is 0 where the entry isn't there or ends past the most.
+//! Indexes of entries that are in the pool; an index is 0 where the entry isn't in the pool or ends past the greatest index.
 ghost use Rattle.std.specs.Prelude.{◌≡◌, IfOk};
-ghost use Rattle.dj_names.specs.ModifiedUtf8.{units_text};
+ghost use Rattle.dj_names.specs.trusted.ModifiedUtf8.{units_text};
 ghost use Rattle.dj_tokens.specs.Views.{string_units_of};
 ghost use Rattle.dj_source.specs.TypeViews.{literal_view, value_view};
-ghost use Rattle.dj_entries.specs.Entries as entries;
-ghost use Rattle.dj_entries.specs.Needs.{member_entry, literal_entry, value_entry};
+ghost use Rattle.dj_entries.specs.trusted.Entries as entries;
+ghost use Rattle.dj_entries.specs.trusted.Needs.{member_entry, literal_entry, value_entry};
 ghost use Rattle.dj_entries.specs.Pooling.{found_index};
 
 use crate::key::Key;
@@ -88,7 +88,7 @@ impl PoolBuilder {
         self.sought(Key::Dynamic(place, names))
     }
 
-    /// The index of a field or a method, by the opcode and whether `interface` stands there.
+    /// The index of a field or a method, by the opcode and whether `interface` is there.
     pub fn member_index(
         &self,
         op: u8,
@@ -112,10 +112,8 @@ impl PoolBuilder {
     fn quoted_index(&self, alloc: Global, string: Quoted<'_>) -> Result<u16, NoMemory>
         ensures { IfOk result (λ i. i ≡ found_index self.now (entries.Text (units_text (string_units_of string.entry)))) }
     {
-        match string.text(alloc) {
-            Ok(text) => Ok(self.string_index(text.as_slice())),
-            Err(_) => Err(NoMemory::Memory),
-        }
+        let text = string.text(alloc).or(Err(NoMemory::Memory))?;
+        Ok(self.string_index(text.as_slice()))
     }
 
     /// The index of what ldc pushes.

@@ -1,12 +1,12 @@
 //! What a line needs of the pool, by its meaning.
 ghost use Rattle.std.specs.Prelude.{◌≡◌, [], ◌∷◌, codes, IfOk};
 ghost use Rattle.std.specs.Option.{option_map};
-ghost use Rattle.dj_names.specs.ModifiedUtf8.{units_text};
+ghost use Rattle.dj_names.specs.trusted.ModifiedUtf8.{units_text};
 ghost use Rattle.dj_tokens.specs.Views.{string_units_of};
 ghost use Rattle.dj_source.specs.LineViews.{line_view};
 ghost use Rattle.dj_source.specs.TypeViews.{value_view};
-ghost use Rattle.dj_entries.specs.Entries as entries;
-ghost use Rattle.dj_entries.specs.Needs.{value_entry, value_entries, code_name, constant_value_name, head_entries, catch_entries};
+ghost use Rattle.dj_entries.specs.trusted.Entries as entries;
+ghost use Rattle.dj_entries.specs.trusted.Needs.{value_entry, value_entries, code_name, constant_value_name, head_entries, catch_entries};
 ghost use Rattle.dj_entries.specs.PoolNeeds.{PutsNeeds};
 
 use crate::needs::{both, need_class, need_integer, need_long, need_names, need_string, need_text};
@@ -23,10 +23,8 @@ pub(crate) fn need_quoted(
 ) -> Result<bool, NoMemory>
     ensures { IfOk result (λ room. PutsNeeds pool.old (entries.Text (units_text (string_units_of string.entry)) ∷ []) pool.new room) }
 {
-    match string.text(alloc) {
-        Ok(text) => need_string(pool, alloc, text.as_slice()),
-        Err(_) => Err(NoMemory::Memory),
-    }
+    let text = string.text(alloc).or(Err(NoMemory::Memory))?;
+    need_string(pool, alloc, text.as_slice())
 }
 
 /// Puts the constant of a field.
@@ -96,7 +94,7 @@ fn need_method(
     Ok(both(names, code))
 }
 
-/// Puts what a line before the methods or the first line of a method needs, and answers whether all has room.
+/// Puts what a line before the methods or the first line of a method needs, and returns whether all has room.
 pub(crate) fn need_head(
     pool: &mut PoolBuilder,
     alloc: Global,
@@ -131,7 +129,7 @@ pub(crate) fn need_head(
     }
 }
 
-/// Puts the class of a `.catch`, and answers whether all has room.
+/// Puts the class of a `.catch`, and returns whether all has room.
 pub(crate) fn need_catch(
     pool: &mut PoolBuilder,
     alloc: Global,

@@ -1,7 +1,7 @@
 //! What lines need of the pool.
 ghost use Rattle.std.specs.Prelude.{◌≡◌, ◌&&◌, [], ◌∷◌, is_some, IfOk};
-ghost use Rattle.dj_entries.specs.Entries as entries;
-ghost use Rattle.dj_entries.specs.Needs.{member_entry};
+ghost use Rattle.dj_entries.specs.trusted.Entries as entries;
+ghost use Rattle.dj_entries.specs.trusted.Needs.{member_entry};
 ghost use Rattle.dj_entries.specs.Pooling.{Puts};
 ghost use Rattle.dj_entries.specs.PoolNeeds.{is_short, PutsNeeds};
 
@@ -30,7 +30,7 @@ fn has_room(index: Option<u16>, short: bool) -> bool
     index.is_some() && short
 }
 
-/// Puts a text, and answers whether it has room.
+/// Puts a text, and returns whether it has room.
 pub(crate) fn need_text(
     pool: &mut PoolBuilder,
     alloc: Global,
@@ -42,7 +42,7 @@ pub(crate) fn need_text(
     Ok(has_room(index, is_short(text)))
 }
 
-/// Puts a class with its text, and answers whether both have room.
+/// Puts a class with its text, and returns whether both have room.
 pub(crate) fn need_class(
     pool: &mut PoolBuilder,
     alloc: Global,
@@ -54,7 +54,7 @@ pub(crate) fn need_class(
     Ok(has_room(index, is_short(name)))
 }
 
-/// Puts a string with its text, and answers whether both have room.
+/// Puts a string with its text, and returns whether both have room.
 pub(crate) fn need_string(
     pool: &mut PoolBuilder,
     alloc: Global,
@@ -66,7 +66,7 @@ pub(crate) fn need_string(
     Ok(has_room(index, is_short(text)))
 }
 
-/// Puts an int, and answers whether it has room.
+/// Puts an int, and returns whether it has room.
 #[tactic(auto, using(crate::proofs::NeedSteps::number_need))]
 pub(crate) fn need_integer(pool: &mut PoolBuilder, n: i32) -> Result<bool, NoMemory>
     ensures { IfOk result (λ room. PutsNeeds pool.old (entries.Integer n ∷ []) pool.new room) }
@@ -75,7 +75,7 @@ pub(crate) fn need_integer(pool: &mut PoolBuilder, n: i32) -> Result<bool, NoMem
     Ok(has_room(index, true))
 }
 
-/// Puts a long, and answers whether it has room.
+/// Puts a long, and returns whether it has room.
 #[tactic(auto, using(crate::proofs::NeedSteps::long_need))]
 pub(crate) fn need_long(pool: &mut PoolBuilder, n: i64) -> Result<bool, NoMemory>
     ensures { IfOk result (λ room. PutsNeeds pool.old (entries.Long n ∷ []) pool.new room) }
@@ -84,7 +84,7 @@ pub(crate) fn need_long(pool: &mut PoolBuilder, n: i64) -> Result<bool, NoMemory
     Ok(has_room(index, true))
 }
 
-/// Puts a call site with its name and descriptor, and answers whether all have room.
+/// Puts a call site with its name and descriptor, and returns whether all have room.
 pub(crate) fn need_dynamic(
     pool: &mut PoolBuilder,
     alloc: Global,
@@ -98,7 +98,7 @@ pub(crate) fn need_dynamic(
     Ok(has_room(index, are_short(name, desc)))
 }
 
-/// Puts a field or a method with its parts, by the opcode and whether `interface` stands there, and answers its index.
+/// Puts a field or a method with its parts, by the opcode and whether `interface` is there, and returns its index.
 fn put_member(
     pool: &mut PoolBuilder,
     alloc: Global,
@@ -126,7 +126,7 @@ fn all_short(class: &[u8], name: &[u8], desc: &[u8]) -> bool
     is_short(class) && are_short(name, desc)
 }
 
-/// Puts a field or a method with its parts, and answers whether all have room.
+/// Puts a field or a method with its parts, and returns whether all have room.
 pub(crate) fn need_member(
     pool: &mut PoolBuilder,
     alloc: Global,
@@ -149,7 +149,7 @@ pub(crate) fn both(first: bool, second: bool) -> bool
     first && second
 }
 
-/// Puts the texts of a name and a descriptor, and answers whether both have room.
+/// Puts the texts of a name and a descriptor, and returns whether both have room.
 pub(crate) fn need_names(
     pool: &mut PoolBuilder,
     alloc: Global,

@@ -4,7 +4,7 @@ ghost use Rattle.std.specs.List.{flat_map};
 ghost use Rattle.dj_source.specs.OperationViews.{operation_view};
 ghost use Rattle.dj_source.specs.LineViews.{frame_view, line_view};
 ghost use Rattle.dj_source.specs.TypeViews.{type_view};
-ghost use Rattle.dj_entries.specs.Needs.{operation_entries, type_entries, types_entries, instruction_entries, stack_map_entries, frame_entries};
+ghost use Rattle.dj_entries.specs.trusted.Needs.{operation_entries, type_entries, types_entries, instruction_entries, stack_map_entries, frame_entries};
 ghost use Rattle.dj_entries.specs.PoolNeeds.{PutsNeeds};
 
 use crate::needs::{both, need_class, need_dynamic, need_long, need_member};
@@ -56,7 +56,7 @@ fn need_operation(
     }
 }
 
-/// Puts what the instruction of a line needs, and answers whether all has room.
+/// Puts what the instruction of a line needs, and returns whether all has room.
 pub(crate) fn need_instruction(
     pool: &mut PoolBuilder,
     alloc: Global,
@@ -110,7 +110,7 @@ fn need_frame(pool: &mut PoolBuilder, alloc: Global, frame: &Frame<'_>) -> Resul
     }
 }
 
-/// Puts what the frame of a line needs, and answers whether all has room.
+/// Puts what the frame of a line needs, and returns whether all has room.
 pub(crate) fn need_frame_line(
     pool: &mut PoolBuilder,
     alloc: Global,
@@ -136,7 +136,7 @@ pub(crate) fn need_frame_line(
     }
 }
 
-/// Puts the name of the attribute of frames where the line is one, and answers whether it has room.
+/// Puts the name of the attribute of frames where the line is one, and returns whether it has room.
 pub(crate) fn need_stack_map_line(
     pool: &mut PoolBuilder,
     alloc: Global,

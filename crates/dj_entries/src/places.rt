@@ -8,7 +8,7 @@ use indexmap::IndexMap;
 use std::alloc::Global;
 use std::marker::Model;
 
-// The index after all is at most this (JVMS 4.1, constant_pool_count).
+// The index after all constants is at most this (JVMS 4.1, constant_pool_count).
 const MOST_NEXT: u32 = 65535;
 
 /// Constants with their indexes, in the order of these, each once.
@@ -42,14 +42,14 @@ impl Places {
         }
     }
 
-    /// The constants, lent.
+    /// The constants, borrowed.
     pub(crate) fn as_slice(&self) -> &[Key]
         ensures { result.now ≡ self.now }
     {
         self.indexes.keys().as_slice()
     }
 
-    /// Whether the index after all is past the most, so that nothing more is kept.
+    /// Whether the index after all constants is past the greatest, so that nothing more is kept.
     pub(crate) fn is_full(&self) -> bool
         ensures { result ≡ nat_lt most_next (next_index self.now) }
     {

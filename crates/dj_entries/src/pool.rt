@@ -1,6 +1,6 @@
 //! The constant pool as entries are needed.
 ghost use Rattle.std.specs.Prelude.{◌≡◌, [], ◌∷◌, map, IfOk};
-ghost use Rattle.dj_entries.specs.Entries as entries;
+ghost use Rattle.dj_entries.specs.trusted.Entries as entries;
 ghost use Rattle.dj_pool.specs.Views.{constant_of};
 ghost use Rattle.dj_entries.specs.Pooling.{PutsOne, Puts, PutsPair, IsKeyOf, member_parts, found_index, IsSought};
 
@@ -12,7 +12,7 @@ use dj_pool::{Entry, NoMemory};
 use std::alloc::Global;
 use std::marker::Model;
 
-/// The entries of a pool, each once, in the order of their first needs.
+/// The entries of a pool, each once, in the order in which they were first needed.
 #[derive(Drop)]
 pub struct PoolBuilder {
     texts: Texts,
@@ -21,7 +21,7 @@ pub struct PoolBuilder {
 
 impl Model for PoolBuilder {
     ghost use Rattle.std.specs.Prelude.{List};
-    ghost use Rattle.dj_entries.specs.Entries as entries;
+    ghost use Rattle.dj_entries.specs.trusted.Entries as entries;
     ghost use Rattle.dj_entries.specs.Pooling.{AreKeysOf, keyed_entries};
 
     ghost Value = { List entries.Entry };
@@ -42,7 +42,7 @@ impl PoolBuilder {
         }
     }
 
-    /// Puts an entry that has no text of its own, and answers its index.
+    /// Puts an entry that has no text of its own, and returns its index.
     fn add(&mut self, key: Key) -> Result<Option<u16>, NoMemory>
         requires { (e : entries.Entry) × IsKeyOf self.old key e }
         ensures { IfOk result (λ answer. (e : entries.Entry) → IsKeyOf self.old key e → PutsOne self.old e self.new answer) }
@@ -50,7 +50,7 @@ impl PoolBuilder {
         self.places.add(key)
     }
 
-    /// Puts a text, and answers its index.
+    /// Puts a text, and returns its index.
     pub(crate) fn utf8(&mut self, alloc: Global, text: &[u8]) -> Result<Option<u16>, NoMemory>
         ensures { IfOk result (λ answer. PutsOne self.old (entries.Utf8 text.now) self.new answer) }
     {
@@ -90,7 +90,7 @@ impl PoolBuilder {
         entries_of(alloc, &self.texts, self.places.as_slice())
     }
 
-    /// Puts an int, and answers its index.
+    /// Puts an int, and returns its index.
     #[tactic(auto, using(crate::proofs::PoolChains::alone))]
     pub(crate) fn integer(&mut self, n: i32) -> Result<Option<u16>, NoMemory>
         ensures { IfOk result (λ answer. Puts self.old (entries.Integer n) self.new answer) }
@@ -98,7 +98,7 @@ impl PoolBuilder {
         self.add(Key::Integer(n))
     }
 
-    /// Puts a long, and answers its index.
+    /// Puts a long, and returns its index.
     #[tactic(auto, using(crate::proofs::PoolChains::alone))]
     pub(crate) fn long(&mut self, n: i64) -> Result<Option<u16>, NoMemory>
         ensures { IfOk result (λ answer. Puts self.old (entries.Long n) self.new answer) }
@@ -106,7 +106,7 @@ impl PoolBuilder {
         self.add(Key::Long(n))
     }
 
-    /// Puts a class with its text, and answers its index.
+    /// Puts a class with its text, and returns its index.
     #[tactic(auto, using(crate::proofs::PoolChains::class_key, crate::proofs::PoolChains::class_put, crate::proofs::PoolChains::class_stop))]
     pub(crate) fn class(&mut self, alloc: Global, name: &[u8]) -> Result<Option<u16>, NoMemory>
         ensures { IfOk result (λ answer. Puts self.old (entries.Class name.now) self.new answer) }
@@ -117,7 +117,7 @@ impl PoolBuilder {
         self.add(Key::Class(index))
     }
 
-    /// Puts a string with its text, and answers its index.
+    /// Puts a string with its text, and returns its index.
     #[tactic(auto, using(crate::proofs::PoolChains::string_key, crate::proofs::PoolChains::string_put, crate::proofs::PoolChains::string_stop))]
     pub(crate) fn string(&mut self, alloc: Global, text: &[u8]) -> Result<Option<u16>, NoMemory>
         ensures { IfOk result (λ answer. Puts self.old (entries.Text text.now) self.new answer) }
@@ -128,7 +128,7 @@ impl PoolBuilder {
         self.add(Key::Text(index))
     }
 
-    /// Puts the texts of a name and a descriptor, and answers their indexes.
+    /// Puts the texts of a name and a descriptor, and returns their indexes.
     #[tactic(auto, using(crate::proofs::PoolChains::texts_put, crate::proofs::PoolChains::texts_stop_last, crate::proofs::PoolChains::texts_stop))]
     fn names(
         &mut self,
@@ -147,7 +147,7 @@ impl PoolBuilder {
         Ok(Some((name_index, desc_index)))
     }
 
-    /// Puts a name and a descriptor with their texts, and answers their index.
+    /// Puts a name and a descriptor with their texts, and returns their index.
     #[tactic(auto, using(crate::proofs::PoolChains::names_key, crate::proofs::PoolChains::names_put, crate::proofs::PoolChains::names_stop))]
     pub(crate) fn name_and_type(
         &mut self,
@@ -163,7 +163,7 @@ impl PoolBuilder {
         self.add(Key::NameAndType(name_index, desc_index))
     }
 
-    /// Puts the class, and the name and descriptor, of a field or method, and answers their indexes.
+    /// Puts the class, and the name and descriptor, of a field or method, and returns their indexes.
     #[tactic(auto, using(crate::proofs::PoolChains::member_put, crate::proofs::PoolChains::member_stop_last, crate::proofs::PoolChains::member_stop))]
     fn member(
         &mut self,
@@ -183,7 +183,7 @@ impl PoolBuilder {
         Ok(Some((class_index, names_index)))
     }
 
-    /// Puts a field with its parts, and answers its index.
+    /// Puts a field with its parts, and returns its index.
     #[tactic(auto, using(crate::proofs::PoolChains::field_key, crate::proofs::PoolChains::field_put, crate::proofs::PoolChains::field_stop))]
     pub(crate) fn field(
         &mut self,
@@ -200,7 +200,7 @@ impl PoolBuilder {
         self.add(Key::Field(class_index, names_index))
     }
 
-    /// Puts a class's method with its parts, and answers its index.
+    /// Puts a class's method with its parts, and returns its index.
     #[tactic(auto, using(crate::proofs::PoolChains::method_key, crate::proofs::PoolChains::method_put, crate::proofs::PoolChains::method_stop))]
     pub(crate) fn method(
         &mut self,
@@ -217,7 +217,7 @@ impl PoolBuilder {
         self.add(Key::Method(class_index, names_index))
     }
 
-    /// Puts an interface's method with its parts, and answers its index.
+    /// Puts an interface's method with its parts, and returns its index.
     #[tactic(auto, using(crate::proofs::PoolChains::interface_key, crate::proofs::PoolChains::interface_put, crate::proofs::PoolChains::interface_stop))]
     pub(crate) fn interface_method(
         &mut self,
@@ -234,7 +234,7 @@ impl PoolBuilder {
         self.add(Key::InterfaceMethod(class_index, names_index))
     }
 
-    /// Puts a call site with its name and descriptor, and answers its index.
+    /// Puts a call site with its name and descriptor, and returns its index.
     #[tactic(auto, using(crate::proofs::PoolChains::dynamic_key, crate::proofs::PoolChains::dynamic_put, crate::proofs::PoolChains::dynamic_stop))]
     pub(crate) fn dynamic(
         &mut self,

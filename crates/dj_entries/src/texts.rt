@@ -7,7 +7,7 @@ use indexmap::IndexSet;
 use std::alloc::Global;
 use std::marker::Model;
 
-/// Texts in the order of their first needs, each once.
+/// Texts in the order in which they were first needed, each once.
 #[derive(Drop)]
 pub(crate) struct Texts {
     texts: IndexSet<Vec<u8>>,
@@ -48,7 +48,7 @@ impl Texts {
         }
     }
 
-    /// Puts a new text last, and answers its number.
+    /// Puts a new text last, and returns its number.
     pub(crate) fn push(&mut self, alloc: Global, text: &[u8]) -> Result<usize, NoMemory>
         requires { Contains self.old text.now → ⊥ }
         ensures { PutsText self.old text.now self.new result }

@@ -2,7 +2,7 @@
 ghost use Rattle.std.specs.Prelude.{◌≡◌, [], ◌∷◌, map, IfOk};
 ghost use Rattle.std.specs.List.{flat_map};
 ghost use Rattle.dj_source.specs.TypeViews.{literal_view, type_view};
-ghost use Rattle.dj_entries.specs.Needs.{literal_entry, type_entries, stack_map_name};
+ghost use Rattle.dj_entries.specs.trusted.Needs.{literal_entry, type_entries, stack_map_name};
 ghost use Rattle.dj_entries.specs.PoolNeeds.{PutsNeeds};
 
 use crate::lines::need_quoted;

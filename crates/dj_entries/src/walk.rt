@@ -2,8 +2,8 @@
 ghost use Rattle.std.specs.Prelude.{◌≡◌, ◌+◌, ◌<◌, ◌^◌, length, map, IfOk};
 ghost use Rattle.std.specs.List.{enumerate_from};
 ghost use Rattle.dj_source.specs.LineViews.{line_view};
-ghost use Rattle.dj_source.specs.Sources.{Source, lines_of};
-ghost use Rattle.dj_entries.specs.Needs.{needs, needs_at, method_needs};
+ghost use Rattle.dj_source.specs.trusted.Sources.{Source, lines_of};
+ghost use Rattle.dj_entries.specs.trusted.Needs.{needs, needs_at, method_needs};
 ghost use Rattle.dj_entries.specs.PoolNeeds.{PutsNeeds, IsPoolOf};
 ghost use Rattle.dj_entries.specs.Walking.{kind_entries, code_needs, noted, Walks};
 
@@ -14,7 +14,7 @@ use dj_pool::NoMemory;
 use dj_source::{Line, section_size};
 use std::alloc::Global;
 
-/// What of a line is put: each kind is put of all lines of a method before the next.
+/// What is put of a line: each kind of need is put for all lines of a method before the next kind.
 #[derive(Clone, Copy)]
 pub(crate) enum Kind {
     Head,
@@ -24,7 +24,7 @@ pub(crate) enum Kind {
     Frame,
 }
 
-/// Puts what a line needs of this kind, and answers whether all has room.
+/// Puts what a line needs of this kind, and returns whether all has room.
 fn need_kind(
     pool: &mut PoolBuilder,
     alloc: Global,
@@ -61,7 +61,7 @@ fn noted(lacking: Option<usize>, place: usize, room: bool) -> Option<usize>
     }
 }
 
-/// Puts what the line at a place needs of this kind, and answers the first place of a need without room.
+/// Puts what the line at a place needs of this kind, and returns the first place of a need without room.
 #[tactic(auto, using(crate::proofs::Walking::line_walks))]
 fn walk_line(
     pool: &mut PoolBuilder,
@@ -97,7 +97,7 @@ fn walk_kind(
     Ok(first)
 }
 
-/// Puts what lines from a place on need but for their frames.
+/// Puts what lines from a place on need, except for their frames.
 fn walk_code(
     pool: &mut PoolBuilder,
     alloc: Global,
@@ -113,7 +113,7 @@ fn walk_code(
     walk_kind(pool, alloc, Kind::Catch, before, lines, second)
 }
 
-/// Puts what the lines of a section need, which stand from a place on.
+/// Puts what the lines of a section need; the section begins at a place.
 fn walk_section(
     pool: &mut PoolBuilder,
     alloc: Global,

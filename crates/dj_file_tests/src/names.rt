@@ -113,7 +113,7 @@ fn descriptors(rt: HostRuntime) {
     }
 }
 
-// The front, the unit, how many of it, the back, and whether that is the descriptor of a field and of a method.
+// The prefix, the unit, how many of it, the suffix, and whether that is the descriptor of a field and of a method.
 const LIMITS: [(&[u8], u8, usize, &[u8], (bool, bool)); 4] = [
     (b"", b'[', 255, b"I", (true, false)),
     (b"", b'[', 256, b"I", (false, false)),

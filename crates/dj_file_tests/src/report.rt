@@ -45,7 +45,7 @@ fn plain_reports(rt: HostRuntime) {
     }
 }
 
-// Of a file, whether it is told as one that isn't there, or as one for later.
+// For a file, whether it is reported as absent or as unsupported.
 const PATHS: [(bool, &[u8], &[u8], u8); 2] = [
     (
         false,
@@ -101,7 +101,7 @@ const ENDS: [(Outcome, &[u8], u8); 9] = [
     (Outcome::OutOfSteps { steps: 5 }, b"STEPS 5\n", 8),
 ];
 
-// A run that ended so is told by this line and one of its costs, and the program ends with this status.
+// The report on a run that ended so has this line and one of the costs, and the program ends with this status.
 fn tells_run(
     alloc: Global,
     outcome: Outcome,

@@ -76,7 +76,7 @@ fn reads_all_or_fails(rt: HostRuntime) -> Result<(), Fail> {
     Ok(())
 }
 
-// A writer that takes so many bytes at most at a write, or fails.
+// A writer that takes at most this many bytes at a write, or fails.
 #[derive(Drop)]
 struct Takes(Result<usize, ErrorKind>);
 

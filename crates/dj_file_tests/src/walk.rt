@@ -4,7 +4,7 @@ use dj_edge::{Entry, EntryKind, Folders, ListError, files_below, list_folder};
 use std::alloc::{AllocError, Global};
 use std::test::Fail;
 
-// Each folder has a folder, down to so many levels, and something named as a class file. One opening or one entry fails.
+// Each folder has a folder, down to this many levels, and something named as a class file. One opening or one entry fails.
 #[derive(Drop)]
 struct Chain {
     levels: u32,
@@ -113,7 +113,7 @@ fn walks_or_fails(rt: HostRuntime) -> Result<(), Fail> {
     Ok(())
 }
 
-// Each class file once, and at most so many.
+// Each class file once, and at most this many.
 #[test]
 fn lists_each_once(rt: HostRuntime) -> Result<(), Fail> {
     let alloc = rt.alloc();
@@ -126,7 +126,7 @@ fn lists_each_once(rt: HostRuntime) -> Result<(), Fail> {
     Ok(())
 }
 
-// Folders that tell what they have: each is empty, or none can be read.
+// Folders whose contents are known: each is empty, or none can be read.
 #[derive(Drop)]
 struct Told(bool);
 

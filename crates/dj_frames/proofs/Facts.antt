@@ -15,9 +15,10 @@ use Rattle.dj_ops.specs.declared.frames.Form.TheVariants as forms
 use Rattle.dj_ops.specs.declared.frames.Frame.{Frame}
 use Rattle.dj_frames.specs.declared.read.FrameError.{FrameError}
 use Rattle.dj_frames.specs.declared.read.FrameError.TheVariants as errors
-use Rattle.dj_frames.specs.StackMaps.{type_bytes, long_tag, IsShortTag, HasCounts, IsStackMap, IsType, IsTypeBelow, IsFrameBelow, IsWellFormed, AreWellFormed}
+use Rattle.dj_frames.specs.trusted.StackMaps.{type_bytes, long_tag, IsShortTag, HasCounts, IsStackMap, IsType}
+use Rattle.dj_frames.specs.StackMaps.{IsTypeBelow, IsFrameBelow, IsWellFormed, AreWellFormed}
 use Rattle.dj_frames.specs.Refusals.{IsFault}
-use Rattle.dj_frames.specs.Written.{head_bytes, frames_bytes, stack_map_bytes}
+use Rattle.dj_frames.specs.trusted.Written.{head_bytes, frames_bytes, stack_map_bytes}
 use Rattle.dj_frames.specs.Moves.{moved_type, moved_form, moved_frame}
 use Rattle.dj_frames.specs.Reading.{number_at, offset_at, plain_type_at, bare_type_at, object_at, uninitialized_at, type_at, stack1_at, append_at, full_at, form_at, long_frame_at, same_frame_at, stack1_frame_at, frame_at, frames_at, frames_read}
 use Rattle.dj_frames.proofs.WholeLaws.{map_takes, map_again}
@@ -148,7 +149,7 @@ pub they_are_faults : AllByRecursion (λ row. IsFault row.0 starts row.1) fault_
 unfolding number_at offset_at plain_type_at bare_type_at object_at uninitialized_at type_at stack1_at append_at full_at form_at long_frame_at same_frame_at stack1_frame_at frame_at frames_at frames_read many_at table_at
 they_are_faults = (is_fault _ _ refl refl, (is_fault _ _ refl refl, (is_fault _ _ refl refl, (is_fault _ _ refl refl, (is_fault _ _ refl refl, (is_fault _ _ refl refl, (is_fault _ _ refl refl, (is_fault _ _ refl refl, (is_fault _ _ refl refl, (is_fault _ _ refl refl, (is_fault _ _ refl refl, (is_fault _ _ refl refl, (is_fault _ _ refl refl, (is_fault _ _ refl refl, (is_fault _ _ refl refl, (is_fault _ _ refl refl, (is_fault _ _ refl refl, (is_fault _ _ refl refl, (is_fault _ _ refl refl, (is_fault _ _ refl refl, (is_fault _ _ refl refl, (is_fault _ _ refl refl, (is_fault _ _ refl refl, (is_fault _ _ refl refl, (is_fault _ _ refl refl, (is_fault _ _ refl refl, tt))))))))))))))))))))))))))
 
--- of two faults the later isn't told
+-- of two faults the later isn't reported
 pub later_fault_is_none : IsFault (0 ∷ 1 ∷ 65 ∷ 9 ∷ []) starts (errors.BadFrame 3) → ⊥
 unfolding number_at offset_at plain_type_at bare_type_at object_at uninitialized_at type_at stack1_at append_at full_at form_at long_frame_at same_frame_at stack1_frame_at frame_at frames_at frames_read many_at table_at
 later_fault_is_none fault =

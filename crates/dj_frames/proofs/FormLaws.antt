@@ -4,7 +4,7 @@ use Rattle.std.specs.List.{AllByRecursion}
 use Rattle.std.specs.List.Sorted.{IsStrictlyIncreasing}
 use Rattle.std.proofs.lemmas.Bool.{eqb-true, ltb-true, lt-ltb, le-ltb}
 use Rattle.std.proofs.lemmas.Bool.Decides.{nat_tests}
-use Rattle.dj_bytes.specs.Spelling.{table_bytes}
+use Rattle.dj_bytes.specs.trusted.Spelling.{table_bytes}
 use Rattle.dj_bytes.specs.Reading.{Cursor}
 use Rattle.dj_bytes.proofs.Bytes.{IsBytes}
 use Rattle.dj_bytes.proofs.Steps.{bind_again, cond_either, cond_true, cond_false}
@@ -15,7 +15,7 @@ use Rattle.dj_ops.specs.declared.frames.VType.{VType}
 use Rattle.dj_ops.specs.declared.frames.Form.{Form}
 use Rattle.dj_ops.specs.declared.frames.Form.TheVariants as forms
 use Rattle.dj_frames.specs.declared.read.FrameError.TheVariants as errors
-use Rattle.dj_frames.specs.StackMaps.{type_bytes, IsType, types_of, HasCounts, form_bytes, long_tag}
+use Rattle.dj_frames.specs.trusted.StackMaps.{type_bytes, IsType, types_of, HasCounts, form_bytes, long_tag}
 use Rattle.dj_frames.specs.Reading.{stack1_at, append_at, full_at, form_at}
 use Rattle.dj_frames.proofs.TypeLaws.{type_reads}
 

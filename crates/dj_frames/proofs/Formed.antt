@@ -8,7 +8,8 @@ use Rattle.std.proofs.lemmas.List.Elements.{All-from_recursion}
 use Rattle.dj_ops.specs.declared.frames.VType.{VType}
 use Rattle.dj_ops.specs.declared.frames.VType.TheVariants as types
 use Rattle.dj_ops.specs.declared.frames.Frame.{Frame}
-use Rattle.dj_frames.specs.StackMaps.{IsType, types_of, SpellsFrames, IsTypeBelow, IsFrameBelow, IsWellFormed}
+use Rattle.dj_frames.specs.trusted.StackMaps.{IsType, types_of, SpellsFrames}
+use Rattle.dj_frames.specs.StackMaps.{IsTypeBelow, IsFrameBelow, IsWellFormed}
 use Rattle.dj_frames.specs.Laws.{StackMapIsWellFormed, StackMapIsBelow}
 use Rattle.dj_frames.proofs.Numbers.{rises}
 use Rattle.dj_frames.proofs.Tested.{IsStepwise, stepwise_rises}

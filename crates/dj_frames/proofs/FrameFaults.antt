@@ -4,7 +4,7 @@ use Rattle.std.specs.Prelude.{slice_index, Contains}
 use Rattle.std.specs.List.Sorted.{IsStrictlyIncreasing}
 use Rattle.std.proofs.lemmas.Bool.{eqb-true, eq-eqb, ltb-true, ltb-false, lt-ltb, le-ltb}
 use Rattle.std.proofs.lemmas.Bool.Decides.{nat_tests}
-use Rattle.dj_bytes.specs.Spelling.{table_bytes}
+use Rattle.dj_bytes.specs.trusted.Spelling.{table_bytes}
 use Rattle.dj_bytes.specs.Reading.{Cursor}
 use Rattle.dj_bytes.proofs.Bytes.{IsBytes}
 use Rattle.dj_bytes.proofs.Steps.{bind_again, bind_err, bind_fails, never_err, cond_either, cond_true, cond_false}
@@ -14,7 +14,7 @@ use Rattle.dj_bytes.proofs.Parts.{table_reads}
 use Rattle.dj_ops.specs.declared.frames.Frame.{Frame}
 use Rattle.dj_frames.specs.declared.read.FrameError.{FrameError}
 use Rattle.dj_frames.specs.declared.read.FrameError.TheVariants as errors
-use Rattle.dj_frames.specs.StackMaps.{type_bytes, SpellsFrames}
+use Rattle.dj_frames.specs.trusted.StackMaps.{type_bytes, SpellsFrames}
 use Rattle.dj_frames.specs.Refusals.{least_after, IsCut, NoInstructionAt, IsFaultyType, IsFaultyTable, HasFaultyOperands, IsFaultyForm, HasFaultyDelta, IsFaultyFrame}
 use Rattle.dj_frames.specs.Reading.{stack1_at, append_at, full_at, form_at, long_frame_at, same_frame_at, stack1_frame_at, frame_at, frames_at}
 use Rattle.dj_frames.proofs.Numbers.{number_takes, number_fails, number_missing, number_there, there_from_number}
@@ -182,7 +182,7 @@ frame_halts starts rise least c e h = frame_halts_at starts rise least c c.rest 
 
 -- ---- frames one after the other
 
--- after fewer frames than so many, the next is faulty
+-- after fewer frames than this many, the next is faulty
 pub record FramesStop (starts : List ℕ) (count least : ℕ) (c : Cursor) (e : FrameError) : Type 0 where
   pub found : List Frame
   pub text : List ℕ

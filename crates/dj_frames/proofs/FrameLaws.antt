@@ -1,10 +1,10 @@
--- A frame that is read is spelled so, and one that is spelled so is read; the same of frames one after the other.
+-- A frame that is read is spelled so, and one that is spelled so is read; the same for frames one after the other.
 use Rattle.std.proofs.Common.{◌≡◌, ℕ, zero, suc, ◌+◌, ◌-◌, ◌^◌, ◌<◌, ◌≤◌, List, [], ◌∷◌, ◌++◌, length, Result, Ok, refl, sym, ap, subst, ◌∙◌, append_assoc, arith, inl, inr}
 use Rattle.std.specs.Prelude.{slice_index}
 use Rattle.std.specs.List.{AllByRecursion}
 use Rattle.std.specs.List.Sorted.{IsStrictlyIncreasing}
 use Rattle.std.proofs.lemmas.Bool.{ltb-true, ltb-false, lt-ltb, le-ltb}
-use Rattle.dj_bytes.specs.Spelling.{u1, u2}
+use Rattle.dj_bytes.specs.trusted.Spelling.{u1, u2}
 use Rattle.dj_bytes.specs.Reading.{Cursor}
 use Rattle.dj_bytes.proofs.Bytes.{IsBytes}
 use Rattle.dj_bytes.proofs.Steps.{bind_ok, bind_again, cond_either, cond_true, cond_false}
@@ -15,7 +15,7 @@ use Rattle.dj_ops.specs.declared.frames.Form.TheVariants as forms
 use Rattle.dj_ops.specs.declared.frames.Frame.{Frame}
 use Rattle.dj_frames.specs.declared.read.FrameError.{FrameError}
 use Rattle.dj_frames.specs.declared.read.FrameError.TheVariants as errors
-use Rattle.dj_frames.specs.StackMaps.{type_bytes, IsType, types_of, HasCounts, form_bytes, long_tag, IsShortTag, SpellsFrame, SpellsFrames}
+use Rattle.dj_frames.specs.trusted.StackMaps.{type_bytes, IsType, types_of, HasCounts, form_bytes, long_tag, IsShortTag, SpellsFrame, SpellsFrames}
 use Rattle.dj_frames.specs.Reading.{long_frame_at, same_frame_at, stack1_frame_at, frame_at, frames_at}
 use Rattle.dj_frames.proofs.Numbers.{number_takes, number_again}
 use Rattle.dj_frames.proofs.FormLaws.{form_takes, form_again, Operand, stack1_takes, stack1_again}

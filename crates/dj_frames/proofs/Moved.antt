@@ -8,7 +8,8 @@ use Rattle.dj_ops.specs.declared.frames.VType.TheVariants as types
 use Rattle.dj_ops.specs.declared.frames.Form.{Form}
 use Rattle.dj_ops.specs.declared.frames.Form.TheVariants as forms
 use Rattle.dj_ops.specs.declared.frames.Frame.{Frame}
-use Rattle.dj_frames.specs.StackMaps.{types_of, IsTypeBelow, IsFrameBelow}
+use Rattle.dj_frames.specs.trusted.StackMaps.{types_of}
+use Rattle.dj_frames.specs.StackMaps.{IsTypeBelow, IsFrameBelow}
 use Rattle.dj_frames.specs.Moves.{moved_type, moved_form, moved_frame}
 use Rattle.dj_frames.specs.Laws.{IsUnchanged, MovedNowhere}
 use Rattle.dj_frames.proofs.Written.{all_of_front, all_of_back}

@@ -16,7 +16,7 @@ use Rattle.dj_bytes.proofs.Numbers.{u1_reads, u2_reads, bytes_reads, number_cut,
 use Rattle.dj_bytes.proofs.Parts.{many_stops, many_halt}
 use Rattle.dj_frames.specs.declared.read.FrameError.{FrameError}
 use Rattle.dj_frames.specs.declared.read.FrameError.TheVariants as errors
-use Rattle.dj_frames.specs.StackMaps.{type_bytes}
+use Rattle.dj_frames.specs.trusted.StackMaps.{type_bytes}
 use Rattle.dj_frames.specs.Refusals.{BeginsWithNumber, IsCut, HasFaultyAddress, IsFaultyType, AreFaultyTypes, IsFaultyTable}
 use Rattle.dj_frames.specs.Reading.{offset_at, plain_type_at, bare_type_at, object_at, uninitialized_at, type_at}
 use Rattle.dj_frames.proofs.Numbers.{number_fails, number_missing}
@@ -24,7 +24,7 @@ use Rattle.dj_frames.proofs.TypeLaws.{type_reads}
 
 -- ---- numbers
 
--- after so many bytes
+-- after this many bytes
 abbrev pub after : Cursor → ℕ → List ℕ → Cursor
 after c n more = record { place = c.place + n; rest = more }
 

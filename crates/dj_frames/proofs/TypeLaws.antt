@@ -3,7 +3,7 @@ use Rattle.std.proofs.Common.{◌≡◌, ℕ, ◌^◌, ◌<◌, List, length, Ok
 use Rattle.std.specs.Prelude.{slice_index}
 use Rattle.std.specs.List.Sorted.{IsStrictlyIncreasing}
 use Rattle.std.proofs.lemmas.Bool.{eqb-true}
-use Rattle.dj_bytes.specs.Spelling.{u1, u2}
+use Rattle.dj_bytes.specs.trusted.Spelling.{u1, u2}
 use Rattle.dj_bytes.specs.Reading.{Cursor}
 use Rattle.dj_bytes.proofs.Bytes.{IsBytes}
 use Rattle.dj_bytes.proofs.Steps.{bind_ok, bind_again, cond_either}
@@ -12,7 +12,7 @@ use Rattle.dj_bytes.proofs.Numbers.{u1_reads, u2_reads}
 use Rattle.dj_ops.specs.declared.frames.VType.{VType}
 use Rattle.dj_ops.specs.declared.frames.VType.TheVariants as types
 use Rattle.dj_frames.specs.declared.read.FrameError.TheVariants as errors
-use Rattle.dj_frames.specs.StackMaps.{type_bytes, IsType}
+use Rattle.dj_frames.specs.trusted.StackMaps.{type_bytes, IsType}
 use Rattle.dj_frames.specs.Reading.{offset_at, plain_type_at, bare_type_at, object_at, uninitialized_at, type_at}
 use Rattle.dj_frames.proofs.Numbers.{number_takes, number_again}
 

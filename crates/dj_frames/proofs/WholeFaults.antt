@@ -11,7 +11,7 @@ use Rattle.dj_bytes.proofs.Steps.{bind_again, bind_err, bind_fails, never_err, c
 use Rattle.dj_ops.specs.declared.frames.Frame.{Frame}
 use Rattle.dj_frames.specs.declared.read.FrameError.{FrameError}
 use Rattle.dj_frames.specs.declared.read.FrameError.TheVariants as errors
-use Rattle.dj_frames.specs.StackMaps.{IsStackMap}
+use Rattle.dj_frames.specs.trusted.StackMaps.{IsStackMap}
 use Rattle.dj_frames.specs.Refusals.{IsFault, IsFaultyFrame, least_after}
 use Rattle.dj_frames.specs.Reading.{is_memory, frames_at, frames_read}
 use Rattle.dj_frames.specs.Answers.{ReadsFrames}

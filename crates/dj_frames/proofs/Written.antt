@@ -9,8 +9,9 @@ use Rattle.dj_bytes.proofs.Steps.{cond_either}
 use Rattle.dj_ops.specs.declared.frames.Form.{Form}
 use Rattle.dj_ops.specs.declared.frames.Form.TheVariants as forms
 use Rattle.dj_ops.specs.declared.frames.Frame.{Frame}
-use Rattle.dj_frames.specs.StackMaps.{IsType, types_of, form_bytes, IsShortTag, IsHead, SpellsFrame, SpellsFrames, IsStackMap, IsWellFormed, AreWellFormed}
-use Rattle.dj_frames.specs.Written.{short_tag, head_with, head_bytes, frame_bytes, frames_bytes, stack_map_bytes}
+use Rattle.dj_frames.specs.trusted.StackMaps.{IsType, types_of, form_bytes, IsShortTag, IsHead, SpellsFrame, SpellsFrames, IsStackMap}
+use Rattle.dj_frames.specs.StackMaps.{IsWellFormed, AreWellFormed}
+use Rattle.dj_frames.specs.trusted.Written.{short_tag, head_with, head_bytes, frame_bytes, frames_bytes, stack_map_bytes}
 use Rattle.dj_frames.specs.Reading.{frames_read}
 use Rattle.dj_frames.proofs.Numbers.{rises}
 use Rattle.dj_frames.proofs.WholeLaws.{map_again}

@@ -3,7 +3,7 @@ use Rattle.std.specs.Prelude.{⊤, List, ℕ, Result, Ok, Err}
 use Rattle.dj_ops.specs.declared.frames.Frame.{Frame}
 use Rattle.dj_frames.specs.declared.read.FrameError.{FrameError}
 use Rattle.dj_frames.specs.declared.read.FrameError.TheVariants as errors
-use Rattle.dj_frames.specs.StackMaps.{IsStackMap}
+use Rattle.dj_frames.specs.trusted.StackMaps.{IsStackMap}
 use Rattle.dj_frames.specs.Refusals.{IsFault}
 
 -- the frames of the body, or its first fault; want of memory has no cause in the body

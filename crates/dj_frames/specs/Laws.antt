@@ -3,10 +3,11 @@ use Rattle.std.specs.Prelude.{◌≡◌, ℕ, ◌^◌, ◌<◌, List, All, Ok, l
 use Rattle.std.specs.List.Sorted.{IsStrictlyIncreasing}
 use Rattle.dj_ops.specs.declared.frames.Frame.{Frame}
 use Rattle.dj_frames.specs.declared.read.FrameError.{FrameError}
-use Rattle.dj_frames.specs.StackMaps.{IsFrameBelow, IsStackMap, AreWellFormed}
+use Rattle.dj_frames.specs.trusted.StackMaps.{IsStackMap}
+use Rattle.dj_frames.specs.StackMaps.{IsFrameBelow, AreWellFormed}
 use Rattle.dj_frames.specs.Refusals.{IsFault}
 use Rattle.dj_frames.specs.Reading.{frames_read}
-use Rattle.dj_frames.specs.Written.{stack_map_bytes}
+use Rattle.dj_frames.specs.trusted.Written.{stack_map_bytes}
 use Rattle.dj_frames.specs.Moves.{moved_frame}
 
 -- a body has one stack map at most
@@ -41,7 +42,7 @@ StackMapIsWellFormed = (body starts : List ℕ) (frames : List Frame) → IsStri
 abbrev pub StackMapIsBelow : Type 0
 StackMapIsBelow = (body starts : List ℕ) (frames : List Frame) → IsStackMap body starts frames → All (IsFrameBelow (length starts)) frames
 
--- each number in the list stands at its own place
+-- each number in the list is at its own place
 abbrev pub IsUnchanged : List ℕ → Type 0
 IsUnchanged numbers = (number : ℕ) → number < length numbers → slice_index numbers number ≡ number
 

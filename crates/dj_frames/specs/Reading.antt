@@ -15,7 +15,7 @@ abbrev pub is_memory : FrameError → Bool
 is_memory errors.Memory = true
 is_memory _ = false
 
--- the number of the instruction at this address, which the item at the place tells
+-- the number of the instruction at this address; the item at the place gives the address
 abbrev pub found_at : ℕ → Option ℕ → Result ℕ FrameError
 found_at place None = Err (errors.NotAnInstruction place)
 found_at place (Some number) = Ok number
@@ -120,7 +120,7 @@ frame_at starts least c = do
       else (if nat_lt tag.0 247 then Err (errors.BadFrame c.place)
       else long_frame_at starts least tag.0 tag.1))
 
--- so many frames
+-- this many frames
 unfoldable pub frames_at : List ℕ → ℕ → ℕ → Cursor → Result (List Frame × Cursor) FrameError
 frames_at starts zero least c = Ok ([], c)
 frames_at starts (suc n) least c = do

@@ -1,13 +1,13 @@
 -- Bodies that are no stack map, and why: the first item, from left to right, that is cut, has a value that its place doesn't allow, or
--- tells an address where no instruction starts; or bytes after the last item.
+-- gives an address where no instruction starts; or bytes after the last item.
 use Rattle.std.specs.Prelude.{◌≡◌, ℕ, ◌+◌, ◌-◌, ◌^◌, ◌<◌, ◌≤◌, ◌⊎◌, List, [], ◌∷◌, ◌++◌, length, slice_index, Contains}
 use Rattle.std.specs.List.{flat_map, AllByRecursion}
-use Rattle.dj_bytes.specs.Spelling.{u2, table_bytes}
+use Rattle.dj_bytes.specs.trusted.Spelling.{u2, table_bytes}
 use Rattle.dj_ops.specs.declared.frames.VType.{VType}
 use Rattle.dj_ops.specs.declared.frames.Frame.{Frame}
 use Rattle.dj_frames.specs.declared.read.FrameError.{FrameError}
 use Rattle.dj_frames.specs.declared.read.FrameError.TheVariants as errors
-use Rattle.dj_frames.specs.StackMaps.{type_bytes, IsType, SpellsFrames}
+use Rattle.dj_frames.specs.trusted.StackMaps.{type_bytes, IsType, SpellsFrames}
 
 -- ---- what is good up to a place
 
@@ -16,7 +16,7 @@ pub record BeginsWithNumber (rest : List ℕ) (number : ℕ) (more : List ℕ) :
   pub fits : number < 2 ^ 16
   pub are : rest ≡ u2 number ++ more
 
--- so many types, and what follows them
+-- this many types, and what follows them
 pub record BeginsWithTypes (starts rest : List ℕ) (found : List VType) (more : List ℕ) : Type 0 where
   pub good : AllByRecursion (IsType starts) found
   pub are : rest ≡ flat_map (type_bytes starts) found ++ more
@@ -38,7 +38,7 @@ least_after starts least (frame ∷ frames) = least_after starts (slice_index st
 abbrev pub IsCut : (place : ℕ) → List ℕ → FrameError → Type 0
 IsCut place rest e = (length rest < 2) × (e ≡ errors.BadFrame place)
 
--- the item at the place tells an address where no instruction starts
+-- the item at the place gives an address where no instruction starts
 abbrev pub NoInstructionAt : (starts : List ℕ) (address place : ℕ) → FrameError → Type 0
 NoInstructionAt starts address place e = (Contains starts address → ⊥) × (e ≡ errors.NotAnInstruction place)
 
@@ -51,7 +51,7 @@ pub record HasFaultyAddress (starts : List ℕ) (place : ℕ) (rest : List ℕ) 
   pub begins : BeginsWithNumber rest address more
   pub none : NoInstructionAt starts address place e
 
--- no tag, one above 8, or what follows 7 and 8 is cut or tells no instruction
+-- no tag, one above 8, or what follows 7 and 8 is cut or gives no instruction
 abbrev pub IsFaultyType : (starts : List ℕ) (place : ℕ) → List ℕ → FrameError → Type 0
 IsFaultyType starts place [] e = e ≡ errors.BadFrame place
 IsFaultyType starts place (tag ∷ rest) e =
@@ -59,7 +59,7 @@ IsFaultyType starts place (tag ∷ rest) e =
     ⊎ (((tag ≡ 7) ⊎ (tag ≡ 8)) × IsCut (place + 1) rest e)
     ⊎ ((tag ≡ 8) × HasFaultyAddress starts (place + 1) rest e)
 
--- after fewer types than so many, the next is faulty
+-- after fewer types than this many, the next is faulty
 pub record AreFaultyTypes (starts : List ℕ) (count place : ℕ) (rest : List ℕ) (e : FrameError) : Type 0 where
   pub found : List VType
   pub more : List ℕ
@@ -74,7 +74,7 @@ pub record HasFaultyTypes (starts : List ℕ) (place : ℕ) (rest : List ℕ) (e
   pub begins : BeginsWithNumber rest count more
   pub types : AreFaultyTypes starts count (place + 2) more e
 
--- a count and so many types
+-- a count and this many types
 abbrev pub IsFaultyTable : (starts : List ℕ) (place : ℕ) → List ℕ → FrameError → Type 0
 IsFaultyTable starts place rest e = IsCut place rest e ⊎ HasFaultyTypes starts place rest e
 
@@ -119,7 +119,7 @@ IsFaultyFrame starts least place (tag ∷ rest) e =
 
 -- ---- the whole body
 
--- after fewer frames than so many, the next is faulty
+-- after fewer frames than this many, the next is faulty
 pub record HasFaultyFrame (starts : List ℕ) (count : ℕ) (rest : List ℕ) (e : FrameError) : Type 0 where
   pub found : List Frame
   pub more : List ℕ
@@ -127,7 +127,7 @@ pub record HasFaultyFrame (starts : List ℕ) (count : ℕ) (rest : List ℕ) (e
   pub few : length found < count
   pub next : IsFaultyFrame starts (least_after starts 0 found) (2 + length begins.text) more e
 
--- after so many frames, bytes are left
+-- after this many frames, bytes are left
 pub record HasMore (starts : List ℕ) (count : ℕ) (rest : List ℕ) (e : FrameError) : Type 0 where
   pub found : List Frame
   pub more : List ℕ

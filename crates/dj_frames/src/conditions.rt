@@ -1,6 +1,7 @@
 ghost use Rattle.std.specs.Prelude.{◌↔◌, ◌≡◌, ◌<◌, ◌≤◌, ◌^◌, length, All, AllPairs, IsTrue};
 ghost use Rattle.std.specs.List.Sorted.{IsStrictlyIncreasing};
-ghost use Rattle.dj_frames.specs.StackMaps.{types_of, HasCounts, IsType, IsTypeBelow, IsFrameBelow, IsWellFormed, AreWellFormed};
+ghost use Rattle.dj_frames.specs.trusted.StackMaps.{types_of, HasCounts, IsType};
+ghost use Rattle.dj_frames.specs.StackMaps.{IsTypeBelow, IsFrameBelow, IsWellFormed, AreWellFormed};
 
 use dj_ops::{Form, Frame, Frames, VType};
 

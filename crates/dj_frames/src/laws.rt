@@ -1,6 +1,6 @@
 ghost use Rattle.dj_frames.specs.Laws.{OneStackMap, NoStackMapWhereFault, StackMapWhereNoFault, OneFault, WrittenIsStackMap, WrittenIsRead, StackMapIsWellFormed, StackMapIsBelow, MovedNowhere};
 
-/// A body has one stack map at most.
+/// A body has at most one stack map.
 pub fn one_stack_map()
     ensures { OneStackMap }
 {}
@@ -15,7 +15,7 @@ pub fn stack_map_where_no_fault()
     ensures { StackMapWhereNoFault }
 {}
 
-/// A body has one first fault at most.
+/// A body has at most one first fault.
 pub fn one_fault()
     ensures { OneFault }
 {}

@@ -18,7 +18,7 @@ pub enum FrameError {
     /// The item at this place is cut or has a value that it may not have, or bytes after the last item begin there.
     #[error("the item at {0} of the stack map is cut, has a value that it may not have, or is one too many")]
     BadFrame(u32),
-    /// The item at this place tells an address where no instruction starts.
+    /// The item at this place gives an address where no instruction starts.
     #[error("the item at {0} of the stack map tells an address where no instruction starts")]
     NotAnInstruction(u32),
     /// There was no memory.
@@ -66,7 +66,7 @@ impl From<dj_names::NoMemory> for FrameError {
     }
 }
 
-/// The number of the instruction at an address, which the item at the place tells.
+/// The number of the instruction at an address; the item at the place gives the address.
 fn find_number(starts: &[u32], place: u32, address: u64) -> Result<u32, FrameError>
     requires rise { IsStrictlyIncreasing starts.now }
     ensures gives { Gives is_memory (λ x. x) result (number_at starts.now place address) }
@@ -370,7 +370,7 @@ fn read_whole(alloc: Global, body: &[u8], starts: &[u32]) -> Result<Frames, Fram
 }
 
 /// The frames of the body of a StackMapTable (JVMS 4.7.4), all of it, where these are the addresses of the instructions. `at` and
-/// `Uninitialized` are instruction numbers: places in `starts`. The first fault of the body is told, or that there was no memory.
+/// `Uninitialized` are instruction numbers: places in `starts`. The first fault of the body is reported, or that there was no memory.
 pub fn read_frames(alloc: Global, body: &[u8], starts: &[u32]) -> Result<Frames, FrameError>
     requires fits { length body.now < 2 ^ 32 }
     requires rise { IsStrictlyIncreasing starts.now }

@@ -1,6 +1,7 @@
 ghost use Rattle.std.specs.Prelude.{◌≡◌, ◌<◌, ◌++◌, ◌∷◌, [], length, map, All, IfOk, IsErrOf, IfErr};
 ghost use Rattle.std.specs.List.Sorted.{IsStrictlyIncreasing};
-ghost use Rattle.dj_frames.specs.StackMaps.{IsTypeBelow, IsFrameBelow, types_of};
+ghost use Rattle.dj_frames.specs.trusted.StackMaps.{types_of};
+ghost use Rattle.dj_frames.specs.StackMaps.{IsTypeBelow, IsFrameBelow};
 ghost use Rattle.dj_frames.specs.Moves.{moved_type, moved_form, moved_frame};
 ghost use Rattle.dj_frames.specs.declared.read.FrameError.TheVariants as errors;
 

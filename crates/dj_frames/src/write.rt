@@ -1,8 +1,9 @@
 ghost use Rattle.std.specs.Prelude.{◌≡◌, ◌+◌, ◌-◌, ◌^◌, ◌<◌, ◌≤◌, ◌++◌, ◌∷◌, [], length, All, AllPairs, slice_index, OnOk, IfOk, IfErr};
 ghost use Rattle.std.specs.List.{flat_map};
-ghost use Rattle.dj_bytes.specs.Spelling.{u1, u2, table_bytes};
-ghost use Rattle.dj_frames.specs.StackMaps.{long_tag, type_bytes, form_bytes, types_of, HasCounts, IsType, AreWellFormed, IsStackMap};
-ghost use Rattle.dj_frames.specs.Written.{short_tag, head_bytes, frames_bytes, stack_map_bytes};
+ghost use Rattle.dj_bytes.specs.trusted.Spelling.{u1, u2, table_bytes};
+ghost use Rattle.dj_frames.specs.trusted.StackMaps.{long_tag, type_bytes, form_bytes, types_of, HasCounts, IsType, IsStackMap};
+ghost use Rattle.dj_frames.specs.StackMaps.{AreWellFormed};
+ghost use Rattle.dj_frames.specs.trusted.Written.{short_tag, head_bytes, frames_bytes, stack_map_bytes};
 ghost use Rattle.dj_frames.specs.declared.read.FrameError.TheVariants as errors;
 
 use crate::read::FrameError;
@@ -69,7 +70,7 @@ fn put_table(out: &mut Bytes, types: &[VType], starts: &[u32]) -> Result<(), Fra
     put_types(out, types, starts)
 }
 
-/// What stands after frame_type and offset_delta.
+/// What comes after frame_type and offset_delta.
 fn put_form(out: &mut Bytes, form: &Form, starts: &[u32]) -> Result<(), FrameError>
     requires types { All (IsType starts.now) (types_of form.now) }
     requires counts { HasCounts form.now }
@@ -88,7 +89,7 @@ fn put_form(out: &mut Bytes, form: &Form, starts: &[u32]) -> Result<(), FrameErr
     }
 }
 
-/// The frame_type after which an offset_delta of two bytes stands.
+/// The frame_type that is followed by an offset_delta of two bytes.
 fn long_tag(form: &Form) -> u8
     requires counts { HasCounts form.now }
     ensures { result ≡ long_tag form.now }
@@ -102,7 +103,7 @@ fn long_tag(form: &Form) -> u8
     }
 }
 
-/// The frame_type that tells an offset_delta of at most 63 too, if the form has one.
+/// The frame_type that has the offset_delta in it, where the form has one and the offset_delta is at most 63.
 fn short_tag(delta: u16, form: &Form) -> Option<u8>
     ensures { result ≡ short_tag delta form.now }
 {

@@ -163,11 +163,11 @@ own_components = by_ranks own (1 ∷ 0 ∷ []) (1 ∷ 0 ∷ []) refl own_low ((H
 no_components : AreComponents [] []
 no_components = record { all = refl; each = λ a b m n at_a. absurd (none-some m at_a) }
 
--- a ring told as three
+-- not a ring as three
 ring_as_three : AreComponents ring (4 ∷ 3 ∷ 2 ∷ 1 ∷ 0 ∷ []) → ⊥
 ring_as_three are = let same : 3 ≡ 2 = (are.each 1 2 3 2 refl refl).1 (one_two, two_one) in omega (arith, same)
 
--- two rings told as one
+-- nor two rings as one
 rings_as_one : AreComponents two_rings (0 ∷ 0 ∷ 0 ∷ 0 ∷ []) → ⊥
 rings_as_one are =
     let both = (are.each 0 2 0 0 refl refl).0 refl in

@@ -34,7 +34,7 @@ pub record IsPath (marks : List Mark) (path : List ℕ) : Type 0 where
   pub placed : (i a : ℕ) → slice_get path i ≡ Some a → slice_get marks a ≡ Some (Open i)
   pub listed : (i a : ℕ) → slice_get marks a ≡ Some (Open i) → slice_get path i ≡ Some a
 
--- an open node reaches each that stands after it, and in one component also each before it
+-- an open node reaches each that comes after it, and in one component also each before it
 pub record IsLinked (edges : Edges) (path starts : List ℕ) : Type 0 where
   pub onward : (i j a b : ℕ) → i ≤ j → slice_get path i ≡ Some a → slice_get path j ≡ Some b → Reaches edges a b
   pub back : (i j a b : ℕ) → i ≤ j → slice_get path i ≡ Some a → slice_get path j ≡ Some b → NoStart starts i j → Reaches edges b a

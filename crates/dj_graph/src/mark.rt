@@ -10,7 +10,7 @@ use std::alloc::Global;
 pub enum Mark {
     /// Nothing led to it yet.
     Unfound,
-    /// It was found, and stands at this place of the path.
+    /// It was found, and is at this place of the path.
     Open(usize),
     /// Its component is whole, and has this number.
     Closed(u32),

@@ -21,7 +21,7 @@ pub struct Search {
 }
 
 impl Search {
-    /// A search through so many nodes that has found none.
+    /// A search through this many nodes that has found none.
     pub fn new(alloc: Global, count: usize) -> Result<Search, GraphError>
         ensures { IfOk result (IsNew count) }
     {

@@ -23,7 +23,7 @@ fn follow(edges: &[Vec<u32>], search: &mut Search, target: u32) -> Result<(), Gr
     }
 }
 
-/// Looks at the next edge of the last node that may have one, which stands at this place, in the last open component.
+/// Looks at the next edge of the last node that may have one, which is at this place, in the last open component.
 fn look(edges: &[Vec<u32>], search: &mut Search, place: usize) -> Result<(), GraphError>
     requires sound { IsSearch (edges_of edges.now) search.old }
     requires inside { IsInside (edges_of edges.now) }

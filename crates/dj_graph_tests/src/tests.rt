@@ -12,7 +12,7 @@ const GRAPHS: [(&[&[u32]], &[u32]); 10] = [
     (&[&[1], &[0, 2], &[3], &[2]], &[0, 0, 1, 1]),
     // no edge at all
     (&[&[], &[], &[]], &[0, 1, 2]),
-    // rings within a ring, and edges told twice
+    // rings within a ring, and edges that are there twice
     (&[&[1, 1, 2], &[0, 2], &[3, 0, 0], &[2, 2]], &[0, 0, 0, 0]),
     // the way back is found last, from a node that was found early
     (

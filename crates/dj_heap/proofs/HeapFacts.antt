@@ -1,14 +1,13 @@
 -- Heaps at plain values.
 use Rattle.std.proofs.Common.{◌≡◌, ◌+◌, ◌^◌, pos, negsuc, [], ◌∷◌, ◌++◌, map, Some, None, refl, arith}
 use Rattle.std.specs.Int.{int_wrap}
-use Rattle.std.proofs.lemmas.List.Elements.{All-nil, All-cons}
 use Rattle.dj_names.specs.declared.run.Element.TheVariants as elements
-use Rattle.dj_names.specs.Heaps.{Instance, Array, Text}
+use Rattle.dj_names.specs.trusted.Heaps.{Instance, Array, Text}
 use Rattle.dj_heap.specs.declared.errors.HeapError.TheVariants as errors
 use Rattle.dj_heap.specs.declared.object.Made.TheVariants as made
 use Rattle.dj_heap.specs.Lengths.{object_length}
 use Rattle.dj_heap.specs.Calls.{made_as}
-use Rattle.dj_heap.specs.Heaps.{LimitedHeap, object_in, field_in, element_in, unit_in, low_bits, HoldsKept, IsKeptIn, with_field, with_number, Replaces, Makes, Refuses}
+use Rattle.dj_heap.specs.Heaps.{LimitedHeap, object_in, field_in, element_in, unit_in, low_bits, IsKeptIn, with_field, with_number, Replaces, Makes, Refuses}
 
 -- an instance of class 7, an array of bytes and a text, whose sizes are 32, 24 and 24
 abbrev some : LimitedHeap
@@ -62,16 +61,7 @@ kept_of_large : map (λ element. low_bits element (pos (2 ^ 32 + 2 ^ 15))) (elem
 unfolding int_wrap
 kept_of_large = refl
 
--- a byte may be -128 and 127, and not 200
-kept_bytes : HoldsKept (Array 2 elements.Byte (negsuc 127 ∷ pos 127 ∷ []))
-unfolding int_wrap
-kept_bytes = All-cons (λ z. low_bits elements.Byte z ≡ z) (negsuc 127) (pos 127 ∷ []) refl
-    (All-cons (λ z. low_bits elements.Byte z ≡ z) (pos 127) [] refl (All-nil (λ z. low_bits elements.Byte z ≡ z)))
-
-not_kept : HoldsKept (Array 2 elements.Byte (pos 1 ∷ pos 200 ∷ [])) → ⊥
-unfolding int_wrap
-not_kept kept = let e : negsuc 55 ≡ pos 200 = kept 1 (pos 0) (omega arith) in absurd cc
-
+-- a char has no sign
 kept_char : IsKeptIn (Some (Array 2 elements.Char [])) (pos 65535)
 kept_char = refl
 

@@ -1,6 +1,6 @@
 pub mod Wrapping
-pub mod Kept
 pub mod Sizes
 pub mod Replacing
 mod HeapFacts
+pub mod Unsigned
 mod ObjectFacts

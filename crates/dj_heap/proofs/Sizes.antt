@@ -2,7 +2,7 @@
 use Rattle.std.proofs.Common.{◌<◌, ◌≤◌, ◌^◌, ℕ, length, arith}
 use Rattle.dj_names.specs.declared.run.Element.{Element}
 use Rattle.dj_names.specs.declared.run.Element.TheVariants as elements
-use Rattle.dj_names.specs.Heaps.{Object, Instance, Array, Text, array_size, object_size}
+use Rattle.dj_names.specs.trusted.Heaps.{Object, Instance, Array, Text, array_size, object_size}
 use Rattle.dj_heap.specs.Lengths.{object_length}
 
 short_array : (element : Element) (n : ℕ) → array_size element n ≤ 2147483648 → n < 2 ^ 31

@@ -1,8 +1,7 @@
 -- What is left of a number at fewer bits.
 use Rattle.std.proofs.Common.{◌≡◌, ◌^◌, ℤ, pos, refl}
-use Rattle.std.specs.Int.{w8, w16, w32, w64, int_wrap, int_rem_euclid, cast_signed}
-use Rattle.std.specs.Prelude.{unsigned_abs, FitsSigned}
-use Rattle.std.proofs.lemmas.Int.{int_wrap_fits}
+use Rattle.std.specs.Int.{w8, w16, w32, int_wrap, int_rem_euclid, cast_signed}
+use Rattle.std.specs.Prelude.{unsigned_abs}
 
 pub low_byte : (a : ℤ) → int_wrap w8 a ≡ cast_signed w8 (unsigned_abs (int_rem_euclid a (pos (2 ^ 8))))
 unfolding int_wrap
@@ -15,6 +14,3 @@ low_short a = refl
 pub low_int : (a : ℤ) → int_wrap w32 a ≡ cast_signed w32 (unsigned_abs (int_rem_euclid a (pos (2 ^ 32))))
 unfolding int_wrap
 low_int a = refl
-
-pub low_long : (a : ℤ) → FitsSigned w64 a → int_wrap w64 a ≡ a
-low_long a fits = int_wrap_fits w64 a fits

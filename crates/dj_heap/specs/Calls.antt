@@ -1,6 +1,6 @@
 -- What an object was made as.
 use Rattle.std.specs.Prelude.{ℕ}
-use Rattle.dj_names.specs.Heaps as heaps
+use Rattle.dj_names.specs.trusted.Heaps as heaps
 use Rattle.dj_heap.specs.declared.object.Made.{Made}
 use Rattle.dj_heap.specs.declared.object.Made.TheVariants as made
 

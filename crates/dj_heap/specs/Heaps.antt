@@ -1,10 +1,9 @@
 -- A heap with a limit, and what is at a place of one of its objects.
 use Rattle.std.specs.Prelude.{◌≡◌, ℕ, ◌+◌, ◌^◌, ◌<◌, ◌≤◌, ⊤, ℤ, pos, List, [], set, Option, Some, None, option_and_then, slice_get}
 use Rattle.std.specs.Int.{int_rem_euclid}
-use Rattle.std.specs.List.{All}
 use Rattle.dj_names.specs.declared.run.Element.{Element}
 use Rattle.dj_names.specs.declared.run.Element.TheVariants as elements
-use Rattle.dj_names.specs.Heaps.{Object, Instance, Array, Text, Heap, kept, object_at, object_size, with_new, with_object, next_number}
+use Rattle.dj_names.specs.trusted.Heaps.{Object, Instance, Array, Text, Heap, kept, object_at, object_size, with_new, with_object, next_number}
 use Rattle.dj_heap.specs.declared.errors.HeapError.{HeapError}
 use Rattle.dj_heap.specs.declared.errors.HeapError.TheVariants as errors
 
@@ -46,18 +45,10 @@ abbrev pub low_bits : Element → ℤ → ℤ
 low_bits elements.Ref z = int_rem_euclid z (pos (2 ^ 32))
 low_bits element z = kept element z
 
--- what the elements are, and the elements; an object that is no array has none
-abbrev pub element_of : Object ℕ → Element
-element_of (Array class element contents) = element
-element_of object = elements.Long
-
+-- the elements of an array; an object that is no array has none
 abbrev pub elements_of : Object ℕ → List ℤ
 elements_of (Array class element contents) = contents
 elements_of object = []
-
--- each element is one that the array keeps as it is
-abbrev pub HoldsKept : Object ℕ → Type 0
-HoldsKept object = All (λ z. low_bits (element_of object) z ≡ z) (elements_of object)
 
 -- a number that the object, where it is an array, keeps as it is
 abbrev pub IsKeptIn : Option (Object ℕ) → ℤ → Type 0
@@ -87,7 +78,7 @@ pub record Makes (old new : LimitedHeap) (object : Object ℕ) (r : ℕ) : Type 
   pub number : r ≡ next_number old.heap
   pub heap : new ≡ record old { heap = with_new old.heap object }
 
--- an object of so many bytes doesn't fit, or there is no memory
+-- an object of this many bytes doesn't fit, or there is no memory
 abbrev pub Refuses : LimitedHeap → ℕ → HeapError → Type 0
 Refuses h bytes (errors.Full used size) = (used ≡ h.heap.used) × (size ≡ bytes) × (h.limit < h.heap.used + bytes)
 Refuses h bytes errors.Memory = Unit {0}

@@ -1,10 +1,9 @@
 ghost use Rattle.std.specs.Prelude.{◌≡◌, ◌^◌, ◌<◌, Some, option_map, IsSome, length};
-ghost use Rattle.std.specs.Int.{w8, w16, w32, w64, int_wrap};
-ghost use Rattle.dj_names.specs.Heaps.{class_of};
-ghost use Rattle.dj_heap.specs.Heaps.{object_in, field_in, element_in, unit_in, with_field, with_number, Replaces, low_bits, IsKeptIn};
+ghost use Rattle.dj_names.specs.trusted.Heaps.{class_of};
+ghost use Rattle.dj_heap.specs.Heaps.{object_in, field_in, element_in, unit_in, with_field, with_number, Replaces, IsKeptIn};
 ghost use Rattle.dj_heap.specs.Lengths.{object_length};
 ghost use Rattle.dj_heap.specs.Calls.{made_as};
-ghost use Rattle.dj_heap.specs.Views.{object_view, IsKept, IsShort};
+ghost use Rattle.dj_heap.specs.Views.{object_view, IsShort};
 
 use crate::heap::Heap;
 use crate::object::{Made, Object};
@@ -34,16 +33,12 @@ impl Heap {
     }
 
     /// An element of an array: booleans, bytes, shorts, ints and longs with their sign.
-    #[tactic(auto, using(crate::proofs::Kept::read_in))]
     pub fn element(&self, r: u32, at: u32) -> i64
         requires { IsSome (element_in self.now r at) }
         ensures value { element_in self.now r at ≡ Some result }
         ensures kept { IsKeptIn (object_in self.now r) result }
     {
-        match self.object(r) {
-            Object::Array { contents, .. } => contents.items[at as usize],
-            _ => unreachable!(),
-        }
+        self.object(r).number(at)
     }
 
     /// Gives an element the low bits of a number, as many as the array's elements have.
@@ -51,14 +46,7 @@ impl Heap {
         requires { IsSome (element_in self.old r at) }
         ensures { Replaces self.old self.new r (λ object. with_number object at value) }
     {
-        match &mut self.objects[(r - 1) as usize] {
-            Object::Array {
-                element,
-                contents,
-                ..
-            } => contents.items[at as usize] = low_bits(*element, value),
-            _ => unreachable!(),
-        }
+        self.objects[(r - 1) as usize].set_number(at, value)
     }
 
     /// A unit of a text.
@@ -80,7 +68,12 @@ impl Heap {
     {
         match self.object(r) {
             Object::Instance { fields, .. } => fields.items.len() as u32,
-            Object::Array { contents, .. } => contents.items.len() as u32,
+            Object::Booleans { items, .. } | Object::Bytes { items, .. } => items.len() as u32,
+            Object::Chars { items, .. } => items.len() as u32,
+            Object::Shorts { items, .. } => items.len() as u32,
+            Object::Ints { items, .. } => items.len() as u32,
+            Object::Longs { items, .. } => items.len() as u32,
+            Object::References { items, .. } => items.len() as u32,
             Object::Text { units, .. } => units.as_slice().len() as u32,
         }
     }
@@ -91,9 +84,15 @@ impl Heap {
         ensures { option_map class_of (object_in self.now r) ≡ Some result }
     {
         match self.object(r) {
-            Object::Instance { class, .. } => *class,
-            Object::Array { class, .. } => *class,
-            Object::Text { class, .. } => *class,
+            Object::Instance { class, .. }
+            | Object::Booleans { class, .. }
+            | Object::Bytes { class, .. }
+            | Object::Chars { class, .. }
+            | Object::Shorts { class, .. }
+            | Object::Ints { class, .. }
+            | Object::Longs { class, .. }
+            | Object::References { class, .. }
+            | Object::Text { class, .. } => *class,
         }
     }
 
@@ -104,7 +103,13 @@ impl Heap {
     {
         match self.object(r) {
             Object::Instance { .. } => Made::Instance,
-            Object::Array { element, .. } => Made::Array(*element),
+            Object::Booleans { .. } => Made::Array(Element::Boolean),
+            Object::Bytes { .. } => Made::Array(Element::Byte),
+            Object::Chars { .. } => Made::Array(Element::Char),
+            Object::Shorts { .. } => Made::Array(Element::Short),
+            Object::Ints { .. } => Made::Array(Element::Int),
+            Object::Longs { .. } => Made::Array(Element::Long),
+            Object::References { .. } => Made::Array(Element::Ref),
             Object::Text { .. } => Made::Text,
         }
     }
@@ -128,54 +133,7 @@ impl Heap {
         requires { IsSome (object_in self.now r) }
         ensures object { object_in self.now r ≡ Some (object_view result.now) }
         ensures short { IsShort result.now }
-        ensures kept { IsKept result.now }
     {
         &self.objects[(r - 1) as usize]
     }
-}
-
-// What an element keeps of a number.
-fn low_bits(element: Element, value: i64) -> i64
-    ensures { result ≡ low_bits element value }
-{
-    match element {
-        Element::Boolean | Element::Byte => low_byte(value),
-        Element::Char => value.rem_euclid(1 << 16),
-        Element::Short => low_short(value),
-        Element::Int => low_int(value),
-        Element::Long => low_long(value),
-        Element::Ref => value.rem_euclid(1 << 32),
-    }
-}
-
-// The low 8 bits, with their sign.
-#[tactic(auto, using(crate::proofs::Wrapping::low_byte))]
-fn low_byte(value: i64) -> i64
-    ensures { result ≡ int_wrap w8 value }
-{
-    i64::from((value.rem_euclid(1 << 8) as u8).cast_signed())
-}
-
-// The low 16 bits, with their sign.
-#[tactic(auto, using(crate::proofs::Wrapping::low_short))]
-fn low_short(value: i64) -> i64
-    ensures { result ≡ int_wrap w16 value }
-{
-    i64::from((value.rem_euclid(1 << 16) as u16).cast_signed())
-}
-
-// The low 32 bits, with their sign.
-#[tactic(auto, using(crate::proofs::Wrapping::low_int))]
-fn low_int(value: i64) -> i64
-    ensures { result ≡ int_wrap w32 value }
-{
-    i64::from((value.rem_euclid(1 << 32) as u32).cast_signed())
-}
-
-// All 64 bits.
-#[tactic(auto, using(crate::proofs::Wrapping::low_long))]
-fn low_long(value: i64) -> i64
-    ensures { result ≡ int_wrap w64 value }
-{
-    value
 }

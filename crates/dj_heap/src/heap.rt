@@ -1,16 +1,16 @@
 ghost use Rattle.std.specs.Prelude.{◌≡◌, ℕ, ◌+◌, ◌*◌, ◌^◌, ◌<◌, ◌≤◌, pos, Some, [], length, replicate, option_map, IsSome, IfOk, IfErr, OnOk, OnErr};
-ghost use Rattle.dj_names.specs.Heaps as heaps;
-ghost use Rattle.dj_names.specs.Heaps.{class_of, instance_size, array_size, text_size, object_size};
+ghost use Rattle.dj_names.specs.trusted.Heaps as heaps;
+ghost use Rattle.dj_names.specs.trusted.Heaps.{class_of, instance_size, array_size, text_size, object_size};
 ghost use Rattle.std.specs.List.{All};
-ghost use Rattle.dj_heap.specs.Views.{object_view, IsKept, IsShort};
+ghost use Rattle.dj_heap.specs.Views.{object_view, IsShort};
 ghost use Rattle.dj_heap.specs.Heaps.{LimitedHeap, object_in, field_in, element_in, unit_in, with_field, with_number, Replaces, Makes, Refuses, low_bits};
-ghost use Rattle.dj_names.specs.Values.{element_size};
+ghost use Rattle.dj_names.specs.trusted.Values.{element_size};
 ghost use Rattle.dj_heap.specs.declared.errors.HeapError.TheVariants as HeapError;
 ghost use Rattle.dj_heap.specs.Lengths.{object_length};
 ghost use Rattle.dj_heap.specs.Calls.{made_as};
 
 use crate::errors::HeapError;
-use crate::object::{Contents, Fields, Made, Object};
+use crate::object::{Fields, Made, Object};
 use dj_names::{Element, Units};
 use std::alloc::Global;
 use std::marker::Model;
@@ -26,7 +26,6 @@ pub struct Heap {
     pub ghost most: { limit ≤ 2147483648 },
     pub ghost headers: { 16 * length objects.items ≤ used },
     pub ghost short: { All IsShort objects.items },
-    pub ghost kept: { All IsKept objects.items },
 }
 
 impl Model for Heap {
@@ -40,7 +39,7 @@ impl Model for Heap {
 }
 
 impl Heap {
-    /// No object, and a limit of so many bytes.
+    /// No object, and a limit of this many bytes.
     pub fn new(alloc: Global, limit: u64) -> Heap
         requires { limit ≤ 2147483648 }
         ensures { result ≡ record { heap = record { objects = []; used = 0 }; limit = limit } }
@@ -53,7 +52,7 @@ impl Heap {
         }
     }
 
-    /// Makes an instance with so many fields, all zero. Its size is 16 bytes and 8 for each field.
+    /// Makes an instance with this many fields, all zero. Its size is 16 bytes and 8 for each field.
     pub fn instance(&mut self, class: u32, fields: u32) -> Result<u32, HeapError>
         ensures made { IfOk result (Makes self.old self.new (heaps.Instance class (replicate fields 0))) }
         ensures refused { IfErr result (Refuses self.old (instance_size fields)) }
@@ -72,7 +71,6 @@ impl Heap {
     }
 
     /// Makes an array of n elements, all zero. Its size is 16 bytes and those of its elements, rounded up to a multiple of 8.
-    #[tactic(auto, using(crate::proofs::Kept::zeros_kept))]
     pub fn array(&mut self, class: u32, element: Element, n: u32) -> Result<u32, HeapError>
         ensures made { IfOk result (Makes self.old self.new (heaps.Array class element (replicate n (pos 0)))) }
         ensures refused { IfErr result (Refuses self.old (array_size element n)) }
@@ -80,15 +78,8 @@ impl Heap {
     {
         let size = array_bytes(element, n);
         self.ask(size)?;
-        let items = vec![in self.alloc; 0; n as usize]?;
-        self.add(
-            Object::Array {
-                class,
-                element,
-                contents: Contents { items },
-            },
-            size,
-        )
+        let object = Object::array(self.alloc, class, element, n)?;
+        self.add(object, size)
     }
 
     /// Makes a text of these units. Its size is 16 bytes and 2 for each unit, rounded up to a multiple of 8.
@@ -125,7 +116,6 @@ impl Heap {
     fn add(&mut self, object: Object, size: u64) -> Result<u32, HeapError>
         requires size { size ≡ object_size (object_view object) }
         requires fits { self.old.heap.used + size ≤ self.old.limit }
-        requires kept { IsKept object }
         ensures made { IfOk result (Makes self.old self.new (object_view object)) }
         ensures refused { IfErr result (λ e. e ≡ HeapError.Memory) }
         ensures kept { OnErr result (self.new ≡ self.old) }

@@ -2,6 +2,7 @@
 #![tactic(auto)]
 
 mod access;
+mod elements;
 mod errors;
 mod heap;
 mod object;

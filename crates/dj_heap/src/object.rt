@@ -15,37 +15,20 @@ impl Model for Fields {
     ghost view = { λ fields. fields.items.items };
 }
 
-/// The elements of an array; a reference stands there as its number.
-#[derive(Debug, Drop)]
-pub struct Contents {
-    pub(crate) items: Vec<i64>,
-}
-
-impl Model for Contents {
-    ghost use Rattle.std.specs.Prelude.{ℤ, List};
-
-    ghost Value = { List ℤ };
-
-    ghost view = { λ contents. contents.items.items };
-}
-
-/// An object, with the number of its class (JVMS 2.4 and 2.7).
+/// An object, with the number of its class (JVMS 2.4 and 2.7). The elements of an array take the bytes that count for its size, and no more; a reference stands
+/// there as its number.
 #[derive(Debug, Drop)]
 pub enum Object {
-    Instance {
-        class: u32,
-        fields: Fields,
-    },
-    Array {
-        class: u32,
-        element: Element,
-        contents: Contents,
-    },
+    Instance { class: u32, fields: Fields },
+    Booleans { class: u32, items: Vec<i8> },
+    Bytes { class: u32, items: Vec<i8> },
+    Chars { class: u32, items: Vec<u16> },
+    Shorts { class: u32, items: Vec<i16> },
+    Ints { class: u32, items: Vec<i32> },
+    Longs { class: u32, items: Vec<i64> },
+    References { class: u32, items: Vec<u32> },
     /// A text, by its UTF-16 units.
-    Text {
-        class: u32,
-        units: Units,
-    },
+    Text { class: u32, units: Units },
 }
 
 /// What an object is.

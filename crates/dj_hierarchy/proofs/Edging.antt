@@ -7,9 +7,9 @@ use Rattle.std.proofs.lemmas.List.{map-append, length-map}
 use Rattle.std.proofs.lemmas.Option.{same_Some, none-some, slice_get_read, slice_get-map}
 use Rattle.std.proofs.lemmas.List.Elements.{Contains-append_left, Contains-push, Contains-push_cases}
 use Rattle.dj_graph.specs.Graphs.{Edges, HasEdge, edges_of}
-use Rattle.dj_library.specs.Heads.{Head}
+use Rattle.dj_library.specs.trusted.Heads.{Head}
 use Rattle.dj_hierarchy.specs.declared.names.Known.{Known}
-use Rattle.dj_hierarchy.specs.Hierarchy.{IsAbove}
+use Rattle.dj_hierarchy.specs.trusted.Hierarchy.{IsAbove}
 use Rattle.dj_hierarchy.specs.Names.{Names, known_at, place_of}
 use Rattle.dj_hierarchy.specs.Edges.{IsPlaceAbove, GainsPlaces, GainsEdges, IsMadeEdge, AreEdges}
 use Rattle.dj_hierarchy.specs.Views.{text_of}

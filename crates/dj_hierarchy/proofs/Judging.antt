@@ -4,10 +4,11 @@ use Rattle.std.specs.Prelude.{◌⊎◌, Result, IfOk, nat_eq, slice_get, option
 use Rattle.std.proofs.lemmas.Bool.{or_cases, or_left, or_right, eqb-true, eq-eqb}
 use Rattle.std.proofs.lemmas.Option.{same_Some, none-some, slice_get_cases}
 use Rattle.std.proofs.lemmas.List.Elements.{Contains-append_left, Contains-append_right, Contains-append_cases}
-use Rattle.dj_library.specs.Heads.{Head, library_heads}
+use Rattle.dj_library.specs.trusted.Heads.{Head, library_heads}
 use Rattle.dj_hierarchy.specs.declared.names.Known.{Known}
 use Rattle.dj_hierarchy.specs.declared.judge.Hierarchy.{Hierarchy}
-use Rattle.dj_hierarchy.specs.Hierarchy.{IsFinal, IsInterface, Stands, HasSuch, IsMissing, IsAbove, Climbs, Stays, Rises, IsBadSuperclass, IsBadInterface}
+use Rattle.dj_hierarchy.specs.trusted.Hierarchy.{IsFinal, IsInterface, HasSuch, IsMissing, IsAbove, Climbs, Stays, Rises, IsBadSuperclass, IsBadInterface}
+use Rattle.dj_hierarchy.specs.Hierarchy.{Stands}
 use Rattle.dj_hierarchy.specs.Names.{IsKnownAs, IsKnown, Names, known_at, place_of, AreNames}
 use Rattle.dj_hierarchy.specs.Known.{heads_of, IsIn, number_of, IsHierarchy}
 use Rattle.dj_hierarchy.specs.Judged.{AreJudged, AreMarks}

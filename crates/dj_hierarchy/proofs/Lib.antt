@@ -6,3 +6,4 @@ mod Facts
 pub mod Judging
 mod LibraryFacts
 pub mod Naming
+mod FlagFacts

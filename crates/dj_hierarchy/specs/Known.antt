@@ -1,6 +1,6 @@
 -- All that is known of the classes of a set and of the library.
 use Rattle.std.specs.Prelude.{ℕ, List, map, Option, Contains, slice_get, option_and_then}
-use Rattle.dj_library.specs.Heads.{Head}
+use Rattle.dj_library.specs.trusted.Heads.{Head}
 use Rattle.dj_hierarchy.specs.declared.judge.Hierarchy.{Hierarchy}
 use Rattle.dj_hierarchy.specs.Views.{seen_view}
 use Rattle.dj_hierarchy.specs.Names.{AreNames, place_of}
@@ -13,11 +13,11 @@ heads_of hierarchy = map seen_view hierarchy.heads.items
 abbrev pub IsIn : Hierarchy → Head → Type 0
 IsIn hierarchy = Contains (heads_of hierarchy)
 
--- the number of a name, where a class has it
+-- the number of a name that a class has
 abbrev pub number_of : Hierarchy → List ℕ → Option ℕ
 number_of hierarchy name = option_and_then (λ place. slice_get hierarchy.numbers.items place) (place_of hierarchy.names name)
 
--- what is known of them is so
+-- what is kept of the classes is right
 pub record IsHierarchy (hierarchy : Hierarchy) : Type 0 where
   pub names : AreNames (heads_of hierarchy) hierarchy.names
   pub joined : AreJoined (heads_of hierarchy) hierarchy.names hierarchy.numbers.items

@@ -4,3 +4,4 @@ pub mod Judged
 pub mod Known
 pub mod Names
 pub mod Views
+pub mod trusted

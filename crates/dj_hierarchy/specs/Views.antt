@@ -2,7 +2,7 @@
 use Rattle.std.specs.Prelude.{ℕ, List, map}
 use Rattle.std.specs.Option.{option_map}
 use Rattle.std.specs.Borrow.{Bor}
-use Rattle.dj_library.specs.Heads.{Head}
+use Rattle.dj_library.specs.trusted.Heads.{Head}
 use Rattle.dj_hierarchy.specs.declared.head.ClassHead.{ClassHead}
 use Rattle.dj_hierarchy.specs.declared.head.Seen.{Seen}
 

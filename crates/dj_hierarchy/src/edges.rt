@@ -1,6 +1,6 @@
 ghost use Rattle.std.specs.Prelude.{◌≡◌, ℕ, ◌<◌, ◌^◌, List, [], IfOk, IfSome, OnOk, Contains, length, map, replicate};
 ghost use Rattle.dj_graph.specs.Graphs.{edges_of};
-ghost use Rattle.dj_hierarchy.specs.Hierarchy.{IsAbove};
+ghost use Rattle.dj_hierarchy.specs.trusted.Hierarchy.{IsAbove};
 ghost use Rattle.dj_hierarchy.specs.Names.{AreNames, place_of};
 ghost use Rattle.dj_hierarchy.specs.Edges.{GainsPlaces, GainsEdges, AreEdges, AreJoined};
 ghost use Rattle.dj_hierarchy.specs.Views.{seen_view, text_of};
@@ -12,7 +12,7 @@ use dj_graph::components;
 use std::alloc::Global;
 use std::collections::BTreeMap;
 
-// The place that stands for the name is a target more, where a class has the name.
+// Adds the place that represents the name to the targets, where a class has the name.
 fn add_name(
     targets: &mut Vec<u32>,
     names: &BTreeMap<&[u8], Known>,
@@ -26,7 +26,7 @@ fn add_name(
     }
 }
 
-// The places that stand for the names are targets more.
+// Adds the places that represent the names to the targets.
 fn add_names(
     targets: &mut Vec<u32>,
     names: &BTreeMap<&[u8], Known>,
@@ -40,7 +40,7 @@ fn add_names(
     Ok(())
 }
 
-// The places that stand for the names above the class are targets more.
+// Adds the places that represent the names above the class to the targets.
 fn add_above(
     targets: &mut Vec<u32>,
     names: &BTreeMap<&[u8], Known>,
@@ -57,7 +57,7 @@ fn add_above(
     }
 }
 
-// The edges that the class makes are there more.
+// Adds the edges that the class makes.
 fn add_head(
     edges: &mut Vec<Vec<u32>>,
     names: &BTreeMap<&[u8], Known>,
@@ -72,7 +72,7 @@ fn add_head(
     }
 }
 
-// As many nodes, with no edge.
+// This many nodes, without edges.
 fn without_edges(alloc: Global, count: usize) -> Result<Vec<Vec<u32>>, HierarchyError>
     ensures { IfOk result (λ edges. edges_of edges.items ≡ replicate count []) }
 {
@@ -99,7 +99,7 @@ fn edges_of_heads(
     Ok(edges)
 }
 
-/// A number for each class: by the places of two names they are one number exactly where each name climbs to the other.
+/// A number for each class: the numbers at the places of two names are the same exactly where each name climbs to the other.
 pub fn join(
     alloc: Global,
     heads: &[Seen<'_>],

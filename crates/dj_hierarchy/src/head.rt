@@ -1,8 +1,8 @@
 ghost use Rattle.std.specs.Prelude.{◌≡◌, ◌++◌, ◌↔◌, IsTrue, IfOk, map};
 ghost use Rattle.std.specs.Int.{IsBitSet};
-ghost use Rattle.dj_class.specs.Access as access;
-ghost use Rattle.dj_library.specs.Heads.{library_heads};
-ghost use Rattle.dj_library.specs.Rows as rows;
+ghost use Rattle.dj_class.specs.trusted.Access as access;
+ghost use Rattle.dj_library.specs.trusted.Heads.{library_heads};
+ghost use Rattle.dj_library.specs.TableRows as rows;
 ghost use Rattle.dj_hierarchy.specs.Views.{head_view, seen_view};
 
 use crate::error::HierarchyError;
@@ -10,7 +10,7 @@ use dj_class::AccessFlags;
 use dj_library::{LibraryHead, heads as library};
 use std::alloc::Global;
 
-/// What the rule on hierarchies asks of a class.
+/// What the rule HIERARCHY looks at in a class.
 #[derive(Drop)]
 pub struct ClassHead<'a> {
     /// The name of the class.
@@ -23,7 +23,7 @@ pub struct ClassHead<'a> {
     pub interfaces: Vec<&'a [u8]>,
 }
 
-/// The same of a class of the set or of the library, lent.
+/// The same for a class of the set or of the library, borrowed.
 #[derive(Clone, Copy)]
 pub struct Seen<'a> {
     /// The name of the class.

@@ -1,5 +1,5 @@
 ghost use Rattle.std.specs.Prelude.{◌≡◌, ℕ, ◌<◌, ◌≤◌, ◌^◌, ◌↔◌, ◌⊎◌, IsTrue, IfOk, Some, IsSomeAnd, List, Contains, length, map};
-ghost use Rattle.dj_hierarchy.specs.Hierarchy.{LacksSuperclass, IsBadSuperclass, IsBadInterface, HasBadInterface, IsOffObject, IsAbove, Climbs, IsOwnAncestor, ViolatesHierarchy};
+ghost use Rattle.dj_hierarchy.specs.trusted.Hierarchy.{LacksSuperclass, IsBadSuperclass, IsBadInterface, HasBadInterface, IsOffObject, IsAbove, Climbs, IsOwnAncestor, ViolatesHierarchy};
 ghost use Rattle.dj_hierarchy.specs.Judged.{AreJudged, AreMarks};
 ghost use Rattle.dj_hierarchy.specs.Known.{IsHierarchy, IsIn, heads_of, number_of};
 ghost use Rattle.dj_hierarchy.specs.Views.{head_view, seen_view, text_of};
@@ -11,18 +11,18 @@ use crate::names::{Known, names_of};
 use std::alloc::Global;
 use std::collections::BTreeMap;
 
-/// All that is known of the classes of a set and of the library.
+/// What is kept of the classes of a set and of the library.
 #[derive(Drop)]
 pub struct Hierarchy<'a> {
     /// The heads of the set, and then those of the library.
     pub heads: Vec<Seen<'a>>,
-    /// What is known of each name that a class has.
+    /// What is kept of each name that a class has.
     pub names: BTreeMap<&'a [u8], Known>,
-    /// A number for each class: by the places of two names they are one number exactly where each name climbs to the other.
+    /// A number for each class: the numbers at the places of two names are the same exactly where each name climbs to the other.
     pub numbers: Vec<u32>,
 }
 
-// Whether no class may have a superclass of the name.
+// Whether a superclass of this name violates the rule.
 fn is_bad_superclass(hierarchy: &Hierarchy<'_>, name: &[u8]) -> bool
     requires { IsHierarchy hierarchy.now }
     ensures { IsTrue result ↔ IsBadSuperclass (IsIn hierarchy.now) name.now }
@@ -33,7 +33,7 @@ fn is_bad_superclass(hierarchy: &Hierarchy<'_>, name: &[u8]) -> bool
     }
 }
 
-// Whether no class may list the name among its interfaces.
+// Whether an interface of this name in a list violates the rule.
 fn is_bad_interface(hierarchy: &Hierarchy<'_>, name: &[u8]) -> bool
     requires { IsHierarchy hierarchy.now }
     ensures { IsTrue result ↔ IsBadInterface (IsIn hierarchy.now) name.now }
@@ -44,7 +44,7 @@ fn is_bad_interface(hierarchy: &Hierarchy<'_>, name: &[u8]) -> bool
     }
 }
 
-// Whether the class lists a name that it mustn't.
+// Whether the class lists a name that violates the rule.
 fn has_bad_interface(hierarchy: &Hierarchy<'_>, head: &Seen<'_>) -> bool
     requires { IsHierarchy hierarchy.now }
     ensures { IsTrue result ↔ HasBadInterface (IsIn hierarchy.now) (seen_view head.now) }
@@ -112,7 +112,7 @@ fn is_own_ancestor(hierarchy: &Hierarchy<'_>, head: &Seen<'_>) -> bool
     }
 }
 
-// Whether the class has no superclass, or one that no class may have.
+// Whether the class has no superclass, or one that violates the rule.
 fn has_bad_superclass(hierarchy: &Hierarchy<'_>, head: &Seen<'_>) -> bool
     requires { IsHierarchy hierarchy.now }
     ensures { IsTrue result ↔ (LacksSuperclass (seen_view head.now) ⊎ IsSomeAnd (seen_view head.now).superclass (IsBadSuperclass (IsIn hierarchy.now))) }
@@ -133,7 +133,7 @@ fn is_off_object(head: &Seen<'_>) -> bool
     }
 }
 
-// Whether the class violates the rule, whatever members it has.
+// Whether the class violates the rule; its members are judged elsewhere.
 fn violates(hierarchy: &Hierarchy<'_>, head: &Seen<'_>) -> bool
     requires known { IsHierarchy hierarchy.now }
     requires there { IsIn hierarchy.now (seen_view head.now) }
@@ -169,7 +169,7 @@ fn mark_first(
     Ok(marks)
 }
 
-// All that is known of the classes.
+// What is kept of the classes.
 fn hierarchy_of<'a>(alloc: Global, heads: Vec<Seen<'a>>) -> Result<Hierarchy<'a>, HierarchyError>
     requires { length heads.items < 2 ^ 31 }
     ensures { IfOk result (λ hierarchy. IsHierarchy hierarchy × (heads_of hierarchy ≡ map seen_view heads.entry.items)) }

@@ -1,4 +1,4 @@
-//! The rule HIERARCHY over the heads of classes: what a class may stand below, whatever members it has (JVMS 4.1 and 5.3.5).
+//! The rule HIERARCHY over the heads of classes: which classes a class may have above it, whatever members it has (JVMS 4.1 and 5.3.5).
 #![tactic(auto)]
 
 mod edges;

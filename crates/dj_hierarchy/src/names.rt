@@ -10,7 +10,7 @@ use std::collections::BTreeMap;
 /// What is known of the classes of one name.
 #[derive(Clone, Copy)]
 pub struct Known {
-    /// The place of one of them, which stands for the name.
+    /// The place of one of them, which represents the name.
     pub place: u32,
     /// One of them is an interface.
     pub has_interface: bool,
@@ -20,7 +20,7 @@ pub struct Known {
     pub has_final: bool,
 }
 
-// What is known of a name with a class more, which stands at the place.
+// What is kept of a name once a class at this place has it too.
 fn widened(known: Option<Known>, place: u32, is_interface: bool, is_final: bool) -> Known
     ensures { result ≡ widened_known known place is_interface is_final }
 {

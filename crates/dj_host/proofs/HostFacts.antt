@@ -5,21 +5,22 @@ use Rattle.std.specs.Fmt.{digits}
 use Rattle.dj_names.specs.declared.descriptor.Ty.{Ty}
 use Rattle.dj_names.specs.declared.run.Value.TheVariants as values
 use Rattle.dj_names.specs.declared.native.NativeId.TheVariants as natives
-use Rattle.dj_names.specs.Heaps.{Instance, Text}
-use Rattle.dj_names.specs.Library.{string}
-use Rattle.dj_names.specs.Tests.{units_read}
-use Rattle.dj_names.specs.UnitReading.{two_read, three_read, long_read, unit_read}
-use Rattle.dj_names.specs.Types.{class_type}
+use Rattle.dj_names.specs.trusted.Heaps.{Instance, Text}
+use Rattle.dj_names.specs.trusted.Library.{string}
+use Rattle.dj_names.specs.trusted.Tests.{units_read}
+use Rattle.dj_names.specs.trusted.UnitReading.{two_read, three_read, long_read, unit_read}
+use Rattle.dj_names.specs.trusted.Types.{class_type}
 use Rattle.dj_edge.specs.declared.host.HostAnswer.{HostAnswer}
 use Rattle.dj_edge.specs.declared.host.HostAnswer.TheVariants as host
 use Rattle.dj_heap.specs.Heaps.{LimitedHeap}
-use Rattle.dj_model.specs.State.{Part, Effect, Goes, Next}
-use Rattle.dj_model.specs.Charging.{new_account}
-use Rattle.dj_model.specs.Natives.{Word, Nanos, Millis, answer, host_answer}
-use Rattle.dj_model.specs.Performing.{native, perform}
+use Rattle.dj_model.specs.trusted.State.{Part, Effect, Goes, Next}
+use Rattle.dj_model.specs.trusted.Charging.{new_account}
+use Rattle.dj_model.specs.trusted.Natives.{Word, Nanos, Millis, answer, host_answer}
+use Rattle.dj_model.specs.trusted.Performing.{native, perform}
 use Rattle.dj_calls.specs.declared.answer.NativeAnswer.TheVariants as told
 use Rattle.dj_calls.specs.Known.{AreKnown, IsKnown}
-use Rattle.dj_host.specs.Hosted.{is_hosted, given_since, AreOfKind, with_answers, Takes, CallsHost, Passes}
+use Rattle.dj_host.specs.trusted.Hosted.{given_since}
+use Rattle.dj_host.specs.Hosted.{is_hosted, AreOfKind, with_answers, Takes, CallsHost, Passes}
 
 -- ---- methods that the host answers
 

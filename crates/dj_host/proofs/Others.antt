@@ -3,7 +3,7 @@ use Rattle.std.proofs.Common.{◌≡◌, false, List, None, refl}
 use Rattle.dj_names.specs.declared.run.Value.{Value}
 use Rattle.dj_names.specs.declared.native.NativeId.{NativeId}
 use Rattle.dj_names.specs.declared.native.NativeId.TheVariants as natives
-use Rattle.dj_model.specs.Natives.{asks}
+use Rattle.dj_model.specs.trusted.Natives.{asks}
 use Rattle.dj_host.specs.Hosted.{is_hosted}
 
 pub no_hosted : (id : NativeId) → (id ≡ natives.HostHashCode → ⊥) → (id ≡ natives.HostToString → ⊥) → (id ≡ natives.HostIdentityHashCode → ⊥) → (id ≡ natives.NanoTime → ⊥) → (id ≡ natives.CurrentTimeMillis → ⊥) → is_hosted id ≡ false

@@ -12,11 +12,11 @@ use Rattle.dj_names.specs.declared.native.NativeId.TheVariants as natives
 use Rattle.dj_edge.specs.declared.host.HostAnswer.{HostAnswer}
 use Rattle.dj_edge.specs.declared.host.HostAnswer.TheVariants as host
 use Rattle.dj_heap.specs.Heaps.{LimitedHeap}
-use Rattle.dj_model.specs.Types.{Prefix}
-use Rattle.dj_model.specs.Program.{Program}
-use Rattle.dj_model.specs.State.{Terms, Part, Flow}
-use Rattle.dj_model.specs.Natives.{Answer, Returns, MakesText, Question, Word, Nanos, Millis, object_text, reference, asks, answered, answer, host_answer}
-use Rattle.dj_model.specs.Performing.{seen, native, native_asked, with_answer, perform}
+use Rattle.dj_model.specs.trusted.Types.{Prefix}
+use Rattle.dj_model.specs.trusted.Program.{Program}
+use Rattle.dj_model.specs.trusted.State.{Terms, Part, Flow}
+use Rattle.dj_model.specs.trusted.Natives.{Answer, Returns, MakesText, Question, Word, Nanos, Millis, object_text, reference, asks, answered, answer, host_answer}
+use Rattle.dj_model.specs.trusted.Performing.{seen, native, native_asked, with_answer, perform}
 use Rattle.dj_calls.specs.declared.answer.NativeAnswer.{NativeAnswer}
 use Rattle.dj_calls.specs.declared.answer.NativeAnswer.TheVariants as told
 use Rattle.dj_calls.specs.Calls.{seen_of, terms_of, part_with, flow_of, flow_told, Performs, Done}
@@ -25,7 +25,8 @@ use Rattle.dj_calls.specs.Names.{shown_at}
 use Rattle.dj_calls.proofs.SeenFacts.{shown_alike}
 use Rattle.dj_calls.proofs.Counted.{DoesPlainly, native_does}
 use Rattle.dj_calls.proofs.Performed.{returns_done}
-use Rattle.dj_host.specs.Hosted.{given_since, AreOfKind, with_answers, Takes, CallsHost, Passes}
+use Rattle.dj_host.specs.trusted.Hosted.{given_since}
+use Rattle.dj_host.specs.Hosted.{AreOfKind, with_answers, Takes, CallsHost, Passes}
 
 -- ---- what the host gave
 

@@ -1,20 +1,21 @@
--- What a call of a native method that the host answers does to the heap, and what the host gives for it.
-use Rattle.std.specs.Prelude.{◌≡◌, ⊤, Bool, true, false, ℤ, List, [], ◌∷◌, ◌++◌, length, drop, Option, Some, None, IsSome}
+-- What a call of a native method that the host answers does to the heap, and which answers it takes.
+use Rattle.std.specs.Prelude.{◌≡◌, ⊤, Bool, true, false, ℤ, List, [], ◌∷◌, ◌++◌, Option, Some, None, IsSome}
 use Rattle.dj_names.specs.declared.descriptor.Ty.{Ty}
 use Rattle.dj_names.specs.declared.run.Value.{Value}
 use Rattle.dj_names.specs.declared.native.NativeId.{NativeId}
 use Rattle.dj_names.specs.declared.native.NativeId.TheVariants as natives
 use Rattle.dj_edge.specs.declared.host.HostAnswer.{HostAnswer}
 use Rattle.dj_heap.specs.Heaps.{LimitedHeap}
-use Rattle.dj_model.specs.Types.{Prefix}
-use Rattle.dj_model.specs.Program.{Program}
-use Rattle.dj_model.specs.State.{Part, Flow}
-use Rattle.dj_model.specs.Natives.{Question, asks, answered}
-use Rattle.dj_model.specs.Performing.{native}
+use Rattle.dj_model.specs.trusted.Types.{Prefix}
+use Rattle.dj_model.specs.trusted.Program.{Program}
+use Rattle.dj_model.specs.trusted.State.{Part, Flow}
+use Rattle.dj_model.specs.trusted.Natives.{Question, asks, answered}
+use Rattle.dj_model.specs.trusted.Performing.{native}
 use Rattle.dj_calls.specs.declared.answer.NativeAnswer.{NativeAnswer}
 use Rattle.dj_calls.specs.declared.answer.NativeAnswer.TheVariants as told
 use Rattle.dj_calls.specs.Calls.{terms_of, part_with, effect_with, flow_told, KeepsHeap}
 use Rattle.dj_calls.specs.Known.{AreKnown}
+use Rattle.dj_host.specs.trusted.Hosted.{given_since}
 
 -- the native methods of the raw library that the host answers
 abbrev pub is_hosted : NativeId → Bool
@@ -27,11 +28,7 @@ is_hosted id = false
 
 -- ---- what the host gives
 
--- of all that it has given, what came after the old answers
-abbrev pub given_since : List HostAnswer → List HostAnswer → List HostAnswer
-given_since old new = drop (length old) new
-
--- nothing, or one answer of the kind that is asked for
+-- no answer, or one answer of the kind that the question asks for
 abbrev pub AreOfKind : Option Question → List HostAnswer → Type 0
 AreOfKind question [] = ⊤
 AreOfKind None (first ∷ more) = ⊥
@@ -42,15 +39,15 @@ AreOfKind (Some question) (first ∷ more) = IsSome (answered question first) ×
 abbrev pub with_answers : List HostAnswer → Part → Part
 with_answers answers p = record p { answers = answers }
 
--- where these answers stand before the rest of the answers, the model's native method takes them, leaves the rest and has this effect, whatever the rest
--- of the run is; nothing is told of one that had no memory
+-- where these answers come first, the model's native method takes them and leaves the rest, and has this effect, whatever the rest of the state is.
+-- Nothing is said of a call that had no memory
 abbrev pub Takes : Program → Prefix → List Ty → LimitedHeap → LimitedHeap → List HostAnswer → NativeId → List Value → NativeAnswer → Option Flow → Type 0
 Takes program prefix types old new taken id args result None = ⊤
 Takes program prefix types old new taken id args result (Some flow) = (p : Part) (rest : List HostAnswer)
     → native program prefix (terms_of old None) (part_with types old None (with_answers (taken ++ rest) p)) id args
     ≡ Some (effect_with types new None result (with_answers rest p) flow)
 
--- before and after are what the host has given
+-- before and after are all answers that the host had given before and after the call
 pub record CallsHost (program : Program) (prefix : Prefix) (types : List Ty) (old new : LimitedHeap) (before after : List HostAnswer) (id : NativeId) (args : List Value)
     (result : NativeAnswer) : Type 0 where
   pub does : Takes program prefix types old new (given_since before after) id args result (flow_told id args result)
@@ -61,7 +58,7 @@ pub record CallsHost (program : Program) (prefix : Prefix) (types : List Ty) (ol
 
 -- ---- parts of a call
 
--- the host's answer is of this kind, and the method returns it; where the host had no memory it gave none
+-- the host's answer is of this kind, and the method returns it; where there was no memory the host gave none
 abbrev pub Passes : (ℤ → HostAnswer) → (ℤ → Value) → List HostAnswer → List HostAnswer → NativeAnswer → Type 0
 Passes kind value before after (told.Gives v) = (z : ℤ) × (after ≡ before ++ kind z ∷ []) × (v ≡ value z)
 Passes kind value before after told.Memory = after ≡ before

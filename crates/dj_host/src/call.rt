@@ -11,7 +11,7 @@ use dj_names::{NativeId, Value};
 use dj_natives::Classes;
 use std::alloc::Global;
 
-/// Calls a native method that the host answers. It is asked once, and not at all for the identity hash of null.
+/// Calls a native method that the host answers. The host is asked once; for the identity hash of null it isn't asked.
 #[tactic(auto, using(crate::proofs::Others::no_hosted))]
 pub fn call_host<C: Classes, H: Host>(
     alloc: Global,
@@ -35,7 +35,7 @@ pub fn call_host<C: Classes, H: Host>(
     }
 }
 
-// A word of the host, and 0 for null, of which it isn't asked.
+// A word of the host; 0 for null, for which the host isn't asked.
 fn identity_hash<C: Classes, H: Host>(
     classes: &C,
     host: &mut H,
@@ -52,7 +52,7 @@ fn identity_hash<C: Classes, H: Host>(
     }
 }
 
-// The text of an object with a word of the host.
+// The text of an object, with a word of the host.
 fn object_text<C: Classes, H: Host>(
     alloc: Global,
     classes: &C,

@@ -1,4 +1,4 @@
-//! What native methods answer that the host gives: words for identity hashes, and times.
+//! Native methods for which the host answers: with words for identity hashes, and with times.
 #![tactic(auto)]
 
 mod asking;

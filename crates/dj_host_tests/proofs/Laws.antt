@@ -1,10 +1,10 @@
--- What is told of the three classes and of the arrays, by computing.
+-- What is known of the three classes and of the arrays, by computing.
 use Rattle.std.proofs.Common.{◌≡◌, ℕ, zero, suc, ◌<◌, Bool, true, false, List, [], length, Option, Some, None, refl, arith}
 use Rattle.std.specs.Prelude.{nat_eq, ◌||◌}
-use Rattle.dj_names.specs.Types.{component_type}
-use Rattle.dj_model.specs.Linking.{is_subtype, is_subclass, chain_of, interfaces_from, interfaces_above, most_classes}
-use Rattle.dj_model.specs.Natives.{class_name}
-use Rattle.dj_model.specs.Types.{is_stop}
+use Rattle.dj_names.specs.trusted.Types.{component_type}
+use Rattle.dj_model.specs.trusted.Linking.{is_subtype, is_subclass, chain_of, interfaces_from, interfaces_above, most_classes}
+use Rattle.dj_model.specs.trusted.Natives.{class_name}
+use Rattle.dj_model.specs.trusted.Types.{is_stop}
 use Rattle.dj_natives.specs.Numbered.{type_at, holds_references, begins_array, ArePlain, HasNumber, HaveComponents, TellsStop}
 use Rattle.dj_host_tests.specs.Three.{three_types, three_program}
 

@@ -2,7 +2,7 @@
 use Rattle.std.proofs.Common.{◌≡◌, ℕ, ◌<◌, List, [], ◌∷◌, ◌++◌, replicate, length, refl, arith}
 use Rattle.std.specs.Prelude.{pos, codes}
 use Rattle.dj_names.specs.declared.run.Element.TheVariants as elements
-use Rattle.dj_names.specs.Heaps.{Instance, Array}
+use Rattle.dj_names.specs.trusted.Heaps.{Instance, Array}
 use Rattle.dj_heap.specs.Heaps.{LimitedHeap, Makes}
 use Rattle.dj_calls.specs.Known.{AreKnown}
 use Rattle.dj_calls.proofs.Performed.{known_made}

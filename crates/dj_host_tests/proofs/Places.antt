@@ -3,7 +3,7 @@ use Rattle.std.proofs.Common.{◌≡◌, ℕ, zero, suc, ◌-◌, ◌<◌, ◌�
 use Rattle.std.specs.Prelude.{if◌then◌else◌, nat_eq, option_map, option_and_then, slice_get}
 use Rattle.std.proofs.lemmas.Bool.{ne_eqb}
 use Rattle.std.proofs.lemmas.Option.{same_Some}
-use Rattle.dj_names.specs.Heaps.{Object, Instance, Array, Text}
+use Rattle.dj_names.specs.trusted.Heaps.{Object, Instance, Array, Text}
 use Rattle.dj_heap.specs.declared.object.Made.TheVariants as made
 use Rattle.dj_heap.specs.Calls.{made_as}
 use Rattle.dj_heap.specs.Lengths.{object_length}

@@ -2,9 +2,9 @@
 use Rattle.std.specs.Prelude.{List, [], ◌∷◌, ◌++◌, map, Option, Some, None, codes}
 use Rattle.dj_names.specs.declared.descriptor.Base.TheVariants as bases
 use Rattle.dj_names.specs.declared.descriptor.Ty.{Ty}
-use Rattle.dj_names.specs.Types.{Name, class_type, base_array}
-use Rattle.dj_model.specs.Program.{Class, Program}
-use Rattle.dj_model.specs.Types.{object_name, string_name}
+use Rattle.dj_names.specs.trusted.Types.{Name, class_type, base_array}
+use Rattle.dj_model.specs.trusted.Program.{Class, Program}
+use Rattle.dj_model.specs.trusted.Types.{object_name, string_name}
 
 abbrev pub class_below : Name → Option Name → Class
 class_below name superclass = record {

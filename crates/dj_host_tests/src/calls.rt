@@ -30,7 +30,7 @@ enum Told {
     Gives(i32),
     /// The text is the second object.
     GivesText(&'static [u8]),
-    /// So many bytes are used, and so many more are wanted.
+    /// This many bytes are used, and this many more are wanted.
     Full(u64, u64),
 }
 
@@ -155,7 +155,7 @@ fn is_told(heap: &Heap, answer: NativeAnswer, told: &Told) -> bool {
     }
 }
 
-// Whether the call does what the row tells; none where it can't be made.
+// Whether the call does what the row says; none where it can't be made.
 fn does(alloc: Global, row: &Row) -> Option<bool> {
     let mut heap = Heap::new(alloc, row.2.min(1 << 31));
     let mut host = Counted::new(alloc, row.3, 0);

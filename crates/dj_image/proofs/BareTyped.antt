@@ -1,4 +1,4 @@
--- What is told of classes, arrays and members by numbers is the same in a program without code and constants.
+-- What is known of classes, arrays and members by numbers is the same in a program without code and constants.
 use Rattle.std.proofs.Common.{◌≡◌, ℕ, ◌+◌, List, [], ◌∷◌, ◌++◌, map, take, length, Option, Some, None, refl, ap, ◌∙◌}
 use Rattle.std.specs.Prelude.{slice_get, option_and_then, unwrap_or}
 use Rattle.std.specs.Option.{option_map}
@@ -8,12 +8,12 @@ use Rattle.std.proofs.lemmas.Option.{slice_get-map}
 use Rattle.dj_names.specs.declared.descriptor.Of.{Of}
 use Rattle.dj_names.specs.declared.descriptor.Of.TheVariants as ofs
 use Rattle.dj_names.specs.declared.descriptor.Ty.{Ty}
-use Rattle.dj_names.specs.Types.{Name, class_type}
-use Rattle.dj_names.specs.Descriptors.{type_text}
-use Rattle.dj_names.specs.Library.{stop_class}
-use Rattle.dj_model.specs.Types.{Prefix, string_name}
-use Rattle.dj_model.specs.Program.{Program, Class, Method, Field, Body, Abstract, Native, Runs, flags_of, superclass_of, interfaces_of, fields_of}
-use Rattle.dj_model.specs.Linking.{FoundMethod, FoundField, resolve_method, resolve_field, select, special_method, is_subtype, field_count, place_of}
+use Rattle.dj_names.specs.trusted.Types.{Name, class_type}
+use Rattle.dj_names.specs.trusted.Descriptors.{type_text}
+use Rattle.dj_names.specs.trusted.Library.{stop_class}
+use Rattle.dj_model.specs.trusted.Types.{Prefix, string_name}
+use Rattle.dj_model.specs.trusted.Program.{Program, Class, Method, Field, Body, Abstract, Native, Runs, flags_of, superclass_of, interfaces_of, fields_of}
+use Rattle.dj_model.specs.trusted.Linking.{FoundMethod, FoundField, resolve_method, resolve_field, select, special_method, is_subtype, field_count, place_of}
 use Rattle.dj_declared.specs.Files.{bare_method, bare_field, bare_class}
 use Rattle.dj_classes.specs.Tables.{name_of, name_at, class_number, class_numbers, methods_of, methods_at, fields_at}
 use Rattle.dj_linking.specs.Linked.{class_name}

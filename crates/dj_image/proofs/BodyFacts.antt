@@ -4,18 +4,19 @@ use Rattle.std.proofs.lemmas.Bool.{false≢true}
 use Rattle.std.proofs.lemmas.Option.{none-some, same_Some}
 use Rattle.dj_names.specs.declared.descriptor.Desc.TheVariants as descs
 use Rattle.dj_names.specs.declared.native.NativeId.TheVariants as natives
-use Rattle.dj_names.specs.DescReading.{dims_read, name_read, class_read, of_read, type_read, params_read, field_read, return_read, method_read, desc_read}
-use Rattle.dj_names.specs.NameReading.{reads_class_name}
-use Rattle.dj_names.specs.Types.{Name, sandbox_prefix}
+use Rattle.dj_names.specs.trusted.DescReading.{dims_read, name_read, class_read, of_read, type_read, params_read, field_read, return_read, method_read, desc_read}
+use Rattle.dj_names.specs.trusted.NameReading.{reads_class_name}
+use Rattle.dj_names.specs.trusted.Types.{Name}
+use Rattle.dj_names.specs.Types.{sandbox_prefix}
 use Rattle.dj_ops.specs.declared.instruction.Instr.TheVariants as instrs
-use Rattle.dj_pool.specs.Pool.{Constant, Utf8, Integer, Class}
-use Rattle.dj_model.specs.Linking.{FoundMethod}
-use Rattle.dj_model.specs.Program as programs
-use Rattle.dj_model.specs.Program.{Abstract, Native, Runs}
-use Rattle.dj_check.specs.Instructions.{index_of}
-use Rattle.dj_declared.specs.Files.{desc_in, type_in, no_code}
-use Rattle.dj_program.specs.Naming.{named_at, named_by, named_if}
-use Rattle.dj_program.specs.Codes.{CodeParts, code_in}
+use Rattle.dj_pool.specs.trusted.Pool.{Constant, Utf8, Integer, Class}
+use Rattle.dj_model.specs.trusted.Linking.{FoundMethod}
+use Rattle.dj_model.specs.trusted.Program as programs
+use Rattle.dj_model.specs.trusted.Program.{Abstract, Native, Runs}
+use Rattle.dj_check.specs.trusted.Instructions.{index_of}
+use Rattle.dj_declared.specs.trusted.Files.{desc_in, type_in, no_code}
+use Rattle.dj_program.specs.trusted.Naming.{named_at, named_by, named_if}
+use Rattle.dj_program.specs.trusted.Codes.{CodeParts, code_in}
 use Rattle.dj_program.specs.Views.{parts_of}
 use Rattle.dj_program.specs.declared.code.MethodCode.{MethodCode}
 use Rattle.dj_types.specs.Members.{all_methods}

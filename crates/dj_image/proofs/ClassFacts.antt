@@ -1,13 +1,14 @@
--- What numbers of classes tell, by plain values.
+-- What numbers of classes stand for, by plain values.
 use Rattle.std.proofs.Common.{◌≡◌, ℕ, zero, suc, ◌<◌, true, false, List, [], ◌∷◌, map, Option, Some, None, refl, sym, codes, arith, slice_get}
 use Rattle.std.proofs.lemmas.Bool.{false≢true, true≢false}
 use Rattle.std.proofs.lemmas.Option.{none-some, same_Some}
 use Rattle.dj_names.specs.declared.descriptor.Base.TheVariants as bases
 use Rattle.dj_names.specs.declared.descriptor.Ty.{Ty}
-use Rattle.dj_names.specs.Types.{Name, class_type, base_type, array_type, sandbox_prefix}
-use Rattle.dj_names.specs.Library.{object, object_class}
-use Rattle.dj_model.specs.Types.{is_stop}
-use Rattle.dj_model.specs.Program.{Program, Class}
+use Rattle.dj_names.specs.trusted.Types.{Name, class_type, base_type, array_type}
+use Rattle.dj_names.specs.Types.{sandbox_prefix}
+use Rattle.dj_names.specs.trusted.Library.{object, object_class}
+use Rattle.dj_model.specs.trusted.Types.{is_stop}
+use Rattle.dj_model.specs.trusted.Program.{Program, Class}
 use Rattle.dj_natives.specs.Numbered.{type_at, IsNumberOf, superclass_type, component_of, holds_references, is_number, TellsStop}
 use Rattle.dj_image.proofs.TypeFacts.{other_type, a, b, ints, longs, a_arrays}
 

@@ -10,18 +10,18 @@ use Rattle.dj_names.specs.declared.descriptor.Of.TheVariants as ofs
 use Rattle.dj_names.specs.declared.descriptor.Ty.{Ty}
 use Rattle.dj_names.specs.declared.descriptor.Desc.{Desc}
 use Rattle.dj_names.specs.declared.descriptor.Desc.TheVariants as descs
-use Rattle.dj_names.specs.Names.{IsClassName}
-use Rattle.dj_names.specs.NameReading.{reads_class_name}
+use Rattle.dj_names.specs.trusted.Names.{IsClassName}
+use Rattle.dj_names.specs.trusted.NameReading.{reads_class_name}
 use Rattle.dj_names.specs.Tests.{class_name_test}
-use Rattle.dj_names.specs.Types.{class_type}
-use Rattle.dj_names.specs.Descriptors.{of_text, Describes}
+use Rattle.dj_names.specs.trusted.Types.{class_type}
+use Rattle.dj_names.specs.trusted.Descriptors.{of_text, Describes}
 use Rattle.dj_names.proofs.TestLaws.{class_name_test-decides}
 use Rattle.dj_names.proofs.DescLaws.{desc_again}
-use Rattle.dj_pool.specs.Pool.{Constant, text_at, IsClassText, NamesText}
-use Rattle.dj_model.specs.Types.{no_parameters}
-use Rattle.dj_declared.specs.Files.{desc_in, type_in, name_in, field_type}
+use Rattle.dj_pool.specs.trusted.Pool.{Constant, text_at, IsClassText, NamesText}
+use Rattle.dj_model.specs.trusted.Types.{no_parameters}
+use Rattle.dj_declared.specs.trusted.Files.{desc_in, type_in, name_in, field_type}
 use Rattle.dj_image.specs.Indexed.{is_array}
-use Rattle.dj_image.specs.Rows.{brackets}
+use Rattle.dj_image.specs.ArrayRows.{brackets}
 
 -- ---- descriptors
 
@@ -89,13 +89,13 @@ array_type text ty some d =
 -- ---- both
 
 -- a type of this many dimensions, whose element's text is the rest; or a class whose text is its name
-pub record Spells (text : List ℕ) : Type 0 where
+pub record SpellsType (text : List ℕ) : Type 0 where
   pub few : brackets text ≤ 255
   pub dims : brackets text ≡ (type_in text).dims
   pub class : brackets text ≡ 0 → type_in text ≡ class_type text
   pub element : (brackets text ≡ 0 → ⊥) → drop (brackets text) text ≡ of_text (type_in text).of
 
-spells_class : (text : List ℕ) → IsClassName text → Spells text
+spells_class : (text : List ℕ) → IsClassName text → SpellsType text
 spells_class text name =
     let none = name_brackets text name in
     let is = name_type text name in
@@ -106,7 +106,7 @@ spells_class text name =
       element = λ some. absurd (some none);
     }
 
-spells_array : (text : List ℕ) (ty : Ty) → 1 ≤ ty.dims → Describes text (descs.Field ty) → Spells text
+spells_array : (text : List ℕ) (ty : Ty) → 1 ≤ ty.dims → Describes text (descs.Field ty) → SpellsType text
 spells_array text ty some d =
     let is = array_type text ty some d in
     let count : brackets text ≡ ty.dims = ap brackets d.text_is ∙ type_brackets ty.dims ty.of in
@@ -118,7 +118,7 @@ spells_array text ty some d =
       element = λ e. rest ∙ sym (ap (λ (x : Ty). of_text x.of) is);
     }
 
-pub spells : (text : List ℕ) → IsClassText text → Spells text
+pub spells : (text : List ℕ) → IsClassText text → SpellsType text
 spells text (inl name) = spells_class text name
 spells text (inr array) = spells_array text array.0 array.1 array.2
 

@@ -7,11 +7,11 @@ use Rattle.std.specs.List.{AllByRecursion, flat_map}
 use Rattle.std.specs.List.Sorted.{IsStrictlySortedBy}
 use Rattle.std.proofs.lemmas.Cmp.{nat_list_cmp_total, tied_itself}
 use Rattle.std.proofs.lemmas.List.{length-append, length-map}
-use Rattle.dj_names.specs.Types.{Name}
-use Rattle.dj_pool.specs.Pool.{Constant}
-use Rattle.dj_model.specs.Program as programs
-use Rattle.dj_model.specs.Program.{Program, Method, Field}
-use Rattle.dj_program.specs.Codes.{CodeParts}
+use Rattle.dj_names.specs.trusted.Types.{Name}
+use Rattle.dj_pool.specs.trusted.Pool.{Constant}
+use Rattle.dj_model.specs.trusted.Program as programs
+use Rattle.dj_model.specs.trusted.Program.{Program, Method, Field}
+use Rattle.dj_program.specs.trusted.Codes.{CodeParts}
 use Rattle.dj_types.specs.Members.{methods_in, fields_in, all_methods, all_fields}
 use Rattle.dj_image.specs.declared.parts.ClassParts.{ClassParts}
 use Rattle.dj_image.specs.Sources.{with_codes, with_values, class_of_source, program_of_sources}

@@ -4,23 +4,23 @@ use Rattle.std.specs.Prelude.{slice_get}
 use Rattle.dj_names.specs.declared.descriptor.Base.TheVariants as bases
 use Rattle.dj_names.specs.declared.descriptor.Desc.TheVariants as descs
 use Rattle.dj_names.specs.declared.native.NativeId.{NativeId}
-use Rattle.dj_names.specs.DescReading.{dims_read, name_read, class_read, of_read, type_read, params_read, field_read, return_read, method_read, desc_read}
-use Rattle.dj_names.specs.NameReading.{reads_class_name}
-use Rattle.dj_names.specs.Tests.{units_read}
-use Rattle.dj_names.specs.Types.{class_type, base_type, base_array, array_type}
-use Rattle.dj_names.specs.UnitReading.{unit_read, long_read, two_read}
+use Rattle.dj_names.specs.trusted.DescReading.{dims_read, name_read, class_read, of_read, type_read, params_read, field_read, return_read, method_read, desc_read}
+use Rattle.dj_names.specs.trusted.NameReading.{reads_class_name}
+use Rattle.dj_names.specs.trusted.Tests.{units_read}
+use Rattle.dj_names.specs.trusted.Types.{class_type, base_type, base_array, array_type}
+use Rattle.dj_names.specs.trusted.UnitReading.{unit_read, long_read, two_read}
 use Rattle.dj_ops.specs.declared.instruction.Instr.{Instr}
 use Rattle.dj_ops.specs.declared.instruction.Instr.TheVariants as instrs
 use Rattle.dj_labels.specs.declared.labelled.Protected.{Protected}
-use Rattle.dj_pool.specs.Pool.{Constant, Utf8, Integer, Long, Hole, Class, Text, Field, Method, InterfaceMethod, NameAndType}
-use Rattle.dj_model.specs.Opcodes.{instruction_of, simple}
-use Rattle.dj_model.specs.Program as programs
-use Rattle.dj_model.specs.Program.{Abstract, Runs}
-use Rattle.dj_model.specs.Linking.{FoundMethod, most_classes, chain_of, interfaces_from, interfaces_above, field_order, resolve_method, resolve_field}
-use Rattle.dj_check.specs.Instructions.{index_of}
-use Rattle.dj_declared.specs.Files.{desc_in, type_in, no_code}
-use Rattle.dj_program.specs.Naming.{units_in, named_at, named_by, named_if}
-use Rattle.dj_program.specs.Codes.{CodeParts, code_in}
+use Rattle.dj_pool.specs.trusted.Pool.{Constant, Utf8, Integer, Long, Hole, Class, Text, Field, Method, InterfaceMethod, NameAndType}
+use Rattle.dj_model.specs.trusted.Opcodes.{instruction_of, simple}
+use Rattle.dj_model.specs.trusted.Program as programs
+use Rattle.dj_model.specs.trusted.Program.{Abstract, Runs}
+use Rattle.dj_model.specs.trusted.Linking.{FoundMethod, most_classes, chain_of, interfaces_from, interfaces_above, field_order, resolve_method, resolve_field}
+use Rattle.dj_check.specs.trusted.Instructions.{index_of}
+use Rattle.dj_declared.specs.trusted.Files.{desc_in, type_in, no_code}
+use Rattle.dj_program.specs.trusted.Naming.{units_in, named_at, named_by, named_if}
+use Rattle.dj_program.specs.trusted.Codes.{CodeParts, code_in}
 use Rattle.dj_types.specs.Members.{all_methods, all_fields}
 use Rattle.dj_image.specs.declared.operand.Operand.{Operand}
 use Rattle.dj_image.specs.declared.operand.Operand.TheVariants as operands
@@ -171,7 +171,7 @@ no_code_there : HasInstr image 0 0 → ⊥
 unfolding image source all_codes
 no_code_there has = let e : None ≡ Some has.code = has.own in absurd cc
 
--- what is told of an instruction of the second method is its operand
+-- what is answered for an instruction of the second method is its operand
 operand_there : (number : ℕ) (instr : Instr) (operand : Operand) → slice_get code number ≡ Some instr → IsOperandAt image 1 number operand → operand ≡ tell instr
 unfolding image source all_codes parts
 operand_there number instr operand stands told =
@@ -188,7 +188,7 @@ not_elements : IsOperandAt image 1 1 (operands.Class 0) → ⊥
 unfolding image source class_a class_of_source pool code operand_of instruction_of named_by desc_in type_in dims_read name_read class_read of_read type_read params_read field_read return_read method_read desc_read reads_class_name
 not_elements told = let e : operands.Class 0 ≡ operands.Class 2 = operand_there 1 (instrs.Class 189 2) (operands.Class 0) refl told in absurd cc
 
--- a class that isn't there isn't told as no operand
+-- a class that isn't there isn't reported as no operand
 not_nothing : IsOperandAt image 1 2 operands.Nothing → ⊥
 unfolding image source class_a class_of_source pool code operand_of instruction_of named_by desc_in type_in dims_read name_read class_read of_read type_read params_read field_read return_read method_read desc_read reads_class_name
 not_nothing told = let e : operands.Nothing ≡ operands.Unresolved = operand_there 2 (instrs.Class 192 16) operands.Nothing refl told in absurd cc

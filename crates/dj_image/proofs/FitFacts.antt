@@ -8,21 +8,21 @@ use Rattle.std.proofs.lemmas.Option.{none-some, same_Some}
 use Rattle.dj_names.specs.declared.descriptor.Base.TheVariants as bases
 use Rattle.dj_names.specs.declared.descriptor.Desc.{Desc}
 use Rattle.dj_names.specs.declared.descriptor.Desc.TheVariants as described_as
-use Rattle.dj_names.specs.DescReading.{dims_read, name_read, class_read, of_read, type_read, params_read, field_read, return_read, method_read, desc_read}
-use Rattle.dj_names.specs.Descriptors.{desc_text}
-use Rattle.dj_names.specs.NameReading.{reads_class_name}
-use Rattle.dj_names.specs.Tests.{units_read}
-use Rattle.dj_names.specs.Types.{Name, base_type}
-use Rattle.dj_names.specs.UnitReading.{unit_read, long_read, two_read}
-use Rattle.dj_pool.specs.Pool.{Constant, Utf8, IsPool, indexed}
-use Rattle.dj_model.specs.Kinds.{Signature, call_signature}
-use Rattle.dj_model.specs.Linking.{FoundMethod, FoundField}
-use Rattle.dj_model.specs.Program as programs
-use Rattle.dj_model.specs.Program.{Abstract, Runs, has_code}
-use Rattle.dj_declared.specs.Files.{desc_in, name_in, no_code}
+use Rattle.dj_names.specs.trusted.DescReading.{dims_read, name_read, class_read, of_read, type_read, params_read, field_read, return_read, method_read, desc_read}
+use Rattle.dj_names.specs.trusted.Descriptors.{desc_text}
+use Rattle.dj_names.specs.trusted.NameReading.{reads_class_name}
+use Rattle.dj_names.specs.trusted.Tests.{units_read}
+use Rattle.dj_names.specs.trusted.Types.{Name, base_type}
+use Rattle.dj_names.specs.trusted.UnitReading.{unit_read, long_read, two_read}
+use Rattle.dj_pool.specs.trusted.Pool.{Constant, Utf8, IsPool, indexed}
+use Rattle.dj_model.specs.trusted.Kinds.{Signature, call_signature}
+use Rattle.dj_model.specs.trusted.Linking.{FoundMethod, FoundField}
+use Rattle.dj_model.specs.trusted.Program as programs
+use Rattle.dj_model.specs.trusted.Program.{Abstract, Runs, has_code}
+use Rattle.dj_declared.specs.trusted.Files.{desc_in, name_in, no_code}
 use Rattle.dj_declared.specs.Members.{IsDescriptor}
-use Rattle.dj_program.specs.Codes.{CodeParts}
-use Rattle.dj_program.specs.Naming.{units_in, named_at, named_by}
+use Rattle.dj_program.specs.trusted.Codes.{CodeParts}
+use Rattle.dj_program.specs.trusted.Naming.{units_in, named_at, named_by}
 use Rattle.dj_program.specs.Views.{parts_of}
 use Rattle.dj_program.specs.declared.code.MethodCode.{MethodCode}
 use Rattle.dj_shape.specs.declared.pool.ConstantKind.TheVariants as constants
@@ -118,7 +118,7 @@ call_each (suc (suc (suc k))) told = absurd (no_descriptor told)
 pub kinds_of_pool : ArePoolKinds pool kinds
 kinds_of_pool = record { each = kind_each; calls = call_each }
 
--- not where the signature of a descriptor is left out, or where a text is told as a class
+-- not where the signature of a descriptor is left out, or where a text is recorded as a class
 signature_left_out : ArePoolKinds pool (record kinds { calls = [] }) → ⊥
 signature_left_out are =
     let e : Some nothing ≡ None = sym (ap call_signature described.is) ∙ are.calls 1 described.spelled in
@@ -189,7 +189,7 @@ module _ (code : MethodCode) (codes : Codes) (descs : Vec ℕ) (values : FieldVa
     descs = desc_of descs descs_are;
   }
 
-  -- not where the code of a method is left out, or told of the abstract one; nor with fewer values than fields
+  -- not where the code of a method is left out, or given to the abstract one; nor with fewer values than fields
   code_left_out : codes.items ≡ None ∷ None ∷ [] → FitClass class_a (parts_with codes descs values) → ⊥
   code_left_out are fit =
       let told : FitMethods {A = MethodCode} class_a.methods (None ∷ None ∷ []) = subst (λ (cs : List (Option MethodCode)). FitMethods class_a.methods cs) are fit.methods in
@@ -203,7 +203,7 @@ module _ (code : MethodCode) (codes : Codes) (descs : Vec ℕ) (values : FieldVa
   value_left_out : values.items ≡ [] → FitClass class_a (parts_with codes descs values) → ⊥
   value_left_out are fit = let e : 0 ≡ 1 = sym (ap length are) ∙ fit.fields in omega (arith, e)
 
-  -- nor where the index is that of another text, or that of the abstract method alone is told
+  -- nor where the index is that of another text, or only that of the abstract method is given
   desc_elsewhere : descs.items ≡ 1 ∷ 2 ∷ [] → FitClass class_a (parts_with codes descs values) → ⊥
   desc_elsewhere are fit =
       s_no_descriptor (subst (λ (i : ℕ). IsDescriptor (name_in pool i)) (ap (λ (xs : List ℕ). get_or xs 1 0) are) (fit.descs 1 second refl refl).spelled)
@@ -212,7 +212,7 @@ module _ (code : MethodCode) (codes : Codes) (descs : Vec ℕ) (values : FieldVa
   desc_left_out are fit =
       no_descriptor (subst (λ (i : ℕ). IsDescriptor (name_in pool i)) (ap (λ (xs : List ℕ). get_or xs 1 0) are) (fit.descs 1 second refl refl).spelled)
 
-  -- nor where what is kept of the constants isn't of them
+  -- nor where nothing is kept of the constants
   kinds_of_none : FitClass class_a (record (parts_with codes descs values) { kinds = record { constants = []; calls = [] } }) → ⊥
   kinds_of_none fit = signature_left_out fit.kinds
 

@@ -2,12 +2,12 @@
 use Rattle.std.proofs.Common.{◌≡◌, ℕ, zero, suc, ◌<◌, List, [], ◌∷◌, map, length, Option, Some, None, refl, sym, ap, ◌∙◌, subst, codes, pos, arith, slice_get}
 use Rattle.std.specs.Global.{Vec}
 use Rattle.std.proofs.lemmas.Option.{same_Some}
-use Rattle.dj_names.specs.Tests.{units_read}
-use Rattle.dj_names.specs.Types.{class_type, array_type}
-use Rattle.dj_names.specs.UnitReading.{unit_read, long_read, two_read}
-use Rattle.dj_pool.specs.Pool.{Constant, Utf8, Class}
-use Rattle.dj_declared.specs.Files.{type_in}
-use Rattle.dj_program.specs.Naming.{units_in, named_at, named_by}
+use Rattle.dj_names.specs.trusted.Tests.{units_read}
+use Rattle.dj_names.specs.trusted.Types.{class_type, array_type}
+use Rattle.dj_names.specs.trusted.UnitReading.{unit_read, long_read, two_read}
+use Rattle.dj_pool.specs.trusted.Pool.{Constant, Utf8, Class}
+use Rattle.dj_declared.specs.trusted.Files.{type_in}
+use Rattle.dj_program.specs.trusted.Naming.{units_in, named_at, named_by}
 use Rattle.dj_image.specs.declared.operand.Operand.{Operand}
 use Rattle.dj_image.specs.declared.operand.Operand.TheVariants as operands
 use Rattle.dj_image.specs.declared.parts.ClassParts.{ClassParts}

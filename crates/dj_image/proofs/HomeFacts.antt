@@ -3,15 +3,15 @@ use Rattle.std.proofs.Common.{◌≡◌, ℕ, zero, suc, ◌<◌, List, [], ◌�
 use Rattle.std.proofs.lemmas.Option.{none-some, same_Some}
 use Rattle.dj_names.specs.declared.descriptor.Base.TheVariants as bases
 use Rattle.dj_names.specs.declared.descriptor.Desc.TheVariants as descs
-use Rattle.dj_names.specs.DescReading.{dims_read, name_read, class_read, of_read, type_read, params_read, field_read, return_read, method_read, desc_read}
-use Rattle.dj_names.specs.Descriptors.{desc_text}
-use Rattle.dj_names.specs.NameReading.{reads_class_name}
-use Rattle.dj_names.specs.Types.{Name, base_type, base_array}
-use Rattle.dj_pool.specs.Pool.{Constant, Utf8, Integer, Long, Float, Class, Text, Field, Method, InterfaceMethod, NameAndType}
-use Rattle.dj_model.specs.Program as programs
-use Rattle.dj_model.specs.Program.{Runs}
-use Rattle.dj_model.specs.Linking.{most_classes, chain_of, interfaces_from, interfaces_above, field_order, resolve_method, resolve_field}
-use Rattle.dj_declared.specs.Files.{desc_in, no_code}
+use Rattle.dj_names.specs.trusted.DescReading.{dims_read, name_read, class_read, of_read, type_read, params_read, field_read, return_read, method_read, desc_read}
+use Rattle.dj_names.specs.trusted.Descriptors.{desc_text}
+use Rattle.dj_names.specs.trusted.NameReading.{reads_class_name}
+use Rattle.dj_names.specs.trusted.Types.{Name, base_type, base_array}
+use Rattle.dj_pool.specs.trusted.Pool.{Constant, Utf8, Integer, Long, Float, Class, Text, Field, Method, InterfaceMethod, NameAndType}
+use Rattle.dj_model.specs.trusted.Program as programs
+use Rattle.dj_model.specs.trusted.Program.{Runs}
+use Rattle.dj_model.specs.trusted.Linking.{most_classes, chain_of, interfaces_from, interfaces_above, field_order, resolve_method, resolve_field}
+use Rattle.dj_declared.specs.trusted.Files.{desc_in, no_code}
 use Rattle.dj_types.specs.Typed.{Typed}
 use Rattle.dj_types.specs.Members.{all_methods, all_fields}
 use Rattle.dj_image.specs.declared.operand.Operand.{Operand}
@@ -57,7 +57,7 @@ fields_of_a : map (field_told types (Some 0)) each ≡ None ∷ Some 0 ∷ None 
 unfolding all_fields resolve_field most_classes chain_of interfaces_from field_order desc_in dims_read name_read class_read of_read type_read params_read field_read return_read method_read desc_read reads_class_name
 fields_of_a = refl
 
--- those of the class that is told, and none where none is
+-- those of the class that is given, and none where none is
 by_home : map (λ (home : Option ℕ). method_told types home (named (codes "x") (codes "()V"))) (Some 0 ∷ Some 1 ∷ None ∷ []) ≡ Some 0 ∷ Some 1 ∷ None ∷ []
 unfolding all_methods resolve_method most_classes chain_of interfaces_from interfaces_above desc_in dims_read name_read class_read of_read type_read params_read field_read return_read method_read desc_read reads_class_name
 by_home = refl

@@ -3,12 +3,12 @@ use Rattle.std.proofs.Common.{◌≡◌, ℕ, zero, suc, ◌<◌, ◌*◌, true,
 use Rattle.std.specs.Global.{Vec}
 use Rattle.std.proofs.lemmas.Option.{same_Some}
 use Rattle.dj_names.specs.declared.descriptor.Base.TheVariants as bases
-use Rattle.dj_names.specs.Tests.{units_read}
-use Rattle.dj_names.specs.Types.{class_type, base_array, array_type}
-use Rattle.dj_names.specs.UnitReading.{unit_read, long_read, two_read}
-use Rattle.dj_pool.specs.Pool.{Constant, Utf8, Integer, Class, Text, Field, Method, NameAndType}
-use Rattle.dj_model.specs.Program as programs
-use Rattle.dj_program.specs.Naming.{units_in}
+use Rattle.dj_names.specs.trusted.Tests.{units_read}
+use Rattle.dj_names.specs.trusted.Types.{class_type, base_array, array_type}
+use Rattle.dj_names.specs.trusted.UnitReading.{unit_read, long_read, two_read}
+use Rattle.dj_pool.specs.trusted.Pool.{Constant, Utf8, Integer, Class, Text, Field, Method, NameAndType}
+use Rattle.dj_model.specs.trusted.Program as programs
+use Rattle.dj_program.specs.trusted.Naming.{units_in}
 use Rattle.dj_types.specs.Typed.{Typed}
 use Rattle.dj_image.specs.Operands.{units_number}
 use Rattle.dj_image.specs.Indexed.{Holds, text_class, is_array, array_text, text_array, text_place, number_kept, class_index, kept_class, kept_array}

@@ -2,15 +2,15 @@
 use Rattle.std.proofs.Common.{◌≡◌, ℕ, List, [], ◌∷◌, map, Option, Some, None, refl, codes, pos, arith}
 use Rattle.dj_names.specs.declared.descriptor.Base.TheVariants as bases
 use Rattle.dj_names.specs.declared.descriptor.Desc.TheVariants as descs
-use Rattle.dj_names.specs.DescReading.{dims_read, name_read, class_read, of_read, type_read, params_read, field_read, return_read, method_read, desc_read}
-use Rattle.dj_names.specs.NameReading.{reads_class_name}
-use Rattle.dj_names.specs.Types.{class_type, base_type, base_array, array_type}
+use Rattle.dj_names.specs.trusted.DescReading.{dims_read, name_read, class_read, of_read, type_read, params_read, field_read, return_read, method_read, desc_read}
+use Rattle.dj_names.specs.trusted.NameReading.{reads_class_name}
+use Rattle.dj_names.specs.trusted.Types.{class_type, base_type, base_array, array_type}
 use Rattle.dj_ops.specs.declared.instruction.Instr.TheVariants as instrs
-use Rattle.dj_pool.specs.Pool.{Constant, Utf8, Integer, Float, Long, Hole, Class, Text, Field, Method, InterfaceMethod, NameAndType, Handle, MethodType, Dynamic}
-use Rattle.dj_model.specs.Program as programs
-use Rattle.dj_model.specs.Program.{Runs}
-use Rattle.dj_model.specs.Linking.{most_classes, chain_of, interfaces_from, interfaces_above, field_order, resolve_method, resolve_field}
-use Rattle.dj_declared.specs.Files.{desc_in, type_in, no_code}
+use Rattle.dj_pool.specs.trusted.Pool.{Constant, Utf8, Integer, Float, Long, Hole, Class, Text, Field, Method, InterfaceMethod, NameAndType, Handle, MethodType, Dynamic}
+use Rattle.dj_model.specs.trusted.Program as programs
+use Rattle.dj_model.specs.trusted.Program.{Runs}
+use Rattle.dj_model.specs.trusted.Linking.{most_classes, chain_of, interfaces_from, interfaces_above, field_order, resolve_method, resolve_field}
+use Rattle.dj_declared.specs.trusted.Files.{desc_in, type_in, no_code}
 use Rattle.dj_types.specs.Typed.{Typed}
 use Rattle.dj_types.specs.Members.{all_methods, all_fields}
 use Rattle.dj_image.specs.declared.operand.Operand.{Operand}
@@ -19,7 +19,7 @@ use Rattle.dj_image.specs.declared.owned.OwnedEntry.TheVariants as entries
 use Rattle.dj_image.specs.Owned.{constant_of_owned}
 use Rattle.dj_image.specs.Homes.{operand_at}
 use Rattle.dj_image.specs.Taken.{base_operand, class_kept, kept_operand}
-use Rattle.dj_image.specs.Rows.{brackets, IsRow, known_types}
+use Rattle.dj_image.specs.ArrayRows.{brackets, IsRow, known_types}
 use Rattle.dj_image.proofs.Members.{member_first, member_later, member_none}
 use Rattle.dj_image.proofs.TypeFacts.{ints, a_arrays, b_arrays}
 

@@ -1,4 +1,4 @@
--- What an image keeps at the place of a method or a field is what is told by its number.
+-- What an image keeps at the place of a method or a field is what is answered for its number.
 use Rattle.std.proofs.Common.{◌≡◌, ℕ, zero, suc, ◌+◌, ◌<◌, List, [], ◌∷◌, map, length, Option, Some, None, nat_eq, refl, sym, ap, ◌∙◌, subst, arith, inl, inr, IsTrue, length-append}
 use Rattle.std.specs.Prelude.{⊤, slice_get, option_and_then}
 use Rattle.std.specs.Option.{option_map}
@@ -8,13 +8,13 @@ use Rattle.std.proofs.lemmas.Option.{slice_get-map, slice_get_within}
 use Rattle.dj_names.specs.declared.native.NativeId.{NativeId}
 use Rattle.dj_ops.specs.declared.instruction.Instr.{Instr}
 use Rattle.dj_labels.specs.declared.labelled.Protected.{Protected}
-use Rattle.dj_pool.specs.Pool.{Constant}
-use Rattle.dj_model.specs.Program.{Program, Method, Body, Abstract, Native, Runs, has_code}
-use Rattle.dj_check.specs.Instructions.{index_of}
+use Rattle.dj_pool.specs.trusted.Pool.{Constant}
+use Rattle.dj_model.specs.trusted.Program.{Program, Method, Body, Abstract, Native, Runs, has_code}
+use Rattle.dj_check.specs.trusted.Instructions.{index_of}
 use Rattle.dj_declared.specs.Members.{native_in}
 use Rattle.dj_classes.specs.declared.place.Place.{Place}
-use Rattle.dj_program.specs.Naming.{named_at, named_if}
-use Rattle.dj_program.specs.Codes.{code_in, catches_in}
+use Rattle.dj_program.specs.trusted.Naming.{named_at, named_if}
+use Rattle.dj_program.specs.trusted.Codes.{code_in, catches_in}
 use Rattle.dj_program.specs.Views.{parts_of}
 use Rattle.dj_program.specs.declared.code.MethodCode.{MethodCode}
 use Rattle.dj_types.specs.Typed.{Typed}
@@ -167,7 +167,7 @@ constant_table imaged (q ∷ parts) (table ∷ tables) are zero p own =
     let e : q ≡ p = cc in (table, refl, subst (λ (x : ClassParts). table.items ≡ map (field_operand_of imaged x.pool) x.values.items) e are.0)
 constant_table imaged (q ∷ parts) (table ∷ tables) are (suc class) p own = constant_table imaged parts tables are.1 class p own
 
--- ---- what is told by tables
+-- ---- what tables say
 
 module _ (types : Typed) (parts : List ClassParts) (texts : List (List ℕ)) (operands : List (Vec Operand)) (named made : List (Vec (Option ℕ)))
     (constants : List (Vec Operand)) (tables : AreTables types parts texts operands named made constants) where
@@ -334,7 +334,7 @@ module _ (types : Typed) (parts : List ClassParts) (texts : List (List ℕ)) (fi
         tells = tells_body imaged number row.part.pool row.method row.code row.fits (coded_there types parts texts fit number place at) told fits;
       }
 
--- ---- what is told of an image
+-- ---- what is known of an image
 
 module _ {now : Imaged} {types : Typed} {parts : List ClassParts} {texts : List (List ℕ)} {operands : List (Vec Operand)} {named made : List (Vec (Option ℕ))}
     {constants : List (Vec Operand)} (is : imaged_of types parts texts ≡ now) (tables : AreTables types parts texts operands named made constants) where

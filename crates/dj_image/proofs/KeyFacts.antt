@@ -10,15 +10,15 @@ use Rattle.std.proofs.lemmas.Bool.{false≢true}
 use Rattle.dj_names.specs.declared.descriptor.Base.TheVariants as bases
 use Rattle.dj_names.specs.declared.descriptor.Of.TheVariants as ofs
 use Rattle.dj_names.specs.declared.descriptor.Ty.{Ty}
-use Rattle.dj_names.specs.Types.{Name, base_array, array_type}
-use Rattle.dj_names.specs.Descriptors.{of_text, type_text}
-use Rattle.dj_pool.specs.Pool.{Integer}
+use Rattle.dj_names.specs.trusted.Types.{Name, base_array, array_type}
+use Rattle.dj_names.specs.trusted.Descriptors.{of_text, type_text}
+use Rattle.dj_pool.specs.trusted.Pool.{Integer}
 use Rattle.dj_types.specs.declared.shapes.Element.TheVariants as elements
 use Rattle.dj_types.specs.declared.shapes.Shape.{Shape}
 use Rattle.dj_image.specs.declared.lent_type.LentOf.TheVariants as lents
 use Rattle.dj_image.specs.declared.uses.Use.TheVariants as uses
 use Rattle.dj_image.specs.Imaged.{IsPartOf}
-use Rattle.dj_image.specs.Rows.{Rows, dims_in, most_at, has_row, IsKeyed, IsRow, AreRows, AreAllKnown, level, levels, of_lent, type_lent, IsFitUse, brackets, first_wholes, wholes_of}
+use Rattle.dj_image.specs.ArrayRows.{ArrayRows, dims_in, most_at, has_row, IsKeyed, IsRow, AreRows, AreAllKnown, level, levels, of_lent, type_lent, IsFitUse, brackets, first_wholes, wholes_of}
 use Rattle.dj_image.proofs.Members.{member_first, member_none, member_cases}
 use Rattle.dj_image.proofs.RowFacts.{of_once, same_items, found_in, has_parts}
 use Rattle.dj_image.proofs.TypeFacts.{other_text, other_type, ints}
@@ -73,7 +73,7 @@ ints_of_deep : IsPartOf ints deep
 ints_of_deep = record { array = omega arith; few = omega arith; within = omega arith; same = refl }
 
 -- one row, of arrays of ints with one dimension at most
-module _ (key : Vec ℕ) (key_is : key.items ≡ codes "I") (rows : Rows) (is : rows.entries ≡ (key, ints) ∷ []) where
+module _ (key : Vec ℕ) (key_is : key.items ≡ codes "I") (rows : ArrayRows) (is : rows.entries ≡ (key, ints) ∷ []) where
   most_by : (text : Name) → most_at rows text ≡ dims_in (cond (is_eq (slice_cmp nat_cmp text (codes "I"))) (Some ints) None)
   most_by text =
       ap (λ (es : List (Vec ℕ × Ty)). dims_in (found_in es text)) is
@@ -131,12 +131,12 @@ module _ (key : Vec ℕ) (key_is : key.items ≡ codes "I") (rows : Rows) (is : 
       other_type deep ints refl refl (is_ints deep has)
 
 -- a row of more dimensions has the elements too, and isn't one of fewer
-elements_had : (key : Vec ℕ) (rows : Rows) → key.items ≡ codes "I" → rows.entries ≡ (key, deep) ∷ [] → IsTrue (has_row rows ints)
+elements_had : (key : Vec ℕ) (rows : ArrayRows) → key.items ≡ codes "I" → rows.entries ≡ (key, deep) ∷ [] → IsTrue (has_row rows ints)
 elements_had key rows key_is is =
     ap (λ (es : List (Vec ℕ × Ty)). nat_le 1 1 && nat_le 1 (dims_in (found_in es (codes "I")))) is
     ∙ ap (λ (text : Name). nat_le 1 1 && nat_le 1 (dims_in (cond (is_eq (slice_cmp nat_cmp (codes "I") text)) (Some deep) None))) key_is
 
-too_many_dims : (key : Vec ℕ) (rows : Rows) → key.items ≡ codes "I" → rows.entries ≡ (key, deep) ∷ [] → AreRows (ints ∷ []) rows → ⊥
+too_many_dims : (key : Vec ℕ) (rows : ArrayRows) → key.items ≡ codes "I" → rows.entries ≡ (key, deep) ∷ [] → AreRows (ints ∷ []) rows → ⊥
 too_many_dims key rows key_is is are =
     let has : IsTrue (has_row rows deep) =
     ap (λ (es : List (Vec ℕ × Ty)). nat_le 1 2 && nat_le 2 (dims_in (found_in es (codes "I")))) is
@@ -148,13 +148,13 @@ too_many_dims key rows key_is is are =
     ]
 
 -- nor without rows, nor where a row stands at the text of other elements
-without_rows : (rows : Rows) → rows.entries ≡ [] → AreRows (ints ∷ []) rows → ⊥
+without_rows : (rows : ArrayRows) → rows.entries ≡ [] → AreRows (ints ∷ []) rows → ⊥
 without_rows rows is are =
     let has : IsTrue (has_row rows ints) = (are.each ints).1 (ints, member_first ints [], ints_itself) in
     let none : has_row rows ints ≡ false = ap (λ (es : List (Vec ℕ × Ty)). nat_le 1 1 && nat_le 1 (dims_in (found_in es (codes "I")))) is in
     false≢true (sym none ∙ has)
 
-at_other_text : (wholes : List Ty) (key : Vec ℕ) (rows : Rows) → key.items ≡ codes "J" → rows.entries ≡ (key, ints) ∷ [] → AreRows wholes rows → ⊥
+at_other_text : (wholes : List Ty) (key : Vec ℕ) (rows : ArrayRows) → key.items ≡ codes "J" → rows.entries ≡ (key, ints) ∷ [] → AreRows wholes rows → ⊥
 at_other_text wholes key rows key_is is are =
     let all : AllByRecursion IsKeyed ((key, ints) ∷ []) = subst (λ (es : List (Vec ℕ × Ty)). AllByRecursion IsKeyed es) is are.keyed in
     other_text (codes "I") (codes "J") refl refl (all.0.0 ∙ key_is)

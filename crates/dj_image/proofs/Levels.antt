@@ -19,15 +19,15 @@ use Rattle.dj_names.specs.declared.descriptor.Base.TheVariants as bases
 use Rattle.dj_names.specs.declared.descriptor.Of.{Of}
 use Rattle.dj_names.specs.declared.descriptor.Of.TheVariants as ofs
 use Rattle.dj_names.specs.declared.descriptor.Ty.{Ty}
-use Rattle.dj_names.specs.Descriptors.{of_text, type_text}
-use Rattle.dj_model.specs.Program.{Program}
-use Rattle.dj_model.specs.Libraries.{is_name_before}
+use Rattle.dj_names.specs.trusted.Descriptors.{of_text, type_text}
+use Rattle.dj_model.specs.trusted.Program.{Program}
+use Rattle.dj_model.specs.trusted.Libraries.{is_name_before}
 use Rattle.dj_classes.proofs.Orders.{is_name_before-cmp}
 use Rattle.dj_types.proofs.Told.{element_told}
 use Rattle.dj_types.specs.declared.shapes.Shape.{Shape}
 use Rattle.dj_types.specs.Shapes.{AreElements, shape_in, shape_type}
 use Rattle.dj_types.specs.Typed.{is_known_of, arrays_rise}
-use Rattle.dj_image.specs.Rows.{RiseStrictly, IsKeyed, AreAllKnown, at_level, level, levels}
+use Rattle.dj_image.specs.ArrayRows.{RiseStrictly, IsKeyed, AreAllKnown, at_level, level, levels}
 use Rattle.dj_image.proofs.RowFacts.{Entries, found_in, order, both}
 use Rattle.dj_image.proofs.Wholes.{filter_map_more}
 use Rattle.dj_image.proofs.Members.{member_first, member_none, member_cases, member_of_filter_map, member_filter_map}
@@ -89,7 +89,7 @@ elements_levels program (suc dims) tops known =
 
 -- ---- members
 
--- of one of the tops, and of at most so many dimensions
+-- of one of the tops, and of at most this many dimensions
 pub record IsUnder (dims : ℕ) (tops : List Ty) (ty : Ty) : Type 0 where
   pub top : Ty
   pub there : Contains tops top

@@ -4,12 +4,12 @@ use Rattle.std.specs.Option.{option_map}
 use Rattle.std.specs.List.{AllByRecursion}
 use Rattle.dj_ops.specs.declared.instruction.Instr.{Instr}
 use Rattle.dj_ops.specs.declared.instruction.Instr.TheVariants as instrs
-use Rattle.dj_pool.specs.Pool.{Constant, Class, Text, Field, Method, InterfaceMethod, Hole, takes_two, indexed, constant_at, class_text_of, IsClassText, NamesText, IsLinked, IsConstant, IsPool}
+use Rattle.dj_pool.specs.trusted.Pool.{Constant, Class, Text, Field, Method, InterfaceMethod, Hole, takes_two, indexed, constant_at, class_text_of, IsClassText, NamesText, IsLinked, IsConstant, IsPool}
 use Rattle.std.specs.Prelude.{nat_eq, if◌then◌else◌}
 use Rattle.dj_image.specs.declared.uses.Use.{Use}
 use Rattle.dj_image.specs.declared.uses.Use.TheVariants as uses
 use Rattle.dj_image.specs.Uses.{class_use, literal_use, use_in}
-use Rattle.dj_image.specs.Rows.{IsFitUse}
+use Rattle.dj_image.specs.ArrayRows.{IsFitUse}
 
 -- ---- each constant
 

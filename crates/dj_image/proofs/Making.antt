@@ -8,13 +8,13 @@ use Rattle.std.proofs.lemmas.List.{take_all, take_more, map-append}
 use Rattle.std.proofs.lemmas.List.Elements.{Contains-append_right}
 use Rattle.dj_names.specs.declared.descriptor.Base.TheVariants as bases
 use Rattle.dj_names.specs.declared.descriptor.Ty.{Ty}
-use Rattle.dj_names.specs.Types.{Name, same_name, base_array, component_type}
-use Rattle.dj_names.specs.Descriptors.{type_text}
-use Rattle.dj_pool.specs.Pool.{Constant, IsPool, text_at}
-use Rattle.dj_declared.specs.Files.{name_in}
-use Rattle.dj_program.specs.Naming.{units_in}
-use Rattle.dj_model.specs.Types.{Prefix, object_name}
-use Rattle.dj_model.specs.Program.{Program}
+use Rattle.dj_names.specs.trusted.Types.{Name, same_name, base_array, component_type}
+use Rattle.dj_names.specs.trusted.Descriptors.{type_text}
+use Rattle.dj_pool.specs.trusted.Pool.{Constant, IsPool, text_at}
+use Rattle.dj_declared.specs.trusted.Files.{name_in}
+use Rattle.dj_program.specs.trusted.Naming.{units_in}
+use Rattle.dj_model.specs.trusted.Types.{Prefix, object_name}
+use Rattle.dj_model.specs.trusted.Program.{Program}
 use Rattle.dj_classes.specs.Tables.{class_number, name_of}
 use Rattle.dj_classes.proofs.Orders.{same_from_names}
 use Rattle.dj_types.specs.Typed.{Typed, AreArrays, arrays_rise, texts_of, place_of_text, chars_at}
@@ -30,7 +30,7 @@ use Rattle.dj_image.specs.Imaged.{Imaged, typed_of, IsNumbered}
 use Rattle.dj_image.specs.Indexed.{Holds, text_class, text_array, text_place, kept_class, kept_array}
 use Rattle.dj_image.specs.Operands.{units_number}
 use Rattle.dj_image.specs.Parts.{FitClasses}
-use Rattle.dj_image.specs.Rows.{IsRow, known_types, wholes_of}
+use Rattle.dj_image.specs.ArrayRows.{IsRow, known_types, wholes_of}
 use Rattle.dj_image.specs.Tables.{imaged_of, AreClosed, IsOperandTable, IsNamedTable, IsMadeTable, field_operand_of, AreOperandTables, AreNamedTables, AreMadeTables, AreConstantTables}
 use Rattle.dj_image.specs.Texts as numbered
 use Rattle.dj_image.specs.Texts.{HasPool, RiseStrictly}

@@ -1,4 +1,4 @@
--- What constants are as operands, by what is kept of texts, is what the program tells.
+-- What constants are as operands, by what is kept of texts, is what the program says.
 use Rattle.std.proofs.Common.{◌≡◌, ℕ, suc, ◌+◌, ◌<◌, ◌≤◌, Bool, true, false, cond, List, [], ◌∷◌, map, length, Option, Some, None, IsSomeAnd, IsTrue, get_or, option_and_then, unwrap_or, refl, sym, ap, subst, ◌∙◌, arith}
 use Rattle.std.specs.Prelude.{nat_eq, nat_le, if◌then◌else◌}
 use Rattle.std.specs.Option.{option_map}
@@ -8,19 +8,19 @@ use Rattle.std.proofs.lemmas.Bool.Decides.{nat_tests}
 use Rattle.std.proofs.lemmas.List.{length-append, length-map}
 use Rattle.dj_names.specs.declared.descriptor.Desc.TheVariants as descs
 use Rattle.dj_names.specs.declared.descriptor.Ty.{Ty}
-use Rattle.dj_names.specs.Descriptors.{type_text, Describes, IsFieldDescriptor, IsMethodDescriptor}
-use Rattle.dj_names.specs.Types.{Name, same_name, class_type}
-use Rattle.dj_pool.specs.Pool.{Constant, Utf8, Integer, Float, Long, Double, Class, Text, Field, Method, InterfaceMethod, NameAndType, Handle, MethodType, Dynamic, Hole, constant_at, text_at, names_of, both, name_and_type_at, class_text_of, IsClassText, IsLinked, IsPool}
-use Rattle.dj_model.specs.Types.{Member, Prefix, object_name}
-use Rattle.dj_model.specs.Program.{Program, Class as Declared}
-use Rattle.dj_model.specs.Instructions.{AField, AMethod, AnInterfaceMethod}
-use Rattle.dj_model.specs.Linking.{most_classes, interfaces_above, first_method, first_field, field_order, any_method, is_plain, method_chain, or_else, member_class, class_or_object, resolve_method, resolve_field}
-use Rattle.dj_declared.specs.Files.{desc_in, type_in}
+use Rattle.dj_names.specs.trusted.Descriptors.{type_text, Describes, IsFieldDescriptor, IsMethodDescriptor}
+use Rattle.dj_names.specs.trusted.Types.{Name, same_name, class_type}
+use Rattle.dj_pool.specs.trusted.Pool.{Constant, Utf8, Integer, Float, Long, Double, Class, Text, Field, Method, InterfaceMethod, NameAndType, Handle, MethodType, Dynamic, Hole, constant_at, text_at, names_of, both, name_and_type_at, class_text_of, IsClassText, IsLinked, IsPool}
+use Rattle.dj_model.specs.trusted.Types.{Member, Prefix, object_name}
+use Rattle.dj_model.specs.trusted.Program.{Program, Class as Declared}
+use Rattle.dj_model.specs.trusted.Instructions.{AField, AMethod, AnInterfaceMethod}
+use Rattle.dj_model.specs.trusted.Linking.{most_classes, interfaces_above, first_method, first_field, field_order, any_method, is_plain, method_chain, or_else, member_class, class_or_object, resolve_method, resolve_field}
+use Rattle.dj_declared.specs.trusted.Files.{desc_in, type_in}
 use Rattle.dj_declared.specs.Members.{IsDescriptor}
 use Rattle.dj_classes.specs.Tables.{class_number, name_of}
 use Rattle.dj_classes.proofs.Numbered.{name_at-number, class_number-within}
 use Rattle.dj_classes.proofs.Orders.{names_from_same}
-use Rattle.dj_program.specs.Naming.{units_in, named_by, named_at, named_or_another}
+use Rattle.dj_program.specs.trusted.Naming.{units_in, named_by, named_at, named_or_another}
 use Rattle.dj_types.specs.Typed.{Typed, AreArrays, is_array_of, texts_of, types_of, type_at, text_number, place_of_text}
 use Rattle.dj_types.specs.Members.{resolved_method, resolved_field, found_method_number, found_field_number}
 use Rattle.dj_types.proofs.Homes.{no_method_resolved, no_field_resolved}

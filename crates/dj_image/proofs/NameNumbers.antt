@@ -1,6 +1,6 @@
 -- Names of members, with their numbers where there is a directory.
 use Rattle.std.proofs.Common.{◌≡◌, ℕ, List, Option, Some, None, get_or, option_and_then, ap, ◌∙◌, Bor}
-use Rattle.dj_pool.specs.Pool.{Constant, text_at}
+use Rattle.dj_pool.specs.trusted.Pool.{Constant, text_at}
 use Rattle.dj_declared.specs.Members.{IsDescriptor}
 use Rattle.dj_directory.specs.Numberings.{Numbering, number_of}
 use Rattle.dj_types.specs.declared.named.MemberName.{MemberName}

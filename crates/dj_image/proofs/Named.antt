@@ -1,18 +1,18 @@
--- What is kept of the classes and the arrays that constants name is what the program tells.
+-- What is kept of the classes and the arrays that constants name is what the program says.
 use Rattle.std.proofs.Common.{◌≡◌, ℕ, zero, suc, ◌+◌, ◌≤◌, Bool, true, false, cond, List, [], ◌∷◌, ◌++◌, length, replicate, Option, Some, None, IsSomeAnd, slice_get, get_or, option_and_then, unwrap_or, refl, sym, ap, ◌∙◌, inl, inr, arith}
 use Rattle.std.specs.Option.{option_map}
 use Rattle.std.proofs.lemmas.Bool.{ne_eqb}
 use Rattle.dj_names.specs.declared.descriptor.Of.{Of}
 use Rattle.dj_names.specs.declared.descriptor.Of.TheVariants as ofs
 use Rattle.dj_names.specs.declared.descriptor.Ty.{Ty}
-use Rattle.dj_names.specs.Types.{class_type, array_type}
-use Rattle.dj_names.specs.Descriptors.{of_text, type_text}
-use Rattle.dj_pool.specs.Pool.{Constant, Utf8, Integer, Float, Long, Double, Class, Text, Field, Method, InterfaceMethod, NameAndType, Handle, MethodType, Dynamic, Hole, constant_at, text_at, text_of, class_text_of, IsClassText, NamesText, IsLinked, IsPool}
-use Rattle.dj_model.specs.Types.{Member}
-use Rattle.dj_model.specs.Instructions.{Named, AField, AMethod, AnInterfaceMethod, Another}
-use Rattle.dj_check.specs.Classes.{class_text_index}
-use Rattle.dj_declared.specs.Files.{type_in, name_in}
-use Rattle.dj_program.specs.Naming.{member_in, named_by, named_at, named_or_another}
+use Rattle.dj_names.specs.trusted.Types.{class_type, array_type}
+use Rattle.dj_names.specs.trusted.Descriptors.{of_text, type_text}
+use Rattle.dj_pool.specs.trusted.Pool.{Constant, Utf8, Integer, Float, Long, Double, Class, Text, Field, Method, InterfaceMethod, NameAndType, Handle, MethodType, Dynamic, Hole, constant_at, text_at, text_of, class_text_of, IsClassText, NamesText, IsLinked, IsPool}
+use Rattle.dj_model.specs.trusted.Types.{Member}
+use Rattle.dj_model.specs.trusted.Instructions.{Named, AField, AMethod, AnInterfaceMethod, Another}
+use Rattle.dj_check.specs.trusted.Classes.{class_text_index}
+use Rattle.dj_declared.specs.trusted.Files.{type_in, name_in}
+use Rattle.dj_program.specs.trusted.Naming.{member_in, named_by, named_at, named_or_another}
 use Rattle.dj_types.specs.Typed.{Typed, text_number, text_of_type, type_number}
 use Rattle.dj_image.specs.Imaged.{Imaged, typed_of}
 use Rattle.dj_image.specs.Operands.{named_class, made_class}

@@ -5,10 +5,10 @@ use Rattle.std.proofs.lemmas.Option.{none-some, same_Some}
 use Rattle.dj_names.specs.declared.descriptor.Base.TheVariants as bases
 use Rattle.dj_names.specs.declared.descriptor.Ty.{Ty}
 use Rattle.dj_names.specs.declared.descriptor.Desc.TheVariants as descs
-use Rattle.dj_names.specs.Types.{same_name, base_type, base_array, array_type}
-use Rattle.dj_model.specs.Instructions.{Instruction, Nop, PushText, CheckCast}
-use Rattle.dj_model.specs.Program as programs
-use Rattle.dj_model.specs.Program.{Program, Class, Method, Field, Body, Code, Runs}
+use Rattle.dj_names.specs.trusted.Types.{same_name, base_type, base_array, array_type}
+use Rattle.dj_model.specs.trusted.Instructions.{Instruction, Nop, PushText, CheckCast}
+use Rattle.dj_model.specs.trusted.Program as programs
+use Rattle.dj_model.specs.trusted.Program.{Program, Class, Method, Field, Body, Code, Runs}
 use Rattle.dj_types.specs.Typed.{is_known_of, arrays_rise}
 use Rattle.dj_image.specs.Sources.{class_of_source}
 use Rattle.dj_image.specs.Imaged.{Imaged, UsesType, IsUsed, IsPartOf, IsNumberedArray, IsPushed, IsValue, IsNumbered}

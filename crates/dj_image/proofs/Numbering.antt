@@ -1,4 +1,4 @@
--- What is told of classes and arrays by their numbers, as types.
+-- What is known of classes and arrays by their numbers, as types.
 use Rattle.std.proofs.Common.{◌≡◌, ℕ, zero, suc, ◌+◌, ◌-◌, ◌<◌, ◌≤◌, ◌&&◌, Bool, true, false, cond, List, [], ◌∷◌, ◌++◌, map, length, Option, Some, None, unwrap_or, option_and_then, refl, sym, ap, subst, ◌∙◌, arith, inl, inr, Contains, IsTrue, IfSome}
 use Rattle.std.specs.Prelude.{if◌then◌else◌, nat_eq, nat_le, slice_get}
 use Rattle.std.specs.Option.{option_map}
@@ -10,12 +10,12 @@ use Rattle.dj_names.specs.declared.descriptor.Base.TheVariants as bases
 use Rattle.dj_names.specs.declared.descriptor.Of.{Of}
 use Rattle.dj_names.specs.declared.descriptor.Of.TheVariants as ofs
 use Rattle.dj_names.specs.declared.descriptor.Ty.{Ty}
-use Rattle.dj_names.specs.Descriptors.{of_text, type_text}
-use Rattle.dj_names.specs.Library.{stop_class}
-use Rattle.dj_names.specs.Types.{Name, same_name, class_type, base_array, component_type, same_of, same_type}
-use Rattle.dj_model.specs.Natives.{class_name}
-use Rattle.dj_model.specs.Program.{Program, Class, class_at, superclass_of}
-use Rattle.dj_model.specs.Types.{Prefix, string_name}
+use Rattle.dj_names.specs.trusted.Descriptors.{of_text, type_text}
+use Rattle.dj_names.specs.trusted.Library.{stop_class}
+use Rattle.dj_names.specs.trusted.Types.{Name, same_name, class_type, base_array, component_type, same_of, same_type}
+use Rattle.dj_model.specs.trusted.Natives.{class_name}
+use Rattle.dj_model.specs.trusted.Program.{Program, Class, class_at, superclass_of}
+use Rattle.dj_model.specs.trusted.Types.{Prefix, string_name}
 use Rattle.dj_classes.specs.Tables.{name_of, name_at, class_number}
 use Rattle.dj_classes.proofs.Numbered.{class_at-at, class_number-none, class_number-within, name_at-number}
 use Rattle.dj_classes.proofs.Orders.{names_from_same, same_from_names}

@@ -1,7 +1,7 @@
 -- The constant of an index among kept entries.
 use Rattle.std.proofs.Common.{◌≡◌, ℕ, zero, suc, ◌-◌, ◌<◌, ◌≤◌, List, length, map, get_or, Some, None, refl, arith}
 use Rattle.std.proofs.lemmas.Option.{slice_get-map, slice_get-get_or, slice_get_past}
-use Rattle.dj_pool.specs.Pool.{constant_at}
+use Rattle.dj_pool.specs.trusted.Pool.{constant_at}
 use Rattle.dj_image.specs.declared.owned.OwnedEntry.{OwnedEntry}
 use Rattle.dj_image.specs.Owned.{constant_of_owned}
 

@@ -7,16 +7,16 @@ use Rattle.dj_names.specs.declared.descriptor.Base.TheVariants as bases
 use Rattle.dj_names.specs.declared.descriptor.Desc.{Desc}
 use Rattle.dj_names.specs.declared.descriptor.Desc.TheVariants as descs
 use Rattle.dj_names.specs.declared.descriptor.Ty.{Ty}
-use Rattle.dj_names.specs.DescReading.{dims_read, name_read, class_read, of_read, type_read, params_read, field_read, return_read, method_read, desc_read}
-use Rattle.dj_names.specs.Descriptors.{desc_text}
-use Rattle.dj_names.specs.NameReading.{reads_class_name}
-use Rattle.dj_names.specs.Types.{Name, same_desc, base_type}
-use Rattle.dj_pool.specs.Pool.{Constant, Utf8, Class}
-use Rattle.dj_model.specs.Program.{Program}
-use Rattle.dj_model.specs.Program as programs
-use Rattle.dj_declared.specs.Files.{desc_in, type_in}
+use Rattle.dj_names.specs.trusted.DescReading.{dims_read, name_read, class_read, of_read, type_read, params_read, field_read, return_read, method_read, desc_read}
+use Rattle.dj_names.specs.trusted.Descriptors.{desc_text}
+use Rattle.dj_names.specs.trusted.NameReading.{reads_class_name}
+use Rattle.dj_names.specs.trusted.Types.{Name, same_desc, base_type}
+use Rattle.dj_pool.specs.trusted.Pool.{Constant, Utf8, Class}
+use Rattle.dj_model.specs.trusted.Program.{Program}
+use Rattle.dj_model.specs.trusted.Program as programs
+use Rattle.dj_declared.specs.trusted.Files.{desc_in, type_in}
 use Rattle.dj_classes.specs.Tables.{name_at, class_number}
-use Rattle.dj_program.specs.Naming.{named_at, named_by}
+use Rattle.dj_program.specs.trusted.Naming.{named_at, named_by}
 use Rattle.dj_types.specs.Typed.{Typed, begins_array}
 use Rattle.dj_image.specs.Sources.{class_of_source}
 use Rattle.dj_image.specs.Imaged.{Imaged}

@@ -4,14 +4,14 @@ use Rattle.std.specs.Prelude.{slice_get, get_or}
 use Rattle.std.specs.Option.{option_map}
 use Rattle.std.proofs.lemmas.List.{length-map}
 use Rattle.std.proofs.lemmas.Option.{slice_get-map}
-use Rattle.dj_pool.specs.Pool.{Constant}
-use Rattle.dj_names.specs.Types.{Name}
-use Rattle.dj_model.specs.Program as programs
-use Rattle.dj_model.specs.Program.{Program, Class, Method, Field, has_code}
-use Rattle.dj_model.specs.Linking.{FoundMethod, FoundField}
+use Rattle.dj_pool.specs.trusted.Pool.{Constant}
+use Rattle.dj_names.specs.trusted.Types.{Name}
+use Rattle.dj_model.specs.trusted.Program as programs
+use Rattle.dj_model.specs.trusted.Program.{Program, Class, Method, Field, has_code}
+use Rattle.dj_model.specs.trusted.Linking.{FoundMethod, FoundField}
 use Rattle.dj_classes.specs.Tables.{methods_at, fields_at}
 use Rattle.dj_shape.specs.Pools.{ArePoolKinds}
-use Rattle.dj_program.specs.Codes.{CodeParts}
+use Rattle.dj_program.specs.trusted.Codes.{CodeParts}
 use Rattle.dj_program.specs.Views.{parts_of}
 use Rattle.dj_program.specs.declared.code.MethodCode.{MethodCode}
 use Rattle.dj_types.specs.Members.{methods_in, fields_in, all_methods, all_fields, methods_before, fields_before}
@@ -34,7 +34,7 @@ rest_get (x ∷ xs) ys n =
     let e : length (x ∷ xs) + n ≡ suc (length xs + n) = omega arith in
     ap (λ (k : ℕ). slice_get (x ∷ (xs ++ ys)) k) e ∙ rest_get xs ys n
 
--- past a front of so many
+-- past a prefix of this many
 past_get : {A : Type 0} (xs ys : List A) (count n : ℕ) (x : A) → length xs ≡ count → slice_get ys n ≡ Some x → slice_get (xs ++ ys) (count + n) ≡ Some x
 past_get xs ys count n x e there = ap (λ (k : ℕ). slice_get (xs ++ ys) (k + n)) (sym e) ∙ (rest_get xs ys n ∙ there)
 

@@ -8,13 +8,13 @@ use Rattle.dj_names.specs.declared.descriptor.Base.TheVariants as bases
 use Rattle.dj_names.specs.declared.descriptor.Of.{Of}
 use Rattle.dj_names.specs.declared.descriptor.Of.TheVariants as ofs
 use Rattle.dj_names.specs.declared.descriptor.Ty.{Ty}
-use Rattle.dj_names.specs.Types.{base_array, same_name}
+use Rattle.dj_names.specs.trusted.Types.{base_array, same_name}
 use Rattle.dj_ops.specs.declared.instruction.Instr.{Instr}
-use Rattle.dj_pool.specs.Pool.{Constant, IsPool}
-use Rattle.dj_model.specs.Program.{Program, Class, Method, Code, Body, Runs, has_code}
-use Rattle.dj_model.specs.Instructions.{Instruction}
-use Rattle.dj_program.specs.Naming.{instruction_in}
-use Rattle.dj_program.specs.Codes.{code_in}
+use Rattle.dj_pool.specs.trusted.Pool.{Constant, IsPool}
+use Rattle.dj_model.specs.trusted.Program.{Program, Class, Method, Code, Body, Runs, has_code}
+use Rattle.dj_model.specs.trusted.Instructions.{Instruction}
+use Rattle.dj_program.specs.trusted.Naming.{instruction_in}
+use Rattle.dj_program.specs.trusted.Codes.{code_in}
 use Rattle.dj_program.specs.Views.{parts_of}
 use Rattle.dj_program.specs.declared.code.MethodCode.{MethodCode}
 use Rattle.dj_classes.specs.Tables.{class_number}
@@ -25,7 +25,7 @@ use Rattle.dj_image.specs.Sources.{with_code, with_codes, class_of_source, progr
 use Rattle.dj_image.specs.Parts.{source_of, sources_of, FitMethods, FitClass, FitClasses}
 use Rattle.dj_image.specs.Imaged.{UsesType, IsUsed, IsPartOf, IsNumberedArray}
 use Rattle.dj_image.specs.Uses.{use_in, used_type, code_uses, class_uses, class_types, used_types}
-use Rattle.dj_image.specs.Rows.{IsRow, known_types, wholes_of}
+use Rattle.dj_image.specs.ArrayRows.{IsRow, known_types, wholes_of}
 use Rattle.dj_image.proofs.Members.{member_first, member_later, member_none, member_cases, member_of_filter_map, member_filter_map, member_of_flat_map, member_flat_map, member_of_filter, member_filter}
 use Rattle.dj_image.proofs.Used.{uses_are}
 use Rattle.dj_image.proofs.ClassTexts.{typed}

@@ -6,13 +6,13 @@ use Rattle.dj_names.specs.declared.descriptor.Base.{Base}
 use Rattle.dj_names.specs.declared.run.Element.{Element}
 use Rattle.dj_ops.specs.declared.instruction.Instr.{Instr}
 use Rattle.dj_ops.specs.declared.instruction.Instr.TheVariants as instrs
-use Rattle.dj_pool.specs.Pool.{Constant, Utf8, Integer, Float, Long, Double, Class, Text, Field, Method, InterfaceMethod, NameAndType, Handle, MethodType, Dynamic, Hole, constant_at, class_text_of}
-use Rattle.dj_model.specs.Types.{Member}
-use Rattle.dj_model.specs.Instructions.{Named, Nothing, AnInt, ALong, AText, AClass, AField, AMethod, AnInterfaceMethod, Another, Instruction, PushText, Other}
-use Rattle.dj_model.specs.Opcodes.{Row, row_does, rows_of, constant_rows, store_rows, stack_rows, number_rows, bit_rows, last_rows, simple, local_rows, operand_does, jump_rows, literal, member, member_does, field_rows, method_rows, interface_method_rows, interface_call, class_use as class_instruction, new_array, array_rows, instruction_of}
-use Rattle.dj_model.specs.Program.{Program}
-use Rattle.dj_declared.specs.Files.{name_in}
-use Rattle.dj_program.specs.Naming.{units_in, named_by, named_at, named_or_another, member_in, instruction_in}
+use Rattle.dj_pool.specs.trusted.Pool.{Constant, Utf8, Integer, Float, Long, Double, Class, Text, Field, Method, InterfaceMethod, NameAndType, Handle, MethodType, Dynamic, Hole, constant_at, class_text_of}
+use Rattle.dj_model.specs.trusted.Types.{Member}
+use Rattle.dj_model.specs.trusted.Instructions.{Named, Nothing, AnInt, ALong, AText, AClass, AField, AMethod, AnInterfaceMethod, Another, Instruction, PushText, Other}
+use Rattle.dj_model.specs.trusted.Opcodes.{Row, row_does, rows_of, constant_rows, store_rows, stack_rows, number_rows, bit_rows, last_rows, simple, local_rows, operand_does, jump_rows, literal, member, member_does, field_rows, method_rows, interface_method_rows, interface_call, class_use as class_instruction, new_array, array_rows, instruction_of}
+use Rattle.dj_model.specs.trusted.Program.{Program}
+use Rattle.dj_declared.specs.trusted.Files.{name_in}
+use Rattle.dj_program.specs.trusted.Naming.{units_in, named_by, named_at, named_or_another, member_in, instruction_in}
 use Rattle.dj_image.specs.declared.parts.ClassParts.{ClassParts}
 use Rattle.dj_image.specs.declared.uses.Use.{Use}
 use Rattle.dj_image.specs.declared.uses.Use.TheVariants as uses

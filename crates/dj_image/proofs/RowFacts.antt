@@ -19,10 +19,10 @@ use Rattle.dj_names.specs.declared.descriptor.Base.TheVariants as bases
 use Rattle.dj_names.specs.declared.descriptor.Of.{Of}
 use Rattle.dj_names.specs.declared.descriptor.Of.TheVariants as ofs
 use Rattle.dj_names.specs.declared.descriptor.Ty.{Ty}
-use Rattle.dj_names.specs.Types.{Name}
-use Rattle.dj_names.specs.Descriptors.{of_text, type_text}
+use Rattle.dj_names.specs.trusted.Types.{Name}
+use Rattle.dj_names.specs.trusted.Descriptors.{of_text, type_text}
 use Rattle.dj_image.specs.Imaged.{IsPartOf}
-use Rattle.dj_image.specs.Rows.{Rows, dims_in, most_at, has_row, IsKeyed, IsRow, AreRows, brackets}
+use Rattle.dj_image.specs.ArrayRows.{ArrayRows, dims_in, most_at, has_row, IsKeyed, IsRow, AreRows, brackets}
 use Rattle.dj_image.proofs.ClassTexts.{type_brackets, type_rest, typed}
 
 -- ---- a descriptor is that of one type
@@ -110,7 +110,7 @@ keyed_more : (es : Entries) (key : Vec ℕ) (v : Ty) → AllByRecursion IsKeyed 
 keyed_more [] key v all own = (own, tt)
 keyed_more (e ∷ es) key v all own = keyed_by e es key v (order key e.0) refl all own (keyed_more es key v all.1 own)
 
-pub keyed_now : (old new : Rows) (key : Vec ℕ) (v : Ty) (of : Of) → AllByRecursion IsKeyed old.entries → 1 ≤ v.dims → v.dims ≤ 255 → key.items ≡ of_text of → v.of ≡ of → new.entries ≡ insert_entry order old.entries key v → AllByRecursion IsKeyed new.entries
+pub keyed_now : (old new : ArrayRows) (key : Vec ℕ) (v : Ty) (of : Of) → AllByRecursion IsKeyed old.entries → 1 ≤ v.dims → v.dims ≤ 255 → key.items ≡ of_text of → v.of ≡ of → new.entries ≡ insert_entry order old.entries key v → AllByRecursion IsKeyed new.entries
 keyed_now old new key v of all some few key_is v_is is =
     subst (λ (es : Entries). AllByRecursion IsKeyed es) (sym is) (keyed_more old.entries key v all (ap of_text v_is ∙ sym key_is, some, few))
 
@@ -140,12 +140,12 @@ both true true p q = refl
 both true false p q = q
 both false b p q = p
 
-pub has_parts : (rows : Rows) (ty : Ty) → IsTrue (has_row rows ty) → (1 ≤ ty.dims) × (ty.dims ≤ most_at rows (of_text ty.of))
+pub has_parts : (rows : ArrayRows) (ty : Ty) → IsTrue (has_row rows ty) → (1 ≤ ty.dims) × (ty.dims ≤ most_at rows (of_text ty.of))
 has_parts rows ty t = let parts = and_parts (nat_le 1 ty.dims) (nat_le ty.dims (most_at rows (of_text ty.of))) t in (le_from 1 ty.dims parts.0, le_from ty.dims (most_at rows (of_text ty.of)) parts.1) where
   le_from : (a b : ℕ) → nat_le a b ≡ true → a ≤ b
   le_from a b e = grind (arith, nat_tests)
 
-pub has_from : (rows : Rows) (ty : Ty) (most : ℕ) → most ≡ most_at rows (of_text ty.of) → 1 ≤ ty.dims → ty.dims ≤ most → IsTrue (has_row rows ty)
+pub has_from : (rows : ArrayRows) (ty : Ty) (most : ℕ) → most ≡ most_at rows (of_text ty.of) → 1 ≤ ty.dims → ty.dims ≤ most → IsTrue (has_row rows ty)
 has_from rows ty most is some within = both (nat_le 1 ty.dims) (nat_le ty.dims (most_at rows (of_text ty.of))) (le_to 1 ty.dims some) (le_to ty.dims (most_at rows (of_text ty.of)) (omega (arith, is, within))) where
   le_to : (a b : ℕ) → a ≤ b → nat_le a b ≡ true
   le_to a b le = grind (arith, nat_tests)
@@ -164,7 +164,7 @@ row_last wholes whole ty part = (whole, Contains-push wholes whole, part)
 least : (a b c d : ℕ) → a ≤ b → a ≤ 255 → c ≡ min b 255 → c ≤ d → a ≤ d
 least a b c d within few is le = grind (arith, is)
 
-pub no_rows : (rows : Rows) → rows.entries ≡ [] → AreRows [] rows
+pub no_rows : (rows : ArrayRows) → rows.entries ≡ [] → AreRows [] rows
 no_rows rows is = record { keyed = subst (λ (es : Entries). AllByRecursion IsKeyed es) (sym is) tt; each = each } where
   each : (ty : Ty) → IsTrue (has_row rows ty) ↔ IsRow [] ty
   each ty = (
@@ -178,7 +178,7 @@ pub at_most : (dims whole : ℕ) → dims ≡ min whole 255 → dims ≤ 255
 at_most dims whole is = grind (arith, is)
 
 -- what has a row of as many dimensions has all its rows
-pub rows_stay : (wholes : List Ty) (whole : Ty) (rows : Rows) (dims : ℕ) (text : Name) → text ≡ of_text whole.of → dims ≡ min whole.dims 255 → dims ≤ most_at rows text → AreRows wholes rows → AreRows (wholes ++ whole ∷ []) rows
+pub rows_stay : (wholes : List Ty) (whole : Ty) (rows : ArrayRows) (dims : ℕ) (text : Name) → text ≡ of_text whole.of → dims ≡ min whole.dims 255 → dims ≤ most_at rows text → AreRows wholes rows → AreRows (wholes ++ whole ∷ []) rows
 rows_stay wholes whole rows dims text text_is dims_is le are = record { keyed = are.keyed; each = each } where
   most_is : (ty : Ty) → ty.of ≡ whole.of → most_at rows text ≡ most_at rows (of_text ty.of)
   most_is ty same = ap (most_at rows) (text_is ∙ ap of_text (sym same))
@@ -193,7 +193,7 @@ rows_stay wholes whole rows dims text text_is dims_is le are = record { keyed = 
   )
 
 -- a row of more dimensions
-pub rows_more : (wholes : List Ty) (whole : Ty) (old new : Rows) (key : Vec ℕ) (v : Ty) → key.items ≡ of_text whole.of → v.dims ≡ min whole.dims 255 → (v.dims ≤ most_at old key.items → ⊥)
+pub rows_more : (wholes : List Ty) (whole : Ty) (old new : ArrayRows) (key : Vec ℕ) (v : Ty) → key.items ≡ of_text whole.of → v.dims ≡ min whole.dims 255 → (v.dims ≤ most_at old key.items → ⊥)
     → found_in new.entries key.items ≡ Some v → new.entries ≡ insert_entry order old.entries key v → AllByRecursion IsKeyed new.entries → AreRows wholes old → AreRows (wholes ++ whole ∷ []) new
 rows_more wholes whole old new key v key_is dims_is more own is keyed are = record { keyed = keyed; each = each } where
   most_own : (text : Name) → text ≡ key.items → v.dims ≡ most_at new text

@@ -5,13 +5,13 @@ use Rattle.std.specs.Option.{option_map}
 use Rattle.std.proofs.lemmas.Option.{none-some, same_Some}
 use Rattle.dj_names.specs.declared.descriptor.Desc.TheVariants as described_as
 use Rattle.dj_ops.specs.declared.instruction.Instr.TheVariants as instrs
-use Rattle.dj_model.specs.Kinds.{Signature, call_signature}
-use Rattle.dj_model.specs.Linking.{FoundMethod}
-use Rattle.dj_model.specs.Program as programs
-use Rattle.dj_model.specs.Program.{Abstract, Runs}
+use Rattle.dj_model.specs.trusted.Kinds.{Signature, call_signature}
+use Rattle.dj_model.specs.trusted.Linking.{FoundMethod}
+use Rattle.dj_model.specs.trusted.Program as programs
+use Rattle.dj_model.specs.trusted.Program.{Abstract, Runs}
 use Rattle.dj_classes.specs.declared.place.Place.{Place}
-use Rattle.dj_declared.specs.Files.{no_code}
-use Rattle.dj_program.specs.Codes.{CodeParts, code_in}
+use Rattle.dj_declared.specs.trusted.Files.{no_code}
+use Rattle.dj_program.specs.trusted.Codes.{CodeParts, code_in}
 use Rattle.dj_program.specs.Views.{parts_of}
 use Rattle.dj_program.specs.declared.code.MethodCode.{MethodCode}
 use Rattle.dj_shape.specs.Kept.{KeptKinds}
@@ -98,7 +98,7 @@ module _ (s : ShapeParts) where
   unfolding code_in
   other_locals is are = let e : 2 ≡ s.code.now.max_locals = ap locals_of (body_is are) in omega (arith, is, e)
 
-  -- and what is kept at the index of its descriptor is what the descriptor tells
+  -- and what is kept at the index of its descriptor is what the descriptor says
   signature_left_out : call_at s.kinds.now.calls s.desc ≡ None → AreShapeParts image 1 s → ⊥
   unfolding all_methods class_of_source
   signature_left_out none are =
@@ -106,7 +106,7 @@ module _ (s : ShapeParts) where
       ap signature_of are.there in
       none-some (record { parameters = []; result = None }) (sym none ∙ sym (are.kinds.calls s.desc are.desc.spelled) ∙ ap call_signature are.desc.is ∙ sym own)
 
-  -- none of an abstract method, nor past the last one; and of the method with code nothing isn't told
+  -- none of an abstract method, nor past the last one; and of the method with code they may not be left out
   of_abstract : AreShapeParts image 0 s → ⊥
   unfolding all_methods class_of_source
   of_abstract are = let e : Abstract ≡ Runs (code_in are.pool (parts_of s.code.now)) = ap body_of are.there ∙ are.runs in absurd cc

@@ -1,14 +1,14 @@
--- What rule 19, SHAPE, is judged by of the method at a place is what is told by its number.
+-- What rule 19, SHAPE, is judged by of the method at a place is what is answered for its number.
 use Rattle.std.proofs.Common.{◌≡◌, ℕ, List, Option, Some, None, refl, sym, ap, ◌∙◌, subst, get_or, IsTrue}
 use Rattle.std.specs.Prelude.{slice_get, option_and_then}
 use Rattle.std.specs.Option.{option_map}
 use Rattle.std.specs.Global.{Vec}
 use Rattle.std.proofs.lemmas.Option.{same_Some}
-use Rattle.dj_names.specs.Types.{Name}
-use Rattle.dj_model.specs.Program.{Body, Method, Runs, has_code}
-use Rattle.dj_model.specs.Linking.{FoundMethod}
+use Rattle.dj_names.specs.trusted.Types.{Name}
+use Rattle.dj_model.specs.trusted.Program.{Body, Method, Runs, has_code}
+use Rattle.dj_model.specs.trusted.Linking.{FoundMethod}
 use Rattle.dj_classes.specs.declared.place.Place.{Place}
-use Rattle.dj_program.specs.Codes.{code_in}
+use Rattle.dj_program.specs.trusted.Codes.{code_in}
 use Rattle.dj_program.specs.Views.{parts_of}
 use Rattle.dj_program.specs.declared.code.MethodCode.{MethodCode}
 use Rattle.dj_shape.specs.Pools.{ArePoolKinds}

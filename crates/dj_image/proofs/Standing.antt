@@ -1,22 +1,22 @@
--- A program with its code and constants differs from the one without them in these only, so what is told of the one is told of the other.
+-- A program with its code and constants differs from the one without them in these only, so what holds of the one holds of the other.
 use Rattle.std.proofs.Common.{◌≡◌, ℕ, ◌<◌, List, [], ◌∷◌, map, length, Option, Some, None, refl, sym, ap, ◌∙◌, subst, IsTrue}
 use Rattle.std.proofs.lemmas.List.{length-map}
 use Rattle.std.specs.Prelude.{slice_get, nat_lt, if◌then◌else◌, unwrap_or, ◌+◌, ◌++◌}
 use Rattle.std.specs.Option.{option_map}
 use Rattle.std.specs.Global.{Vec}
-use Rattle.dj_pool.specs.Pool.{Constant}
+use Rattle.dj_pool.specs.trusted.Pool.{Constant}
 use Rattle.dj_names.specs.declared.run.Raised.{Raised}
-use Rattle.dj_names.specs.Types.{Name}
-use Rattle.dj_names.specs.Values.{raised_class}
+use Rattle.dj_names.specs.trusted.Types.{Name}
+use Rattle.dj_names.specs.trusted.Values.{raised_class}
 use Rattle.dj_names.specs.declared.descriptor.Ty.{Ty}
-use Rattle.dj_model.specs.Types.{Prefix}
-use Rattle.dj_model.specs.Program as programs
-use Rattle.dj_model.specs.Program.{Program, Class, Method, Field, Body, Abstract, Native, Runs, has_code}
-use Rattle.dj_model.specs.Linking.{FoundMethod, FoundField, place_of}
+use Rattle.dj_model.specs.trusted.Types.{Prefix}
+use Rattle.dj_model.specs.trusted.Program as programs
+use Rattle.dj_model.specs.trusted.Program.{Program, Class, Method, Field, Body, Abstract, Native, Runs, has_code}
+use Rattle.dj_model.specs.trusted.Linking.{FoundMethod, FoundField, place_of}
 use Rattle.dj_declared.specs.Files.{bare_method, bare_field, bare_class}
 use Rattle.dj_classes.specs.Tables.{name_at, class_number, methods_at, fields_at}
 use Rattle.dj_linking.specs.Linked.{Linked}
-use Rattle.dj_program.specs.Codes.{CodeParts}
+use Rattle.dj_program.specs.trusted.Codes.{CodeParts}
 use Rattle.dj_program.specs.Views.{parts_of}
 use Rattle.dj_program.specs.declared.code.MethodCode.{MethodCode}
 use Rattle.dj_types.specs.declared.types.MemberOf.{MemberOf}

@@ -5,12 +5,13 @@ use Rattle.std.specs.Global.{Vec}
 use Rattle.std.proofs.lemmas.Bool.{false≢true}
 use Rattle.std.proofs.lemmas.Option.{none-some, same_Some}
 use Rattle.dj_names.specs.declared.descriptor.Base.TheVariants as bases
-use Rattle.dj_names.specs.Tests.{units_read}
-use Rattle.dj_names.specs.Types.{Name, base_array, sandbox_prefix}
-use Rattle.dj_names.specs.UnitReading.{unit_read, long_read, two_read}
-use Rattle.dj_model.specs.Program.{Class, Method, Field}
-use Rattle.dj_pool.specs.Pool.{Constant, Utf8, Integer, Text}
-use Rattle.dj_program.specs.Naming.{units_in, named_at, named_by}
+use Rattle.dj_names.specs.trusted.Tests.{units_read}
+use Rattle.dj_names.specs.trusted.Types.{Name, base_array}
+use Rattle.dj_names.specs.Types.{sandbox_prefix}
+use Rattle.dj_names.specs.trusted.UnitReading.{unit_read, long_read, two_read}
+use Rattle.dj_model.specs.trusted.Program.{Class, Method, Field}
+use Rattle.dj_pool.specs.trusted.Pool.{Constant, Utf8, Integer, Text}
+use Rattle.dj_program.specs.trusted.Naming.{units_in, named_at, named_by}
 use Rattle.dj_program.specs.declared.code.MethodCode.{MethodCode}
 use Rattle.dj_types.specs.Typed.{Typed}
 use Rattle.dj_image.specs.declared.operand.Operand.{Operand}
@@ -163,7 +164,7 @@ module _ (image : Imaged) (p q : ClassParts) (t u : Vec Operand) (p_is : p.value
   constants_too_many : AreConstantTables image (p ∷ []) (t ∷ u ∷ []) → ⊥
   constants_too_many are = are.1
 
--- what the file tells isn't left out
+-- what the file says isn't left out
 constant_left_out : (image : Imaged) (p : ClassParts) (t : Vec Operand) → p.values.items ≡ Some (begins.Int (pos 5)) ∷ [] → t.items ≡ operands.Nothing ∷ [] → AreConstantTables image (p ∷ []) (t ∷ []) → ⊥
 constant_left_out image p t p_is t_is are =
     let e : operands.Nothing ≡ operands.Int (pos 5) = ap first_of (sym t_is ∙ are.0 ∙ ap (map (field_operand_of image p.pool)) p_is) in
@@ -180,7 +181,7 @@ other_class = codes "A"
 abbrev string_alone : Typed
 string_alone = record { program = bare string_class ∷ []; prefix = []; arrays = base_array bases.Byte ∷ base_array bases.Char ∷ [] }
 
--- the classes are beside their parts, and the texts are those that are told
+-- the classes are beside their parts, and the texts are those given
 imaged : (p : ClassParts) → imaged_of string_alone (p ∷ []) ((115 ∷ []) ∷ []) ≡ record { sources = sources_of string_alone.program (p ∷ []); prefix = []; arrays = base_array bases.Byte ∷ base_array bases.Char ∷ []; texts = (115 ∷ []) ∷ [] }
 imaged p = refl
 
@@ -275,7 +276,7 @@ module _ (codes : Vec (Option MethodCode)) (descs : Vec ℕ) (values : Vec (Opti
   no_string_under_prefix : Are (record string_alone { prefix = sandbox_prefix }) (own ∷ []) → ⊥
   no_string_under_prefix are = false≢true are.string
 
--- nor where a text that has a number is told as one that has none, of a field or of a constant
+-- nor where a text that has a number is recorded as one that has none, of a field or of a constant
 abbrev s_texts : List (List ℕ)
 s_texts = (115 ∷ []) ∷ []
 

@@ -6,28 +6,28 @@ use Rattle.dj_names.specs.declared.descriptor.Base.TheVariants as bases
 use Rattle.dj_names.specs.declared.descriptor.Desc.TheVariants as descs
 use Rattle.dj_names.specs.declared.run.Value.{Value}
 use Rattle.dj_names.specs.declared.run.Value.TheVariants as values
-use Rattle.dj_names.specs.Heaps.{field_bits}
-use Rattle.dj_names.specs.DescReading.{dims_read, name_read, class_read, of_read, type_read, params_read, field_read, return_read, method_read, desc_read}
-use Rattle.dj_names.specs.NameReading.{reads_class_name}
-use Rattle.dj_names.specs.Tests.{units_read}
-use Rattle.dj_names.specs.Types.{class_type, base_type, base_array, array_type}
-use Rattle.dj_names.specs.UnitReading.{unit_read, long_read, two_read}
+use Rattle.dj_names.specs.trusted.Heaps.{field_bits}
+use Rattle.dj_names.specs.trusted.DescReading.{dims_read, name_read, class_read, of_read, type_read, params_read, field_read, return_read, method_read, desc_read}
+use Rattle.dj_names.specs.trusted.NameReading.{reads_class_name}
+use Rattle.dj_names.specs.trusted.Tests.{units_read}
+use Rattle.dj_names.specs.trusted.Types.{class_type, base_type, base_array, array_type}
+use Rattle.dj_names.specs.trusted.UnitReading.{unit_read, long_read, two_read}
 use Rattle.dj_ops.specs.declared.instruction.Instr.{Instr}
 use Rattle.dj_ops.specs.declared.instruction.Instr.TheVariants as instrs
 use Rattle.dj_labels.specs.declared.labelled.Protected.{Protected}
-use Rattle.dj_pool.specs.Pool.{Constant, Utf8, Integer, Long, Hole, Class, Text, Field, Method, InterfaceMethod, NameAndType}
-use Rattle.dj_model.specs.Types.{Member}
-use Rattle.dj_model.specs.Instructions.{Named, Nothing, AnInt, ALong, AText, AClass, AField, AMethod, AnInterfaceMethod, Another}
-use Rattle.dj_model.specs.Opcodes.{instruction_of, array_rows}
-use Rattle.dj_model.specs.Program as programs
-use Rattle.dj_model.specs.Program.{Runs}
-use Rattle.dj_model.specs.Linking.{FoundField, most_classes, chain_of, interfaces_from, interfaces_above, field_order, resolve_method, resolve_field, static_place}
-use Rattle.dj_model.specs.State.{State, Terms}
-use Rattle.dj_model.specs.Initialisation.{Initialised, Ready, with_static, with_constants}
-use Rattle.dj_check.specs.Instructions.{index_of}
-use Rattle.dj_declared.specs.Files.{desc_in, type_in, no_code}
-use Rattle.dj_program.specs.Naming.{named_at, named_by, named_if, units_in}
-use Rattle.dj_program.specs.Codes.{CodeParts, catches_in}
+use Rattle.dj_pool.specs.trusted.Pool.{Constant, Utf8, Integer, Long, Hole, Class, Text, Field, Method, InterfaceMethod, NameAndType}
+use Rattle.dj_model.specs.trusted.Types.{Member}
+use Rattle.dj_model.specs.trusted.Instructions.{Named, Nothing, AnInt, ALong, AText, AClass, AField, AMethod, AnInterfaceMethod, Another}
+use Rattle.dj_model.specs.trusted.Opcodes.{instruction_of, array_rows}
+use Rattle.dj_model.specs.trusted.Program as programs
+use Rattle.dj_model.specs.trusted.Program.{Runs}
+use Rattle.dj_model.specs.trusted.Linking.{FoundField, most_classes, chain_of, interfaces_from, interfaces_above, field_order, resolve_method, resolve_field, static_place}
+use Rattle.dj_model.specs.trusted.State.{State, Terms}
+use Rattle.dj_model.specs.trusted.Initialisation.{Initialised, Ready, with_static, with_constants}
+use Rattle.dj_check.specs.trusted.Instructions.{index_of}
+use Rattle.dj_declared.specs.trusted.Files.{desc_in, type_in, no_code}
+use Rattle.dj_program.specs.trusted.Naming.{named_at, named_by, named_if, units_in}
+use Rattle.dj_program.specs.trusted.Codes.{CodeParts, catches_in}
 use Rattle.dj_types.specs.Members.{all_methods, all_fields}
 use Rattle.dj_image.specs.declared.operand.Operand.{Operand}
 use Rattle.dj_image.specs.declared.operand.Operand.TheVariants as operands
@@ -181,7 +181,7 @@ base_texts = refl
 
 -- ---- a class: a method m, an instance field x and a static one y, each with a constant
 
--- 2 the class A, 6 its field x, 10 and 11 its method m, as one of a class and as one of an interface; 13 a class that isn't there, 14, 15 and 16 the same of it;
+-- 2 the class A, 6 its field x, 10 and 11 its method m, as one of a class and as one of an interface; 13 a class that isn't there, 14, 15 and 16 the same for it;
 -- 17 an int, 19 a text and 21 one without a number, 22 and 23 a long, 25 the arrays of A, and 27 those of longs, which have no number
 pool : List Constant
 pool =
@@ -228,7 +228,7 @@ source = record { class = class_a; pool = pool; codes = Some parts ∷ []; value
 image : Imaged
 image = record { sources = source ∷ []; prefix = []; arrays = array_type (class_type (codes "A")) ∷ []; texts = (115 ∷ []) ∷ [] }
 
--- ---- told as what is there, or as unresolved
+-- ---- reported as what is there, or as unresolved
 
 abbrev tell : Instr → Operand
 tell instr = operand_of image instr (named_if pool (index_of instr))
@@ -355,7 +355,7 @@ no_third operand told = none-some told.found told.there
 
 -- ---- rows
 
--- of a row the class is told, also that of a field or a method; of what isn't there, of an int, and of an array without a number none
+-- a row's class is reported, also that of a field or a method; none of what isn't there, of an int, and of an array without a number
 caught : (range : ℕ) (row : Protected) (class : Option ℕ) → slice_get ranges range ≡ Some row → class ≡ option_and_then (named_class image) (catches_in pool row.catch_type) → IsCaughtAt image 0 range class
 unfolding image source all_codes parts
 caught range row class stands is = record { code = record { pool = pool; parts = parts }; own = refl; row = row; stands = stands; is = is }
@@ -377,14 +377,14 @@ rows_catch = (
   caught 7 (row_of 27) None refl refl,
 )
 
--- where none is told, yet a row catches everything by index 0 alone
+-- those rows name something all the same; index 0 alone catches everything
 rows_name : map (catches_in pool) (0 ∷ 2 ∷ 6 ∷ 11 ∷ 14 ∷ 17 ∷ 27 ∷ [])
     ≡ None ∷ Some (AClass (class_type (codes "A"))) ∷ Some (AField x) ∷ Some (AnInterfaceMethod m) ∷ Some (AField (record x { class = class_type (codes "C") })) ∷ Some (AnInt (pos 7))
     ∷ Some (AClass (base_array bases.Long)) ∷ []
 unfolding pool named_by desc_in type_in dims_read name_read class_read of_read type_read params_read field_read return_read method_read desc_read reads_class_name
 rows_name = refl
 
--- what is told of a row is what its index names
+-- what is reported of a row is what its index names
 row_told : (range : ℕ) (row : Protected) (class : Option ℕ) → slice_get ranges range ≡ Some row → IsCaughtAt image 0 range class → class ≡ option_and_then (named_class image) (catches_in pool row.catch_type)
 unfolding image source all_codes parts
 row_told range row class stands told =
@@ -396,7 +396,7 @@ row_told range row class stands told =
     ∙ ap (λ (c : PooledCode). option_and_then (named_class image) (catches_in c.pool told.row.catch_type)) same
     ∙ ap (λ (r : Protected). option_and_then (named_class image) (catches_in pool r.catch_type)) one
 
--- a row of a field's index doesn't name nothing, and one of what isn't there doesn't name a class
+-- a row with a field's index names a class, and one of what isn't there names none
 field_not_left_out : IsCaughtAt image 0 2 None → ⊥
 unfolding image source class_a class_of_source pool ranges named_by desc_in type_in dims_read name_read class_read of_read type_read params_read field_read return_read method_read desc_read reads_class_name
 field_not_left_out told = let e : None ≡ Some 0 = row_told 2 (row_of 6) None refl told in none-some 0 e

@@ -9,15 +9,15 @@ use Rattle.std.proofs.lemmas.Option.{slice_get_past, get_or_from_slice_get}
 use Rattle.dj_names.specs.declared.descriptor.Base.{Base}
 use Rattle.dj_names.specs.declared.descriptor.Ty.{Ty}
 use Rattle.dj_names.specs.declared.run.Element.{Element}
-use Rattle.dj_names.specs.Types.{base_array}
+use Rattle.dj_names.specs.trusted.Types.{base_array}
 use Rattle.dj_ops.specs.declared.instruction.Instr.{Instr}
 use Rattle.dj_ops.specs.declared.instruction.Instr.TheVariants as instrs
-use Rattle.dj_pool.specs.Pool.{Constant, Utf8, Integer, Float, Long, Double, Class, Text, Field, Method, InterfaceMethod, NameAndType, Handle, MethodType, Dynamic, Hole, constant_at}
-use Rattle.dj_model.specs.Types.{Member}
-use Rattle.dj_model.specs.Instructions.{Named, Nothing, AnInt, ALong, AText, AClass, AField, AMethod, AnInterfaceMethod, Another, Instruction, NewArray, Other}
-use Rattle.dj_model.specs.Opcodes.{Row, row_does, rows_of, simple, constant_rows, store_rows, stack_rows, number_rows, bit_rows, last_rows, local_rows, jump_rows, operand_does, literal, field_rows, method_rows, interface_method_rows, member_does, member, interface_call, class_use, array_rows, new_array, instruction_of}
-use Rattle.dj_check.specs.Instructions.{index_of}
-use Rattle.dj_program.specs.Naming.{named_at, named_by, named_if, member_in, named_or_another}
+use Rattle.dj_pool.specs.trusted.Pool.{Constant, Utf8, Integer, Float, Long, Double, Class, Text, Field, Method, InterfaceMethod, NameAndType, Handle, MethodType, Dynamic, Hole, constant_at}
+use Rattle.dj_model.specs.trusted.Types.{Member}
+use Rattle.dj_model.specs.trusted.Instructions.{Named, Nothing, AnInt, ALong, AText, AClass, AField, AMethod, AnInterfaceMethod, Another, Instruction, NewArray, Other}
+use Rattle.dj_model.specs.trusted.Opcodes.{Row, row_does, rows_of, simple, constant_rows, store_rows, stack_rows, number_rows, bit_rows, last_rows, local_rows, jump_rows, operand_does, literal, field_rows, method_rows, interface_method_rows, member_does, member, interface_call, class_use, array_rows, new_array, instruction_of}
+use Rattle.dj_check.specs.trusted.Instructions.{index_of}
+use Rattle.dj_program.specs.trusted.Naming.{named_at, named_by, named_if, member_in, named_or_another}
 use Rattle.dj_types.specs.Typed.{Typed, type_number, text_of_type}
 use Rattle.dj_image.specs.declared.operand.Operand.{Operand}
 use Rattle.dj_image.specs.declared.operand.Operand.TheVariants as operands
@@ -61,7 +61,7 @@ named_entry imaged pool kept table index = elim (within_or_past (length pool + 1
 
 -- ---- methods of classes and of interfaces
 
--- a method is one of an interface just where the test tells so; and there is a constant
+-- a method is one of an interface just where the test says so; and there is a constant
 abbrev IsTagged : Named → Bool → Type 0
 IsTagged Nothing b = ⊥
 IsTagged (AMethod m) b = b ≡ false

@@ -7,11 +7,11 @@ use Rattle.dj_names.specs.declared.descriptor.Ty.{Ty}
 use Rattle.dj_names.specs.declared.descriptor.Of.{Of}
 use Rattle.dj_names.specs.declared.descriptor.Of.TheVariants as ofs
 use Rattle.dj_names.specs.declared.descriptor.Desc.TheVariants as descs
-use Rattle.dj_names.specs.Types.{Name, same_name, same_of, same_type, class_type, base_type, base_array, array_type}
+use Rattle.dj_names.specs.trusted.Types.{Name, same_name, same_of, same_type, class_type, base_type, base_array, array_type}
 use Rattle.dj_ops.specs.declared.instruction.Instr.TheVariants as instrs
-use Rattle.dj_model.specs.Types.{Member}
-use Rattle.dj_model.specs.Instructions.{Nothing, AnInt, ALong, AText, AClass, AField, AMethod, AnInterfaceMethod, Another, Instruction}
-use Rattle.dj_model.specs.Opcodes.{instruction_of, simple}
+use Rattle.dj_model.specs.trusted.Types.{Member}
+use Rattle.dj_model.specs.trusted.Instructions.{Nothing, AnInt, ALong, AText, AClass, AField, AMethod, AnInterfaceMethod, Another, Instruction}
+use Rattle.dj_model.specs.trusted.Opcodes.{instruction_of, simple}
 use Rattle.dj_image.specs.Imaged.{NamesType, UsesType, IsPartOf}
 
 -- ---- what differs
@@ -39,7 +39,7 @@ ints = base_array bases.Int
 abbrev pub longs : Ty
 longs = base_array bases.Long
 
--- arrays of A, of so many dimensions
+-- arrays of A, of this many dimensions
 abbrev pub a_arrays : ℕ → Ty
 a_arrays dims = record { dims = dims; of = ofs.Class (codes "A") }
 

@@ -2,11 +2,11 @@
 use Rattle.std.proofs.Common.{◌≡◌, ◌≢◌, ℕ, zero, suc, ◌<◌, ◌≤◌, ◌^◌, List, [], ◌∷◌, ◌++◌, length, Option, Some, unwrap_or, refl, sym, ap, ◌∙◌, arith}
 use Rattle.std.specs.List.{AllByRecursion}
 use Rattle.std.proofs.lemmas.List.{length-append}
-use Rattle.dj_names.specs.ModifiedUtf8.{unit_text, units_text, Spells}
-use Rattle.dj_names.specs.UnitReading.{unit_read}
-use Rattle.dj_names.specs.Tests.{units_read}
+use Rattle.dj_names.specs.trusted.ModifiedUtf8.{unit_text, units_text, SpellsUnits}
+use Rattle.dj_names.specs.trusted.UnitReading.{unit_read}
+use Rattle.dj_names.specs.trusted.Tests.{units_read}
 use Rattle.dj_names.proofs.UnitLaws.{unit_again, unit_some}
-use Rattle.dj_program.specs.Naming.{units_in}
+use Rattle.dj_program.specs.trusted.Naming.{units_in}
 
 units_step : (n : ℕ) (bytes : List ℕ) (u : ℕ) (rest us : List ℕ) → unit_read bytes ≡ Some (u, rest) → units_read n rest ≡ Some us → units_read (suc n) bytes ≡ Some (u ∷ us)
 unfolding unit_read units_read
@@ -32,7 +32,7 @@ units_long (u ∷ us) fit =
     let others : length us ≤ length (units_text us) = units_long us fit.1 in
     omega (arith, length-append (unit_text u) (units_text us))
 
-pub spelled_in : (text units : List ℕ) → Spells text units → units ≡ units_in text
+pub spelled_in : (text units : List ℕ) → SpellsUnits text units → units ≡ units_in text
 unfolding units_in
 spelled_in text units s =
     let long : length units ≤ length text = omega (arith, units_long units s.units_fit, ap length s.text_is) in

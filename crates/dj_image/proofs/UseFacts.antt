@@ -3,17 +3,17 @@ use Rattle.std.proofs.Common.{◌≡◌, ℕ, true, false, List, [], ◌∷◌, 
 use Rattle.std.specs.List.{flat_map, filter_map}
 use Rattle.std.proofs.lemmas.Option.{none-some, same_Some}
 use Rattle.dj_names.specs.declared.descriptor.Base.TheVariants as bases
-use Rattle.dj_names.specs.DescReading.{dims_read, name_read, class_read, of_read, type_read, params_read, field_read, return_read, method_read, desc_read}
-use Rattle.dj_names.specs.NameReading.{reads_class_name}
-use Rattle.dj_names.specs.Tests.{units_read}
-use Rattle.dj_names.specs.Types.{base_array, array_type}
-use Rattle.dj_names.specs.UnitReading.{unit_read, long_read, two_read}
+use Rattle.dj_names.specs.trusted.DescReading.{dims_read, name_read, class_read, of_read, type_read, params_read, field_read, return_read, method_read, desc_read}
+use Rattle.dj_names.specs.trusted.NameReading.{reads_class_name}
+use Rattle.dj_names.specs.trusted.Tests.{units_read}
+use Rattle.dj_names.specs.trusted.Types.{base_array, array_type}
+use Rattle.dj_names.specs.trusted.UnitReading.{unit_read, long_read, two_read}
 use Rattle.dj_ops.specs.declared.instruction.Instr.{Instr}
 use Rattle.dj_ops.specs.declared.instruction.Instr.TheVariants as instrs
-use Rattle.dj_pool.specs.Pool.{Constant, Utf8, Integer, Class, Text, Field, Method, InterfaceMethod, NameAndType}
-use Rattle.dj_model.specs.Opcodes.{array_rows}
-use Rattle.dj_declared.specs.Files.{desc_in, type_in}
-use Rattle.dj_program.specs.Naming.{units_in}
+use Rattle.dj_pool.specs.trusted.Pool.{Constant, Utf8, Integer, Class, Text, Field, Method, InterfaceMethod, NameAndType}
+use Rattle.dj_model.specs.trusted.Opcodes.{array_rows}
+use Rattle.dj_declared.specs.trusted.Files.{desc_in, type_in}
+use Rattle.dj_program.specs.trusted.Naming.{units_in}
 use Rattle.dj_program.specs.declared.code.MethodCode.{MethodCode}
 use Rattle.dj_image.specs.declared.parts.ClassParts.{ClassParts}
 use Rattle.dj_image.specs.declared.parts.FieldValue.TheVariants as values
@@ -113,7 +113,7 @@ module _ (p : ClassParts) (code : MethodCode) (constants : p.pool ≡ pool) (cod
 no_texts : map (value_text pool) (None ∷ Some (values.Int (pos 5)) ∷ Some (values.Long (pos 5)) ∷ Some values.Unfit ∷ []) ≡ None ∷ None ∷ None ∷ None ∷ []
 no_texts = refl
 
--- the text is told by its index, not by that of the constant that names it
+-- the text is given by its index, not by that of the constant that names it
 text_begins : value_text pool (Some (values.Text 11)) ≡ Some (115 ∷ [])
 unfolding units_in units_read unit_read long_read two_read
 text_begins = refl

@@ -136,7 +136,7 @@ none_step f xs i d old listed now seen flags within e before are now_is flags_is
     subst (λ (ys : List Use). Step old ys flags (filter_map f (take (i + 1) xs))) (sym now_is)
     (subst (λ (s : List Bool). AreSeen s listed) (sym flags_is) are, passed f xs i d old listed within e before)
 
--- the same of pieces
+-- the same for pieces
 abbrev pub Listed : List Use → List Bool → List Use → Type 0
 Listed listed seen more = AreSeen seen listed × SameMembers listed more
 

@@ -2,11 +2,11 @@
 use Rattle.std.proofs.Common.{◌≡◌, ◌↔◌, ℕ, ◌⊎◌, List, [], ◌∷◌, map, length, Option, Some, None, ap, subst, ◌∙◌, inl, inr, arith, Contains}
 use Rattle.std.specs.Option.{option_map}
 use Rattle.std.proofs.lemmas.List.Elements.{Contains-append_left, Contains-append_right, Contains-append_cases}
-use Rattle.dj_pool.specs.Pool.{Constant}
-use Rattle.dj_model.specs.Program as programs
-use Rattle.dj_model.specs.Program.{Program, Class, Field}
-use Rattle.dj_declared.specs.Files.{name_in}
-use Rattle.dj_program.specs.Naming.{units_in}
+use Rattle.dj_pool.specs.trusted.Pool.{Constant}
+use Rattle.dj_model.specs.trusted.Program as programs
+use Rattle.dj_model.specs.trusted.Program.{Program, Class, Field}
+use Rattle.dj_declared.specs.trusted.Files.{name_in}
+use Rattle.dj_program.specs.trusted.Naming.{units_in}
 use Rattle.dj_image.specs.declared.parts.ClassParts.{ClassParts}
 use Rattle.dj_image.specs.declared.parts.FieldValue.{FieldValue}
 use Rattle.dj_image.specs.declared.parts.FieldValue.TheVariants as values

@@ -6,14 +6,14 @@ use Rattle.std.proofs.lemmas.List.{take_all, take_more, append_assoc, append-nil
 use Rattle.std.proofs.lemmas.List.Elements.{All-get_or, All-from_recursion, Contains-get_or, filter-append, filter_map-append}
 use Rattle.dj_names.specs.declared.descriptor.Ty.{Ty}
 use Rattle.dj_program.specs.declared.code.MethodCode.{MethodCode}
-use Rattle.dj_pool.specs.Pool.{Constant, IsPool}
-use Rattle.dj_model.specs.Program.{Program}
+use Rattle.dj_pool.specs.trusted.Pool.{Constant, IsPool}
+use Rattle.dj_model.specs.trusted.Program.{Program}
 use Rattle.dj_types.specs.Typed.{is_known_of}
 use Rattle.dj_image.specs.declared.parts.ClassParts.{ClassParts}
 use Rattle.dj_image.specs.declared.uses.Use.{Use}
 use Rattle.dj_image.specs.Uses.{SameMembers, use_in, code_uses, class_uses, used_type, class_types, used_types}
 use Rattle.dj_image.specs.Parts.{FitClasses}
-use Rattle.dj_image.specs.Rows.{Rows, AreRows, IsFitUse, known_types}
+use Rattle.dj_image.specs.ArrayRows.{ArrayRows, AreRows, IsFitUse, known_types}
 use Rattle.dj_image.proofs.Members.{member_of_filter_map, member_of_flat_map, member_none, same_append, same_filter, same_filter_map}
 use Rattle.dj_image.proofs.UseLists.{same_itself, flat_map_more}
 use Rattle.dj_image.proofs.Links.{fits}
@@ -32,7 +32,7 @@ item_fits parts listed items i d valid same is within = use_fits parts valid (ge
 
 -- ---- rows of more
 
-pub same_rows : (xs ys : List Ty) (rows : Rows) → SameMembers xs ys → AreRows xs rows → AreRows ys rows
+pub same_rows : (xs ys : List Ty) (rows : ArrayRows) → SameMembers xs ys → AreRows xs rows → AreRows ys rows
 same_rows xs ys rows same are = record {
   keyed = are.keyed;
   each = λ ty. (
@@ -53,7 +53,7 @@ filter_map_more {A} {B} f xs i d within = rw (take_more xs i d within, filter_ma
   one None = refl
   one (Some b) = refl
 
-pub use_step : (program : Program) (pool : List Constant) (listed : List Use) (i : ℕ) (d one : Use) (wholes : List Ty) (rows : Rows) → i < length listed → one ≡ get_or listed i d
+pub use_step : (program : Program) (pool : List Constant) (listed : List Use) (i : ℕ) (d one : Use) (wholes : List Ty) (rows : ArrayRows) → i < length listed → one ≡ get_or listed i d
     → AreRows ((wholes ++ known_types program (filter_map (used_type pool) (take i listed))) ++ known_types program (option_to_list (used_type pool one))) rows
     → AreRows (wholes ++ known_types program (filter_map (used_type pool) (take (i + 1) listed))) rows
 use_step program pool listed i d one wholes rows within is are =
@@ -64,10 +64,10 @@ use_step program pool listed i d one wholes rows within is are =
     ∙ ap (λ (xs : List Ty). wholes ++ known_types program xs) (sym (filter_map_more (used_type pool) listed i d within)))
     are
 
-pub no_use : (program : Program) (pool : List Constant) (listed : List Use) (wholes : List Ty) (rows : Rows) → AreRows wholes rows → AreRows (wholes ++ known_types program (filter_map (used_type pool) (take 0 listed))) rows
+pub no_use : (program : Program) (pool : List Constant) (listed : List Use) (wholes : List Ty) (rows : ArrayRows) → AreRows wholes rows → AreRows (wholes ++ known_types program (filter_map (used_type pool) (take 0 listed))) rows
 no_use program pool listed wholes rows are = subst (λ (xs : List Ty). AreRows xs rows) (sym (append-nil wholes)) are
 
-pub class_done : (program : Program) (parts : ClassParts) (uses listed : List Use) (i : ℕ) (wholes : List Ty) (rows : Rows) → SameMembers uses (class_uses parts) → listed ≡ uses → length listed ≤ i
+pub class_done : (program : Program) (parts : ClassParts) (uses listed : List Use) (i : ℕ) (wholes : List Ty) (rows : ArrayRows) → SameMembers uses (class_uses parts) → listed ≡ uses → length listed ≤ i
     → AreRows (wholes ++ known_types program (filter_map (used_type parts.pool) (take i listed))) rows → AreRows (wholes ++ known_types program (class_types parts)) rows
 class_done program parts uses listed i wholes rows kept is past are =
     let same : SameMembers listed (class_uses parts) = subst (λ (us : List Use). SameMembers us (class_uses parts)) (sym is) kept in
@@ -77,7 +77,7 @@ class_done program parts uses listed i wholes rows kept is past are =
     (same_filter (λ (ty : Ty). is_known_of program ty.of) (filter_map f listed) (class_types parts) (same_filter_map f listed (class_uses parts) same)))
     (subst (λ (xs : List Use). AreRows (wholes ++ known_types program (filter_map f xs)) rows) (take_all i listed past) are)
 
-pub class_step : (program : Program) (parts : List ClassParts) (i : ℕ) (d one : ClassParts) (wholes : List Ty) (rows : Rows) → i < length parts → one ≡ get_or parts i d
+pub class_step : (program : Program) (parts : List ClassParts) (i : ℕ) (d one : ClassParts) (wholes : List Ty) (rows : ArrayRows) → i < length parts → one ≡ get_or parts i d
     → AreRows ((wholes ++ known_types program (used_types (take i parts))) ++ known_types program (class_types one)) rows
     → AreRows (wholes ++ known_types program (used_types (take (i + 1) parts))) rows
 class_step program parts i d one wholes rows within is are =
@@ -85,7 +85,7 @@ class_step program parts i d one wholes rows within is are =
     (one_more program wholes (used_types (take i parts)) (class_types one) ∙ ap (λ (p : ClassParts). wholes ++ known_types program (used_types (take i parts) ++ class_types p)) is ∙ ap (λ (xs : List Ty). wholes ++ known_types program xs) (sym (flat_map_more class_types parts i d within)))
     are
 
-pub classes_done : (program : Program) (parts : List ClassParts) (i : ℕ) (wholes : List Ty) (rows : Rows) → length parts ≤ i → AreRows (wholes ++ known_types program (used_types (take i parts))) rows → AreRows (wholes ++ known_types program (used_types parts)) rows
+pub classes_done : (program : Program) (parts : List ClassParts) (i : ℕ) (wholes : List Ty) (rows : ArrayRows) → length parts ≤ i → AreRows (wholes ++ known_types program (used_types (take i parts))) rows → AreRows (wholes ++ known_types program (used_types parts)) rows
 classes_done program parts i wholes rows past are = subst (λ (ps : List ClassParts). AreRows (wholes ++ known_types program (used_types ps)) rows) (take_all i parts past) are
 
 -- ---- pools

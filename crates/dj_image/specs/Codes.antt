@@ -1,15 +1,15 @@
--- What is told of a method's code and of a field's constant, by their numbers.
+-- What is answered for a method's code and a field's constant, by their numbers.
 use Rattle.std.specs.Prelude.{◌≡◌, ℕ, ◌<◌, ⊤, List, map, length, Option, Some, slice_get, option_and_then}
 use Rattle.std.specs.Option.{option_map}
 use Rattle.std.specs.List.{flat_map}
 use Rattle.dj_ops.specs.declared.instruction.Instr.{Instr}
 use Rattle.dj_labels.specs.declared.labelled.Protected.{Protected}
-use Rattle.dj_pool.specs.Pool.{Constant}
-use Rattle.dj_model.specs.Program.{Body, Abstract, Native, Runs}
-use Rattle.dj_model.specs.Linking.{FoundMethod, FoundField}
-use Rattle.dj_check.specs.Instructions.{index_of}
-use Rattle.dj_program.specs.Naming.{named_if}
-use Rattle.dj_program.specs.Codes.{CodeParts, code_in, catches_in}
+use Rattle.dj_pool.specs.trusted.Pool.{Constant}
+use Rattle.dj_model.specs.trusted.Program.{Body, Abstract, Native, Runs}
+use Rattle.dj_model.specs.trusted.Linking.{FoundMethod, FoundField}
+use Rattle.dj_check.specs.trusted.Instructions.{index_of}
+use Rattle.dj_program.specs.trusted.Naming.{named_if}
+use Rattle.dj_program.specs.trusted.Codes.{CodeParts, code_in, catches_in}
 use Rattle.dj_program.specs.Views.{parts_of}
 use Rattle.dj_types.specs.Members.{all_methods, all_fields}
 use Rattle.dj_image.specs.declared.image.Body as bodies
@@ -27,7 +27,7 @@ pub record PooledCode : Type 0 where
 abbrev pub pooled : List Constant → Option CodeParts → Option PooledCode
 pooled pool code = option_map (λ parts. record { pool = pool; parts = parts }) code
 
--- of each method of all classes, in order
+-- for each method of all classes, in order
 unfoldable pub all_codes : List Source → List (Option PooledCode)
 all_codes sources = flat_map (λ s. map (pooled s.pool) s.codes) sources
 
@@ -77,7 +77,7 @@ pub record IsConstantAt (imaged : Imaged) (field : ℕ) (operand : Operand) : Ty
   pub there : slice_get (all_fields (program_of imaged)) field ≡ Some found
   pub is : operand ≡ value_operand imaged found.field.constant
 
--- the body that is lent is this one
+-- the body that is borrowed is this one
 abbrev pub TellsBody : Imaged → ℕ → Body → bodies.Body → Type 0
 TellsBody imaged method Abstract variants.Abstract = ⊤
 TellsBody imaged method (Native id) (variants.Native told) = told ≡ id

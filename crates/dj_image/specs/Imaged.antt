@@ -2,11 +2,11 @@
 use Rattle.std.specs.Prelude.{◌≡◌, ◌↔◌, ℕ, ◌⊎◌, ◌≤◌, List, Some, Contains, slice_get, IsTrue}
 use Rattle.dj_names.specs.declared.descriptor.Base.TheVariants as bases
 use Rattle.dj_names.specs.declared.descriptor.Ty.{Ty}
-use Rattle.dj_names.specs.Types.{base_array}
-use Rattle.dj_model.specs.Types.{Prefix}
-use Rattle.dj_model.specs.Instructions.{Named, AClass, AField, AMethod, AnInterfaceMethod, Instruction, GetStatic, PutStatic, GetField, PutField, Invoke, New, NewArray, CheckCast, InstanceOf, Other, PushText}
-use Rattle.dj_model.specs.Program as programs
-use Rattle.dj_model.specs.Program.{Program, Class, Method, Field, Code, Runs}
+use Rattle.dj_names.specs.trusted.Types.{base_array}
+use Rattle.dj_model.specs.trusted.Types.{Prefix}
+use Rattle.dj_model.specs.trusted.Instructions.{Named, AClass, AField, AMethod, AnInterfaceMethod, Instruction, GetStatic, PutStatic, GetField, PutField, Invoke, New, NewArray, CheckCast, InstanceOf, Other, PushText}
+use Rattle.dj_model.specs.trusted.Program as programs
+use Rattle.dj_model.specs.trusted.Program.{Program, Class, Method, Field, Code, Runs}
 use Rattle.dj_types.specs.Typed.{Typed, is_known_of, arrays_rise}
 use Rattle.dj_image.specs.Sources.{Source, program_of_sources}
 
@@ -46,7 +46,7 @@ UsesType (InstanceOf class) ty = ty ≡ class
 UsesType (Other op named) ty = NamesType named ty
 UsesType i ty = ⊥
 
--- an instruction of the program does
+-- an instruction of the program names or makes the type
 pub record IsUsed (program : Program) (ty : Ty) : Type 0 where
   pub class : Class
   pub there : Contains program class
@@ -58,7 +58,7 @@ pub record IsUsed (program : Program) (ty : Ty) : Type 0 where
   pub stands : Contains code.instructions instruction
   pub uses : UsesType instruction ty
 
--- the array itself, or one of which it is the elements' type, at whatever depth; none of more dimensions than a descriptor spells
+-- the array itself, or one whose elements it is, at whatever depth; none of more dimensions than a descriptor spells
 pub record IsPartOf (ty whole : Ty) : Type 0 where
   pub array : 1 ≤ ty.dims
   pub few : ty.dims ≤ 255

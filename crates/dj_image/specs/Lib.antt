@@ -7,7 +7,7 @@ pub mod Codes
 pub mod Tables
 pub mod Taken
 pub mod Uses
-pub mod Rows
+pub mod ArrayRows
 pub mod Texts
 pub mod Indexed
 pub mod Homes

@@ -1,7 +1,7 @@
--- The code's own: the numbers that a directory gives the texts of a pool.
+-- Used by the code alone: the numbers that a directory gives the texts of a pool.
 use Rattle.std.specs.Prelude.{⊤, ℕ, ◌+◌, List, length, Option, Some, None, option_and_then}
 use Rattle.std.specs.Borrow.{Bor}
-use Rattle.dj_pool.specs.Pool.{Constant, text_at}
+use Rattle.dj_pool.specs.trusted.Pool.{Constant, text_at}
 use Rattle.dj_directory.specs.Numberings.{Numbering, number_of}
 use Rattle.dj_image.specs.Indexed.{Holds}
 

@@ -2,14 +2,14 @@
 use Rattle.std.specs.Prelude.{ℕ, suc, Bool, true, false, List, [], ◌∷◌, Option, Some, None, nat_eq, nat_le, if◌then◌else◌}
 use Rattle.std.specs.Option.{option_map}
 use Rattle.std.specs.Cmp.Lexicographic.{pointwise}
-use Rattle.dj_names.specs.Types.{array_type}
+use Rattle.dj_names.specs.trusted.Types.{array_type}
 use Rattle.dj_ops.specs.declared.instruction.Instr.{Instr}
 use Rattle.dj_ops.specs.declared.instruction.Instr.TheVariants as instrs
-use Rattle.dj_model.specs.Types.{Member}
-use Rattle.dj_model.specs.Instructions.{Named, Nothing, AnInt, ALong, AText, AClass, AField, AMethod, AnInterfaceMethod, Another, Instruction, NewArray}
-use Rattle.dj_model.specs.Opcodes.{instruction_of}
-use Rattle.dj_model.specs.Program as programs
-use Rattle.dj_model.specs.Linking.{resolve_method, resolve_field}
+use Rattle.dj_model.specs.trusted.Types.{Member}
+use Rattle.dj_model.specs.trusted.Instructions.{Named, Nothing, AnInt, ALong, AText, AClass, AField, AMethod, AnInterfaceMethod, Another, Instruction, NewArray}
+use Rattle.dj_model.specs.trusted.Opcodes.{instruction_of}
+use Rattle.dj_model.specs.trusted.Program as programs
+use Rattle.dj_model.specs.trusted.Linking.{resolve_method, resolve_field}
 use Rattle.dj_types.specs.Typed.{type_number}
 use Rattle.dj_types.specs.Members.{found_method_number, found_field_number}
 use Rattle.dj_image.specs.declared.operand.Operand.{Operand}
@@ -73,7 +73,7 @@ takes_named (instrs.Class op index) (AClass ty) = true
 takes_named (instrs.Multi index dims) (AClass ty) = true
 takes_named instr named = false
 
--- of an instruction that makes an array the class of the array
+-- for an instruction that makes an array, the class of the array
 abbrev pub made_operand : Imaged → Instruction → Operand → Operand
 made_operand imaged (NewArray class element) other = class_operand (type_number (typed_of imaged) class)
 made_operand imaged i other = other

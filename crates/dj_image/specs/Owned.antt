@@ -1,5 +1,5 @@
--- The code's own: the constants that kept entries show.
-use Rattle.dj_pool.specs.Pool.{Constant, Utf8, Integer, Float, Long, Double, Class, Text, Field, Method, InterfaceMethod, NameAndType, Handle, MethodType, Dynamic, Hole}
+-- Used by the code alone: the constants that kept entries show.
+use Rattle.dj_pool.specs.trusted.Pool.{Constant, Utf8, Integer, Float, Long, Double, Class, Text, Field, Method, InterfaceMethod, NameAndType, Handle, MethodType, Dynamic, Hole}
 use Rattle.dj_image.specs.declared.owned.OwnedEntry.{OwnedEntry}
 use Rattle.dj_image.specs.declared.owned.OwnedEntry.TheVariants as entries
 

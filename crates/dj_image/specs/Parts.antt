@@ -1,16 +1,16 @@
 -- What classes have beside what they declare.
 use Rattle.std.specs.Prelude.{◌≡◌, ℕ, ◌^◌, ◌<◌, ⊤, List, [], ◌∷◌, map, length, Option, Some, None, IsTrue, get_or, slice_get, is_some}
 use Rattle.std.specs.Option.{option_map}
-use Rattle.dj_pool.specs.Pool.{Constant, IsPool}
-use Rattle.dj_model.specs.Program as programs
-use Rattle.dj_model.specs.Program.{Program, Class, Method, Runs, has_code}
+use Rattle.dj_pool.specs.trusted.Pool.{Constant, IsPool}
+use Rattle.dj_model.specs.trusted.Program as programs
+use Rattle.dj_model.specs.trusted.Program.{Program, Class, Method, Runs, has_code}
 use Rattle.dj_names.specs.declared.descriptor.Desc.{Desc}
-use Rattle.dj_model.specs.Types.{Prefix, string_name}
-use Rattle.dj_declared.specs.Files.{desc_in, name_in}
+use Rattle.dj_model.specs.trusted.Types.{Prefix, string_name}
+use Rattle.dj_declared.specs.trusted.Files.{desc_in, name_in}
 use Rattle.dj_declared.specs.Members.{IsDescriptor}
 use Rattle.dj_classes.specs.Tables.{class_number}
 use Rattle.dj_shape.specs.Pools.{ArePoolKinds}
-use Rattle.dj_program.specs.Naming.{units_in}
+use Rattle.dj_program.specs.trusted.Naming.{units_in}
 use Rattle.dj_program.specs.Views.{parts_of}
 use Rattle.dj_types.specs.Members.{all_methods, all_fields}
 use Rattle.dj_image.specs.declared.parts.ClassParts.{ClassParts}
@@ -18,7 +18,7 @@ use Rattle.dj_image.specs.declared.parts.FieldValue.{FieldValue}
 use Rattle.dj_image.specs.declared.parts.FieldValue.TheVariants as values
 use Rattle.dj_image.specs.Sources.{Source, program_of_sources}
 
--- that of a text is told by its index among the constants of the class
+-- a text is given by its index among the constants of the class
 abbrev pub constant_of_value : List Constant → FieldValue → programs.Constant
 constant_of_value pool (values.Int z) = programs.Int z
 constant_of_value pool (values.Long z) = programs.Long z

@@ -1,11 +1,11 @@
 -- What rule 19, SHAPE, is judged by of the method of a number.
 use Rattle.std.specs.Prelude.{◌≡◌, ℕ, List, Option, Some, None, get_or, slice_get, option_and_then}
 use Rattle.std.specs.Option.{option_map}
-use Rattle.dj_pool.specs.Pool.{Constant}
-use Rattle.dj_model.specs.Program.{Code, Runs}
-use Rattle.dj_model.specs.Linking.{FoundMethod}
+use Rattle.dj_pool.specs.trusted.Pool.{Constant}
+use Rattle.dj_model.specs.trusted.Program.{Code, Runs}
+use Rattle.dj_model.specs.trusted.Linking.{FoundMethod}
 use Rattle.dj_classes.specs.declared.place.Place.{Place}
-use Rattle.dj_program.specs.Codes.{code_in}
+use Rattle.dj_program.specs.trusted.Codes.{code_in}
 use Rattle.dj_program.specs.Views.{parts_of}
 use Rattle.dj_program.specs.declared.code.MethodCode.{MethodCode}
 use Rattle.dj_types.specs.Members.{all_methods}
@@ -33,7 +33,7 @@ abbrev pub AreShapePartsAt : Imaged → ℕ → Option ShapeParts → Type 0
 AreShapePartsAt imaged method None = HasNoCode imaged method
 AreShapePartsAt imaged method (Some parts) = AreShapeParts imaged method parts
 
--- ---- the code's own: what is kept at a place
+-- ---- used by the code alone: what is kept at a place
 
 pub record KeptShape : Type 0 where
   pub kinds : KeptKinds

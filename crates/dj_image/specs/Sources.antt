@@ -1,18 +1,18 @@
--- Classes with what their files tell of code and constants: what indexes name is looked up in the pool of the class.
+-- Classes with the code and constants that their files have: what indexes name is looked up in the pool of the class.
 use Rattle.std.specs.Prelude.{List, ◌∷◌, map, Option, Some, None}
-use Rattle.dj_pool.specs.Pool.{Constant}
-use Rattle.dj_model.specs.Program as programs
-use Rattle.dj_model.specs.Program.{Program, Class, Method, Field, Runs}
-use Rattle.dj_program.specs.Codes.{CodeParts, code_in}
+use Rattle.dj_pool.specs.trusted.Pool.{Constant}
+use Rattle.dj_model.specs.trusted.Program as programs
+use Rattle.dj_model.specs.trusted.Program.{Program, Class, Method, Field, Runs}
+use Rattle.dj_program.specs.trusted.Codes.{CodeParts, code_in}
 
 pub record Source : Type 0 where
   -- the class as it is declared
   pub class : Class
   -- the constants of its file; a library's class has none
   pub pool : List Constant
-  -- of each method, in order, its code, where it has some
+  -- for each method, in order, its code, where it has some
   pub codes : List (Option CodeParts)
-  -- of each field, in order, the constant with which it begins, where it has one
+  -- for each field, in order, the constant with which it begins, where it has one
   pub values : List (Option programs.Constant)
 
 abbrev pub with_code : List Constant → Method → Option CodeParts → Method

@@ -1,11 +1,11 @@
--- The code's own: what an image keeps of constants.
+-- Used by the code alone: what an image keeps of constants.
 use Rattle.std.specs.Prelude.{◌≡◌, ℕ, ◌+◌, ◌<◌, ◌≤◌, ◌^◌, ⊤, Contains, List, [], ◌∷◌, map, length, Option, Some, slice_get, is_some, IsTrue}
 use Rattle.std.specs.Global.{Vec}
 use Rattle.std.specs.Option.{option_map}
 use Rattle.dj_names.specs.declared.descriptor.Ty.{Ty}
-use Rattle.dj_names.specs.Types.{component_type}
-use Rattle.dj_pool.specs.Pool.{Constant}
-use Rattle.dj_program.specs.Naming.{named_at}
+use Rattle.dj_names.specs.trusted.Types.{component_type}
+use Rattle.dj_pool.specs.trusted.Pool.{Constant}
+use Rattle.dj_program.specs.trusted.Naming.{named_at}
 use Rattle.dj_types.specs.Typed.{Typed, chars_at}
 use Rattle.dj_image.specs.declared.operand.Operand.{Operand}
 use Rattle.dj_image.specs.declared.parts.ClassParts.{ClassParts}
@@ -17,22 +17,22 @@ use Rattle.dj_image.specs.Parts.{constant_of_value, sources_of, FitClasses, HasS
 abbrev pub imaged_of : Typed → List ClassParts → List (List ℕ) → Imaged
 imaged_of types parts texts = record { sources = sources_of types.program parts; prefix = types.prefix; arrays = types.arrays; texts = texts }
 
--- of each index of the pool what it is as an operand
+-- for each index of the pool what it is as an operand
 pub record IsOperandTable (imaged : Imaged) (pool : List Constant) (kept : List Operand) : Type 0 where
   pub count : length kept ≡ length pool + 1
   pub each : (index : ℕ) → index < length pool + 1 → slice_get kept index ≡ Some (named_operand imaged (named_at pool index))
 
--- of each index of the pool the class that it names
+-- for each index of the pool the class that it names
 pub record IsNamedTable (imaged : Imaged) (pool : List Constant) (kept : List (Option ℕ)) : Type 0 where
   pub count : length kept ≡ length pool + 1
   pub each : (index : ℕ) → index < length pool + 1 → slice_get kept index ≡ Some (named_class imaged (named_at pool index))
 
--- of each index of the pool the array of which the elements are of the class that it names
+-- for each index of the pool the array of which the elements are of the class that it names
 pub record IsMadeTable (imaged : Imaged) (pool : List Constant) (kept : List (Option ℕ)) : Type 0 where
   pub count : length kept ≡ length pool + 1
   pub each : (index : ℕ) → index < length pool + 1 → slice_get kept index ≡ Some (made_class imaged (named_at pool index))
 
--- of each class
+-- for each class
 abbrev pub AreOperandTables : Imaged → List ClassParts → List (Vec Operand) → Type 0
 AreOperandTables imaged [] [] = ⊤
 AreOperandTables imaged (p ∷ parts) (kept ∷ tables) = IsOperandTable imaged p.pool kept.items × AreOperandTables imaged parts tables
@@ -48,7 +48,7 @@ AreMadeTables imaged [] [] = ⊤
 AreMadeTables imaged (p ∷ parts) (kept ∷ tables) = IsMadeTable imaged p.pool kept.items × AreMadeTables imaged parts tables
 AreMadeTables imaged parts tables = ⊥
 
--- of each field what its constant is as an operand
+-- for each field what its constant is as an operand
 abbrev pub field_operand_of : Imaged → List Constant → Option FieldValue → Operand
 field_operand_of imaged pool value = value_operand imaged (option_map (constant_of_value pool) value)
 

@@ -1,16 +1,16 @@
--- The code's own: what instructions take, by what is kept of constants.
+-- Used by the code alone: what instructions take, by what is kept of constants.
 use Rattle.std.specs.Prelude.{ℕ, ◌&&◌, Bool, true, false, List, [], ◌∷◌, Option, Some, None, nat_eq, nat_le, if◌then◌else◌, get_or, slice_get, option_and_then}
 use Rattle.std.specs.Option.{option_map}
 use Rattle.std.specs.Global.{Vec}
 use Rattle.dj_names.specs.declared.descriptor.Base.{Base}
 use Rattle.dj_names.specs.declared.run.Element.{Element}
-use Rattle.dj_names.specs.Types.{Name, base_array}
+use Rattle.dj_names.specs.trusted.Types.{Name, base_array}
 use Rattle.dj_ops.specs.declared.instruction.Instr.{Instr}
 use Rattle.dj_ops.specs.declared.instruction.Instr.TheVariants as instrs
 use Rattle.dj_labels.specs.declared.labelled.Protected.{Protected}
-use Rattle.dj_pool.specs.Pool.{Constant, InterfaceMethod, constant_at}
-use Rattle.dj_model.specs.Opcodes.{array_rows}
-use Rattle.dj_check.specs.Instructions.{index_of}
+use Rattle.dj_pool.specs.trusted.Pool.{Constant, InterfaceMethod, constant_at}
+use Rattle.dj_model.specs.trusted.Opcodes.{array_rows}
+use Rattle.dj_check.specs.trusted.Instructions.{index_of}
 use Rattle.dj_classes.specs.declared.place.Place.{Place}
 use Rattle.dj_program.specs.declared.code.MethodCode.{MethodCode}
 use Rattle.dj_types.specs.Typed.{Typed, text_number, text_of_type}
@@ -82,7 +82,7 @@ kept_operand types pool kept made (instrs.Array base) = base_operand types (base
 kept_operand types pool kept made (instrs.Class op index) = class_kept pool kept made op index
 kept_operand types pool kept made instr = indexed_operand pool kept instr (index_of instr)
 
--- ---- what stands at places
+-- ---- what is at places
 
 abbrev pub code_kept : List ClassParts → Place → Option MethodCode
 code_kept parts place =

@@ -1,4 +1,4 @@
--- The code's own: texts that have numbers, in the order of their units.
+-- Used by the code alone: texts that have numbers, in the order of their units.
 use Rattle.std.specs.Prelude.{ℕ, List, ◌++◌, map, Option, Some, None}
 use Rattle.std.specs.Global.{Vec}
 use Rattle.std.specs.Ordering.{nat_cmp}
@@ -6,9 +6,9 @@ use Rattle.std.specs.Cmp.Lexicographic.{slice_cmp}
 use Rattle.std.specs.List.{flat_map, filter_map}
 use Rattle.std.specs.List.Sorted.{IsStrictlySortedBy}
 use Rattle.std.specs.BTreeSet.{BTreeSet}
-use Rattle.dj_pool.specs.Pool.{Constant, IsPool}
-use Rattle.dj_declared.specs.Files.{name_in}
-use Rattle.dj_program.specs.Naming.{units_in}
+use Rattle.dj_pool.specs.trusted.Pool.{Constant, IsPool}
+use Rattle.dj_declared.specs.trusted.Files.{name_in}
+use Rattle.dj_program.specs.trusted.Naming.{units_in}
 use Rattle.dj_image.specs.declared.parts.ClassParts.{ClassParts}
 use Rattle.dj_image.specs.declared.parts.FieldValue.{FieldValue}
 use Rattle.dj_image.specs.declared.parts.FieldValue.TheVariants as values

@@ -5,13 +5,13 @@ use Rattle.std.specs.List.{flat_map, filter_map}
 use Rattle.dj_names.specs.declared.descriptor.Base.{Base}
 use Rattle.dj_names.specs.declared.descriptor.Ty.{Ty}
 use Rattle.dj_names.specs.declared.run.Element.{Element}
-use Rattle.dj_names.specs.Types.{array_type, base_array}
+use Rattle.dj_names.specs.trusted.Types.{array_type, base_array}
 use Rattle.dj_ops.specs.declared.instruction.Instr.{Instr}
 use Rattle.dj_ops.specs.declared.instruction.Instr.TheVariants as instrs
-use Rattle.dj_pool.specs.Pool.{Constant, Class, Text, Field, Method, InterfaceMethod, constant_at, class_text_of}
-use Rattle.dj_model.specs.Opcodes.{array_rows}
-use Rattle.dj_declared.specs.Files.{type_in, name_in}
-use Rattle.dj_program.specs.Naming.{units_in}
+use Rattle.dj_pool.specs.trusted.Pool.{Constant, Class, Text, Field, Method, InterfaceMethod, constant_at, class_text_of}
+use Rattle.dj_model.specs.trusted.Opcodes.{array_rows}
+use Rattle.dj_declared.specs.trusted.Files.{type_in, name_in}
+use Rattle.dj_program.specs.trusted.Naming.{units_in}
 use Rattle.dj_program.specs.declared.code.MethodCode.{MethodCode}
 use Rattle.dj_image.specs.declared.uses.Use.{Use}
 use Rattle.dj_image.specs.declared.uses.Use.TheVariants as uses
@@ -21,7 +21,7 @@ use Rattle.dj_image.specs.declared.parts.FieldValue.TheVariants as values
 
 -- ---- of an instruction
 
--- the class of a constant, or, of a class constant where elements are asked, an array of it
+-- the class of a constant; or, where elements are wanted, an array of the class of a class constant
 abbrev pub class_use : Bool → List Constant → Constant → Option Use
 class_use element pool (Class text) = Some (if element then uses.Element text else uses.Itself text)
 class_use element pool (Field class names) = option_map uses.Itself (option_and_then class_text_of (constant_at pool class))
@@ -98,7 +98,7 @@ use_place (uses.Itself text) = 4 * text + 1
 use_place (uses.Element text) = 4 * text + 2
 use_place (uses.Pushed text) = 4 * text + 3
 
--- what stands at a place; past the end nothing is seen
+-- what is at a place; past the end nothing is seen
 abbrev pub was_seen : List Bool → ℕ → Bool
 was_seen seen place = unwrap_or (slice_get seen place) false
 

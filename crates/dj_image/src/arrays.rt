@@ -3,16 +3,16 @@ ghost use Rattle.std.specs.Option.{option_map, option_to_list};
 ghost use Rattle.std.specs.List.{AllByRecursion};
 ghost use Rattle.std.specs.BTreeMap.{keys, values};
 ghost use Rattle.dj_names.specs.declared.descriptor.Ty.{Ty};
-ghost use Rattle.dj_names.specs.Types.{base_array};
-ghost use Rattle.dj_names.specs.Descriptors.{of_text, base_letter};
-ghost use Rattle.dj_pool.specs.Pool.{IsPool, IsClassText, NamesText};
-ghost use Rattle.dj_declared.specs.Files.{type_in, name_in};
-ghost use Rattle.dj_model.specs.Opcodes.{array_rows};
+ghost use Rattle.dj_names.specs.trusted.Types.{base_array};
+ghost use Rattle.dj_names.specs.trusted.Descriptors.{of_text, base_letter};
+ghost use Rattle.dj_pool.specs.trusted.Pool.{IsPool, IsClassText, NamesText};
+ghost use Rattle.dj_declared.specs.trusted.Files.{type_in, name_in};
+ghost use Rattle.dj_model.specs.trusted.Opcodes.{array_rows};
 ghost use Rattle.dj_types.specs.Typed.{is_known_of, AreArrays};
 ghost use Rattle.dj_types.specs.Shapes.{AreElements, shape_in, shape_type};
 ghost use Rattle.dj_image.specs.Parts.{FitClasses};
 ghost use Rattle.dj_image.specs.Uses.{base_used, used_type, class_types};
-ghost use Rattle.dj_image.specs.Rows.{RiseStrictly, of_lent, type_lent, most_at, level, levels, IsKeyed, IsFitUse, AreAllKnown, AreRows, IsRow, known_types, first_wholes, wholes_of};
+ghost use Rattle.dj_image.specs.ArrayRows.{RiseStrictly, of_lent, type_lent, most_at, level, levels, IsKeyed, IsFitUse, AreAllKnown, AreRows, IsRow, known_types, first_wholes, wholes_of};
 
 use crate::error::ImageError;
 use crate::lent_type::{LentOf, LentType, type_in};
@@ -225,7 +225,7 @@ fn tops_in(
     Ok(tops)
 }
 
-// Appends the arrays of so many dimensions.
+// Appends the arrays of this many dimensions.
 fn add_level(arrays: &mut Vec<Shape>, tops: &[Shape], dims: u8) -> Result<(), ImageError>
     ensures { OnOk result (arrays.new.items ≡ arrays.old.items ++ level dims tops.now) }
 {

@@ -1,6 +1,6 @@
 ghost use Rattle.std.specs.Prelude.{◌≡◌, ◌<◌, length, map, Some, None, slice_get};
 ghost use Rattle.std.specs.Option.{option_map};
-ghost use Rattle.dj_model.specs.Linking.{place_of};
+ghost use Rattle.dj_model.specs.trusted.Linking.{place_of};
 ghost use Rattle.dj_declared.specs.Files.{bare_class};
 ghost use Rattle.dj_declared.specs.Members.{IsDescriptor};
 ghost use Rattle.dj_types.specs.Typed.{texts_of, types_of, text_number, flags_at, super_at, interfaces_at, component_at, is_subtype_at, string_at, chars_at, stop_at};
@@ -72,7 +72,7 @@ impl Image {
         linker
     }
 
-    /// What rule 19, SHAPE, is judged by of a method; none where it has no code.
+    /// What rule 19, SHAPE, needs to know of a method; none where it has no code.
     pub fn shape_parts(&self, method: MethodId) -> Option<ShapeParts<'_>>
         requires { method.number < length (all_methods (program_of self.now)) }
         ensures { AreShapePartsAt self.now method.number result }
@@ -103,7 +103,7 @@ impl Image {
         self.types.name_of(class)
     }
 
-    /// The access flags of a class (JVMS table 4.1-A); 0 of an array.
+    /// The access flags of a class (JVMS table 4.1-A); 0 for an array.
     pub fn flags_of(&self, class: u32) -> u16
         requires { class < length (types_of (typed_of self.now)) }
         ensures { result ≡ flags_at (typed_of self.now) class }
@@ -111,7 +111,7 @@ impl Image {
         self.types.flags_of(class)
     }
 
-    /// The superclass; none of an array and of a class without a superclass.
+    /// The superclass; none for an array and for a class without a superclass.
     pub fn super_of(&self, class: u32) -> Option<u32>
         requires { class < length (types_of (typed_of self.now)) }
         ensures { result ≡ super_at (typed_of self.now) class }
@@ -119,7 +119,7 @@ impl Image {
         self.types.super_of(class)
     }
 
-    /// The interfaces that a class lists; none of an array.
+    /// The interfaces that a class lists; none for an array.
     pub fn interfaces_of(&self, class: u32) -> &[u32]
         requires { class < length (types_of (typed_of self.now)) }
         ensures { result.now ≡ interfaces_at (typed_of self.now) class }
@@ -127,7 +127,7 @@ impl Image {
         self.types.interfaces_of(class)
     }
 
-    /// What the elements of an array of references are; none of a class and of an array of a base type.
+    /// What the elements of an array of references are; none for a class and for an array of a base type.
     pub fn component(&self, class: u32) -> Option<u32>
         requires { class < length (types_of (typed_of self.now)) }
         ensures { result ≡ component_at (typed_of self.now) class }
@@ -178,7 +178,7 @@ impl Image {
         self.types.raised(raised)
     }
 
-    /// The number of instance fields of a class, inherited ones included; 0 of an array.
+    /// The number of instance fields of a class, inherited ones included; 0 for an array.
     pub fn field_count(&self, class: u32) -> u32
         requires { class < length (types_of (typed_of self.now)) }
         ensures { result ≡ field_count_at (typed_of self.now) class }
@@ -308,7 +308,7 @@ impl Image {
         }
     }
 
-    /// The class or the array that a row of the exception table catches. None where it catches everything, which its `catch_type` of 0 tells apart,
+    /// The class or the array that a row of the exception table catches. None where it catches everything, which its `catch_type` of 0 shows,
     /// and where its constant names an absent class or an array without a number, or is no class, as an int.
     pub fn catch_class(&self, method: MethodId, range: u32) -> Option<u32>
         requires { HasRange self.now method.number range }
@@ -321,7 +321,7 @@ impl Image {
         }
     }
 
-    /// The constant that its file tells for a field, with which a static one begins. That of an instance field is told too, though no object
+    /// The constant that its file has for a field, with which a static field begins. An instance field's constant is answered too, though no object
     /// begins with it (JVMS 4.7.2).
     pub fn constant(&self, field: FieldId) -> Operand
         requires { field.number < length (all_fields (program_of self.now)) }

@@ -1,5 +1,5 @@
 ghost use Rattle.std.specs.Prelude.{◌≡◌, ◌+◌, ◌<◌, ◌^◌, length, get_or, IfOk, None};
-ghost use Rattle.dj_pool.specs.Pool.{IsPool};
+ghost use Rattle.dj_pool.specs.trusted.Pool.{IsPool};
 ghost use Rattle.dj_image.specs.Indexed.{Holds, text_class, is_array, array_text, text_array, text_place, class_index, kept_class, kept_array};
 ghost use Rattle.dj_image.specs.Operands.{units_number};
 ghost use Rattle.dj_image.specs.Texts.{RiseStrictly};

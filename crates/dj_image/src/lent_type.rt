@@ -1,23 +1,23 @@
 ghost use Rattle.std.specs.Prelude.{◌≡◌, ◌≤◌, ◌∷◌, [], length};
 ghost use Rattle.dj_names.specs.declared.descriptor.Base.{Base};
 ghost use Rattle.dj_names.specs.declared.descriptor.Of.TheVariants.{Class};
-ghost use Rattle.dj_names.specs.Types.{Name};
+ghost use Rattle.dj_names.specs.trusted.Types.{Name};
 ghost use Rattle.dj_names.specs.declared.descriptor.Of.{Of};
-ghost use Rattle.dj_names.specs.Descriptors.{base_letter, of_text};
-ghost use Rattle.dj_pool.specs.Pool.{IsClassText};
-ghost use Rattle.dj_declared.specs.Files.{type_in};
-ghost use Rattle.dj_image.specs.Rows.{brackets, of_lent, type_lent};
+ghost use Rattle.dj_names.specs.trusted.Descriptors.{base_letter, of_text};
+ghost use Rattle.dj_pool.specs.trusted.Pool.{IsClassText};
+ghost use Rattle.dj_declared.specs.trusted.Files.{type_in};
+ghost use Rattle.dj_image.specs.ArrayRows.{brackets, of_lent, type_lent};
 
 use dj_names::Base;
 
-/// What a type or an array's element is, lent.
+/// What a type or an array's element is, borrowed.
 #[derive(Clone, Copy)]
 pub(crate) enum LentOf<'a> {
     Base(Base),
     Class(&'a [u8]),
 }
 
-/// A type, lent; an array may have one dimension more than a descriptor spells.
+/// A type, borrowed; an array may have one dimension more than a descriptor spells.
 #[derive(Clone, Copy)]
 pub(crate) struct LentType<'a> {
     pub(crate) dims: u16,
@@ -65,7 +65,7 @@ fn class_name(text: &[u8]) -> &[u8]
     }
 }
 
-// What the descriptor of an element that is no array tells.
+// The element whose descriptor this is, where it is no array.
 fn element(text: &[u8]) -> LentOf<'_>
     ensures { (of : Of) → text.now ≡ of_text of → of_lent result ≡ of }
 {

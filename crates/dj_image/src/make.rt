@@ -1,5 +1,5 @@
 ghost use Rattle.std.specs.Prelude.{◌≡◌, ◌+◌, ◌<◌, ◌^◌, length, is_some, IsTrue, IfOk, OnOk};
-ghost use Rattle.dj_model.specs.Types.{object_name};
+ghost use Rattle.dj_model.specs.trusted.Types.{object_name};
 ghost use Rattle.dj_classes.specs.Tables.{class_number};
 ghost use Rattle.dj_types.specs.Typed.{AreArrays, chars_at};
 ghost use Rattle.dj_image.specs.Imaged.{IsNumbered};
@@ -34,10 +34,8 @@ fn check_types(linker: &Linker, arrays: &[Shape]) -> Result<(), ImageError>
 fn check_texts(texts: &[Units]) -> Result<(), ImageError>
     ensures { OnOk result (length texts.now < 2 ^ 32) }
 {
-    match u32::try_from(texts.len()) {
-        Ok(_) => Ok(()),
-        Err(_) => Err(ImageError::Memory),
-    }
+    u32::try_from(texts.len()).or(Err(ImageError::Memory))?;
+    Ok(())
 }
 
 // The image of classes and arrays that are numbered, and of texts.
@@ -71,7 +69,7 @@ fn image_from(
     })
 }
 
-/// The image of classes, by their numbers with what each has beside what it declares. Arrays and texts are numbered.
+/// The image of classes, by their numbers, with what each has beside what it declares. Arrays and texts get numbers.
 pub fn image_of(alloc: Global, linker: Linker, parts: Vec<ClassParts>) -> Result<Image, ImageError>
     requires fit { FitClasses linker.program parts.items }
     requires few { AreFew (sources_of linker.program parts.items) }

@@ -2,7 +2,7 @@
 ghost use Rattle.std.specs.Prelude.{◌≡◌, ◌+◌, length, Option, IfOk, IfSome};
 ghost use Rattle.std.specs.Option.{option_map};
 ghost use Rattle.std.specs.Borrow.{Bor};
-ghost use Rattle.dj_pool.specs.Pool.{IsPool, name_and_type_at};
+ghost use Rattle.dj_pool.specs.trusted.Pool.{IsPool, name_and_type_at};
 ghost use Rattle.dj_directory.specs.Numberings.{Numbering};
 ghost use Rattle.dj_types.specs.Named.{IsNumbered};
 ghost use Rattle.dj_image.specs.Homes.{IsDescribed};

@@ -13,6 +13,6 @@ pub enum Operand {
     Class(u32),
     Field(FieldId),
     Method(MethodId),
-    /// The constant isn't of the tag that is asked, or what it names isn't there.
+    /// The constant isn't of the required tag, or what it names isn't there.
     Unresolved,
 }

@@ -1,6 +1,6 @@
 ghost use Rattle.std.specs.Prelude.{◌≡◌, ℕ, ◌+◌, length, IfOk, option_and_then};
 ghost use Rattle.std.specs.Option.{option_map};
-ghost use Rattle.dj_pool.specs.Pool.{IsPool, IsLinked, name_and_type_at};
+ghost use Rattle.dj_pool.specs.trusted.Pool.{IsPool, IsLinked, name_and_type_at};
 ghost use Rattle.dj_types.specs.Members.{number_of_method, number_of_field, found_method_number, found_field_number, resolved_method, resolved_field};
 ghost use Rattle.dj_types.specs.Named.{IsDirectoryOf, IsNumbered};
 ghost use Rattle.dj_image.specs.Homes.{kept_home, IsHome, AreHomes, IsDescribed, method_told, field_told, constant_operand, operand_at};
@@ -21,7 +21,7 @@ use std::alloc::Global;
 
 // ---- members
 
-// The number of the class in which the members of a constant's class are looked for: those of an array are Object's.
+// The number of the class in which the members of a constant's class are looked up; those of an array are Object's.
 fn home_of(
     pool: &OwnedPool,
     classes: &[Option<u32>],

@@ -1,6 +1,6 @@
 ghost use Rattle.std.specs.Prelude.{◌≡◌, [], length, IfOk};
 ghost use Rattle.std.specs.Option.{option_map};
-ghost use Rattle.dj_pool.specs.Pool.{constant_at};
+ghost use Rattle.dj_pool.specs.trusted.Pool.{constant_at};
 ghost use Rattle.dj_pool.specs.Views.{constant_of};
 ghost use Rattle.dj_image.specs.Owned.{constant_of_owned};
 
@@ -38,7 +38,7 @@ pub struct OwnedPool {
 
 impl Model for OwnedPool {
     ghost use Rattle.std.specs.Prelude.{List, map};
-    ghost use Rattle.dj_pool.specs.Pool.{Constant};
+    ghost use Rattle.dj_pool.specs.trusted.Pool.{Constant};
     ghost use Rattle.dj_image.specs.Owned.{constant_of_owned};
 
     ghost Value = { List Constant };

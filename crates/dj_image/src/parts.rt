@@ -17,12 +17,12 @@ pub enum FieldValue {
 #[derive(Drop)]
 pub struct ClassParts {
     pub pool: OwnedPool,
-    /// What rule 19, SHAPE, asks of the constants.
+    /// What rule 19, SHAPE, needs to know of the constants.
     pub kinds: PoolKinds,
-    /// Of each method, in order, its code, where it has some.
+    /// For each method, in order, its code, where it has some.
     pub codes: Vec<Option<MethodCode>>,
-    /// Of each method, in order, the index of its descriptor; a library's class has none.
+    /// For each method, in order, the index of its descriptor; a library's class has none.
     pub descs: Vec<u16>,
-    /// Of each field, in order, the constant with which it begins, where it has one.
+    /// For each field, in order, the constant with which it begins, where it has one.
     pub values: Vec<Option<FieldValue>>,
 }

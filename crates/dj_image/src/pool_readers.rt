@@ -1,6 +1,6 @@
 ghost use Rattle.std.specs.Prelude.{◌≡◌, option_and_then};
 ghost use Rattle.std.specs.Option.{option_copied};
-ghost use Rattle.dj_pool.specs.Pool.{constant_at, class_text_of, text_at, names_of};
+ghost use Rattle.dj_pool.specs.trusted.Pool.{constant_at, class_text_of, text_at, names_of};
 
 use crate::owned::{OwnedEntry, OwnedPool};
 

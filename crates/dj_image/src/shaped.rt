@@ -7,10 +7,10 @@ use dj_program::MethodCode;
 use dj_shape::PoolKinds;
 use dj_types::Place;
 
-/// What rule 19, SHAPE, is judged by of a method that has code.
+/// What rule 19, SHAPE, needs to know of a method that has code.
 #[derive(Drop)]
 pub struct ShapeParts<'i> {
-    /// What it asks of the constants of the class.
+    /// What it needs to know of the constants of the class.
     pub kinds: &'i PoolKinds,
     /// The index of the method's descriptor.
     pub desc: u16,
@@ -39,7 +39,7 @@ fn shape_in(parts: &ClassParts, member: u32) -> Option<ShapeParts<'_>>
     })
 }
 
-/// What the rule is judged by of the method at a place; none where it has no code.
+/// What the rule needs to know of the method at a place; none where it has no code.
 pub(crate) fn shape_parts(parts: &[ClassParts], place: Place) -> Option<ShapeParts<'_>>
     ensures { option_map shape_lent result ≡ shape_kept parts.now place }
 {

@@ -1,6 +1,6 @@
 ghost use Rattle.std.specs.Prelude.{◌≡◌, ℕ, ◌+◌, ◌++◌, ◌∷◌, [], ◌<◌, ◌^◌, List, length, map, IfOk, OnOk};
-ghost use Rattle.dj_pool.specs.Pool.{IsPool};
-ghost use Rattle.dj_model.specs.Types.{object_name};
+ghost use Rattle.dj_pool.specs.trusted.Pool.{IsPool};
+ghost use Rattle.dj_model.specs.trusted.Types.{object_name};
 ghost use Rattle.dj_classes.specs.Tables.{class_number};
 ghost use Rattle.dj_types.specs.Named.{IsDirectoryOf};
 ghost use Rattle.dj_types.specs.Typed.{AreArrays};
@@ -31,7 +31,7 @@ pub(crate) struct ClassTables {
     pub(crate) constants: Vec<Operand>,
 }
 
-/// The same of each class.
+/// The same for each class.
 #[derive(Drop)]
 pub(crate) struct Tables {
     pub(crate) operands: Vec<Vec<Operand>>,

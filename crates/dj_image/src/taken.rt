@@ -1,7 +1,9 @@
 ghost use Rattle.std.specs.Prelude.{◌≡◌, get_or, option_and_then};
 ghost use Rattle.std.specs.Option.{option_map};
-ghost use Rattle.dj_model.specs.Opcodes.{array_rows};
-ghost use Rattle.dj_check.specs.Instructions.{index_of};
+ghost use Rattle.dj_names.specs.trusted.Types.{base_array};
+ghost use Rattle.dj_model.specs.trusted.Opcodes.{array_rows};
+ghost use Rattle.dj_check.specs.trusted.Instructions.{index_of};
+ghost use Rattle.dj_types.specs.Typed.{text_of_type};
 ghost use Rattle.dj_image.specs.declared.operand.Operand.TheVariants.{Unresolved};
 ghost use Rattle.dj_image.specs.Operands.{class_operand};
 ghost use Rattle.dj_image.specs.Taken.{interface_at, takes_literal, takes_member, is_method, is_class, takes_operand, indexed_operand, base_text, base_operand, kept_operand, code_kept, instr_kept, range_kept, entry_kept, class_at_index, named_kept, caught_kept, operand_with};
@@ -11,6 +13,7 @@ use crate::operand::Operand;
 use crate::owned::{OwnedEntry, OwnedPool};
 use crate::parts::ClassParts;
 use dj_labels::Protected;
+use dj_names::Base;
 use dj_ops::Instr;
 use dj_program::MethodCode;
 use dj_types::{Place, Types};
@@ -127,26 +130,27 @@ pub(crate) fn class_operand(class: Option<u32>) -> Operand
     }
 }
 
-// The descriptor of the array that newarray makes (JVMS table 6.5.newarray-A).
-fn base_text(base: u8) -> Option<&'static [u8]>
-    ensures { option_map (λ text. text.now) result ≡ base_text array_rows base }
+// What newarray makes arrays of (JVMS table 6.5.newarray-A), without floats and doubles.
+fn made_of(code: u8) -> Option<Base>
+    ensures { option_map (λ base. text_of_type (base_array base)) result ≡ base_text array_rows code }
 {
-    match base {
-        4 => Some(b"[Z"),
-        5 => Some(b"[C"),
-        8 => Some(b"[B"),
-        9 => Some(b"[S"),
-        10 => Some(b"[I"),
-        11 => Some(b"[J"),
+    match code {
+        4 => Some(Base::Boolean),
+        5 => Some(Base::Char),
+        8 => Some(Base::Byte),
+        9 => Some(Base::Short),
+        10 => Some(Base::Int),
+        11 => Some(Base::Long),
         _ => None,
     }
 }
 
-fn base_operand(types: &Types, text: Option<&[u8]>) -> Operand
-    ensures { result ≡ base_operand types.now (option_map (λ t. t.now) text.entry) }
+// The class of the array that newarray makes.
+fn array_operand(types: &Types, base: Option<Base>) -> Operand
+    ensures { result ≡ base_operand types.now (option_map (λ base. text_of_type (base_array base)) base) }
 {
-    match text {
-        Some(text) => class_operand(types.class_named(text)),
+    match base {
+        Some(base) => class_operand(types.array_of(base)),
         None => Operand::Nothing,
     }
 }
@@ -163,13 +167,13 @@ fn kept_operand(
     ensures { result ≡ kept_operand types.now pool.now operands.now made.now instr.now }
 {
     match instr {
-        Instr::Array { base } => base_operand(types, base_text(*base)),
+        Instr::Array { base } => array_operand(types, made_of(*base)),
         Instr::Class { op: 189, index } => class_operand(number_at(made, *index)),
         _ => indexed_operand(pool, operands, instr, index_of(instr)),
     }
 }
 
-// ---- what stands at places
+// ---- what is at places
 
 /// The code of the method at a place, where it has some.
 pub(crate) fn code_at(parts: &[ClassParts], place: Place) -> Option<&MethodCode>

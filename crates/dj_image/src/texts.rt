@@ -1,9 +1,9 @@
 ghost use Rattle.std.specs.Prelude.{◌≡◌, ℕ, ◌∷◌, ◌++◌, [], List, map, IfOk, OnOk};
 ghost use Rattle.std.specs.Option.{option_to_list};
 ghost use Rattle.std.specs.List.{AllByRecursion, filter_map};
-ghost use Rattle.dj_pool.specs.Pool.{IsPool};
-ghost use Rattle.dj_declared.specs.Files.{name_in};
-ghost use Rattle.dj_program.specs.Naming.{units_in};
+ghost use Rattle.dj_pool.specs.trusted.Pool.{IsPool};
+ghost use Rattle.dj_declared.specs.trusted.Files.{name_in};
+ghost use Rattle.dj_program.specs.trusted.Naming.{units_in};
 ghost use Rattle.dj_image.specs.Texts.{AreTexts, RiseStrictly, HasPool, class_texts, value_texts, key_items, texts_in, texts_of};
 ghost use Rattle.dj_image.specs.Uses.{SameMembers, pushed_text};
 
@@ -35,10 +35,8 @@ pub(crate) fn units_at(alloc: Global, pool: &OwnedPool, index: u16) -> Result<Un
     let Ok(_) = u32::try_from(text.len()) else {
         return Err(ImageError::Memory);
     };
-    match units_of(alloc, text) {
-        Ok(units) => Ok(units),
-        Err(_) => Err(ImageError::Memory),
-    }
+    let units = units_of(alloc, text).or(Err(ImageError::Memory))?;
+    Ok(units)
 }
 
 // Adds what a use pushes.

@@ -10,14 +10,14 @@ use Rattle.std.proofs.lemmas.Option.{same_Some}
 use Rattle.dj_names.specs.declared.descriptor.Base.TheVariants as bases
 use Rattle.dj_names.specs.declared.descriptor.Kind.TheVariants.{Long}
 use Rattle.dj_names.specs.declared.descriptor.Ty.{Ty}
-use Rattle.dj_names.specs.Types.{base_type, base_array}
+use Rattle.dj_names.specs.trusted.Types.{base_type, base_array}
 use Rattle.dj_report.specs.declared.report.Violation.{Violation}
-use Rattle.dj_model.specs.Program.{Body, Code, Method, Runs, is_static}
-use Rattle.dj_model.specs.Kinds.{Signature, signature_of}
-use Rattle.dj_model.specs.Numbers.{is_wide}
-use Rattle.dj_model.specs.Values.{in_slots}
-use Rattle.dj_model.specs.Linking.{FoundMethod}
-use Rattle.dj_model.specs.Rows.{class_with, method_with}
+use Rattle.dj_model.specs.trusted.Program.{Body, Code, Method, Runs, is_static}
+use Rattle.dj_model.specs.trusted.Kinds.{Signature, signature_of}
+use Rattle.dj_model.specs.trusted.Numbers.{is_wide}
+use Rattle.dj_model.specs.trusted.Values.{in_slots}
+use Rattle.dj_model.specs.trusted.Linking.{FoundMethod}
+use Rattle.dj_model.specs.SmallRuns.{class_with, method_with}
 use Rattle.dj_types.specs.declared.types.MemberOf.{MemberOf}
 use Rattle.dj_types.specs.Members.{all_methods}
 use Rattle.dj_shape.specs.declared.judge.ShapeFault.{ShapeFault}
@@ -41,7 +41,7 @@ not_otherwise : (IsPathOf (codes "p/B") (codes "p/B") → ⊥) × (IsPathOf (cod
 not_otherwise =
     (λ is. omega (arith, same_Some 66 115 (ends (codes "p/B") (codes "p/B") is)), λ is. omega (arith, same_Some 97 115 (ends (codes "p/B.java") (codes "p/B") is)))
 
--- ---- the line of what is told of a method
+-- ---- the line that reports a method
 
 abbrev told_line : List ℕ → ℕ → ℕ → Violation
 told_line member number rule = record { path = codes "p/B.class"; member = member; number = Some number; rule = rule }
@@ -122,7 +122,7 @@ no_shape_line_turned is =
     let named = ap (λ (f : FoundMethod). f.method.name ++ is.desc) (sym (first_found is.found is.there)) in
     omega (arith, same_Some 40 109 (ap (λ (t : List ℕ). slice_get t 0) (is.member ∙ named)))
 
--- parameters that don't fit are told at the first instruction
+-- parameters that don't fit are reported at the first instruction
 no_shape_line_at_1 : IsShapeLine imaged 0 (told_line (codes "m(J)V") 1 19) → ⊥
 no_shape_line_at_1 is =
     let found = first_found is.found is.there in

@@ -1,30 +1,32 @@
--- Rule 19 of a method of an image, by what is told of the method and what is kept of its code.
+-- Rule 19 of a method of an image, by what is known of the method and what is kept of its code.
 use Rattle.std.proofs.Common.{◌≡◌, ℕ, zero, suc, ◌<◌, List, [], ◌∷◌, ◌++◌, map, length, Option, Some, None, refl, sym, ap, ◌∙◌, subst, IsTrue, arith}
 use Rattle.std.specs.Prelude.{slice_get, is_some}
 use Rattle.std.proofs.lemmas.Bool.{false≢true}
 use Rattle.std.proofs.lemmas.List.{length-append, length-map}
 use Rattle.std.proofs.lemmas.Option.{same_Some, slice_get-map, slice_get_within}
-use Rattle.dj_names.specs.Types.{Name, class_type}
+use Rattle.dj_names.specs.trusted.Types.{Name, class_type}
 use Rattle.dj_names.specs.declared.descriptor.Desc.{Desc}
-use Rattle.dj_names.specs.Descriptors.{Describes, type_text}
-use Rattle.dj_names.specs.ModifiedUtf8.{Spells}
-use Rattle.dj_pool.specs.Pool.{Constant}
+use Rattle.dj_names.specs.trusted.Descriptors.{Describes, type_text}
+use Rattle.dj_names.specs.trusted.ModifiedUtf8.{SpellsUnits}
+use Rattle.dj_pool.specs.trusted.Pool.{Constant}
 use Rattle.dj_report.specs.declared.report.Violation.{Violation}
-use Rattle.dj_model.specs.Program.{Body, Code, Runs, is_static}
-use Rattle.dj_model.specs.Kinds.{Signature, signature_of}
-use Rattle.dj_model.specs.Shape.{HasShape, IsShapeFault}
-use Rattle.dj_model.specs.Linking.{FoundMethod}
-use Rattle.dj_declared.specs.Files.{name_in}
+use Rattle.dj_model.specs.trusted.Program.{Body, Code, Runs, is_static}
+use Rattle.dj_model.specs.trusted.Kinds.{Signature, signature_of}
+use Rattle.dj_model.specs.trusted.Shape.{IsShapeFault}
+use Rattle.dj_model.specs.Shape.{HasShape}
+use Rattle.dj_model.specs.trusted.Linking.{FoundMethod}
+use Rattle.dj_declared.specs.trusted.Files.{name_in}
 use Rattle.dj_declared.specs.Members.{IsDescriptor}
 use Rattle.dj_classes.specs.Tables.{name_of, name_at}
-use Rattle.dj_program.specs.Codes.{code_in}
+use Rattle.dj_program.specs.trusted.Codes.{code_in}
 use Rattle.dj_program.specs.Views.{parts_of}
 use Rattle.dj_types.specs.declared.types.MemberOf.{MemberOf}
 use Rattle.dj_types.specs.Typed.{types_of, texts_of}
 use Rattle.dj_types.specs.Members.{IsMethodThere}
 use Rattle.dj_shape.specs.declared.judge.ShapeFault.{ShapeFault}
 use Rattle.dj_shape.specs.Pools.{ArePoolKinds}
-use Rattle.dj_shape.specs.Rule.{signature_at, IsShapeAnswer}
+use Rattle.dj_shape.specs.trusted.Rule.{signature_at}
+use Rattle.dj_shape.specs.Rule.{IsShapeAnswer}
 use Rattle.dj_image.specs.Imaged.{Imaged, program_of, typed_of}
 use Rattle.dj_image.specs.Shaped.{AreShapeParts}
 use Rattle.dj_image.specs.declared.shaped.ShapeParts.{ShapeParts}
@@ -52,7 +54,7 @@ named_there imaged class name lt e =
     let long = length-map program name_of in
     sym (slice_get-map name_of program class) ∙ sym (front (map name_of program) (map type_text imaged.arrays) class (omega (arith, lt, long))) ∙ e
 
--- ---- what is told of a method
+-- ---- what is known of a method
 
 some_there : {A : Type 0} (o : Option A) → IsTrue (is_some o) → (x : A) × (o ≡ Some x)
 some_there None t = absurd (false≢true t)
@@ -88,10 +90,10 @@ module _ (imaged : Imaged) (method : ℕ) (m : MemberOf) (told : IsMethodThere (
   own_class : (class : Name) → name_at (program_of imaged) m.class ≡ Some class → class ≡ are.found.class
   own_class class named = same_Some class are.found.class (sym named ∙ told.class ∙ ap (λ (f : FoundMethod). Some f.class) same)
 
-  pub spelled_class : IsSpelled imaged method → (class : Name) → name_at (program_of imaged) m.class ≡ Some class → (units : List ℕ) × Spells class units
+  pub spelled_class : IsSpelled imaged method → (class : Name) → name_at (program_of imaged) m.class ≡ Some class → (units : List ℕ) × SpellsUnits class units
   spelled_class spelled class named =
       let units = spelled are.found are.there in
-      (units.0, subst (λ (c : Name). Spells c units.0) (sym (own_class class named)) units.1)
+      (units.0, subst (λ (c : Name). SpellsUnits c units.0) (sym (own_class class named)) units.1)
 
   line_of : HasKinds imaged method → (fault : ShapeFault) → IsAnswer m.flags parts (Some fault) → (class : Name) → name_at (program_of imaged) m.class ≡ Some class
       → (v : Violation) → IsLineOf class m fault v → IsShapeLine imaged method v

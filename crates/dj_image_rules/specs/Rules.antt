@@ -2,13 +2,14 @@
 use Rattle.std.specs.Prelude.{◌≡◌, ℕ, List, ◌++◌, codes, map, Option, Some, None, IsTrue, is_some, slice_get}
 use Rattle.std.specs.Char.Utf16.{utf16_lossy_chars}
 use Rattle.std.specs.Str.{encode_utf8_all}
-use Rattle.dj_names.specs.Descriptors.{Describes}
-use Rattle.dj_names.specs.ModifiedUtf8.{Spells}
+use Rattle.dj_names.specs.trusted.Descriptors.{Describes}
+use Rattle.dj_names.specs.trusted.ModifiedUtf8.{SpellsUnits}
 use Rattle.dj_report.specs.declared.report.Violation.{Violation}
-use Rattle.dj_model.specs.Program.{Program, Code, Runs, is_static}
-use Rattle.dj_model.specs.Kinds.{Signature, signature_of}
-use Rattle.dj_model.specs.Shape.{HasShape, IsShapeFault}
-use Rattle.dj_model.specs.Linking.{FoundMethod}
+use Rattle.dj_model.specs.trusted.Program.{Program, Code, Runs, is_static}
+use Rattle.dj_model.specs.trusted.Kinds.{Signature, signature_of}
+use Rattle.dj_model.specs.trusted.Shape.{IsShapeFault}
+use Rattle.dj_model.specs.Shape.{HasShape}
+use Rattle.dj_model.specs.trusted.Linking.{FoundMethod}
 use Rattle.dj_declared.specs.Files.{bare_class}
 use Rattle.dj_types.specs.Members.{all_methods}
 use Rattle.dj_image.specs.Imaged.{Imaged, program_of}
@@ -20,7 +21,7 @@ declared_of imaged = map bare_class (program_of imaged)
 abbrev pub IsMethodOf : Imaged → ℕ → FoundMethod → Type 0
 IsMethodOf imaged method found = slice_get (all_methods (program_of imaged)) method ≡ Some found
 
--- ---- what is asked of a method that rule 19 is judged of
+-- ---- what is required of a method of which rule 19 is judged
 
 -- its descriptor has no float and no double
 abbrev pub HasKinds : Imaged → ℕ → Type 0
@@ -29,14 +30,14 @@ HasKinds imaged method =
 
 -- the name of its class is modified UTF-8
 abbrev pub IsSpelled : Imaged → ℕ → Type 0
-IsSpelled imaged method = (found : FoundMethod) → IsMethodOf imaged method found → (units : List ℕ) × Spells found.class units
+IsSpelled imaged method = (found : FoundMethod) → IsMethodOf imaged method found → (units : List ℕ) × SpellsUnits found.class units
 
 -- ---- rule 19, SHAPE
 
 -- the path of a class's file: the characters of the class's name, and .class
 pub record IsPathOf (path name : List ℕ) : Type 0 where
   pub units : List ℕ
-  pub spelled : Spells name units
+  pub spelled : SpellsUnits name units
   pub is : path ≡ encode_utf8_all (utf16_lossy_chars units) ++ codes ".class"
 
 -- the line of a method that has no shape

@@ -1,4 +1,4 @@
--- The code's own: a line by what is told of a method.
+-- Used by the code alone: a line, by what is kept of a method.
 use Rattle.std.specs.Prelude.{◌≡◌, List, ◌++◌, ℕ, Some}
 use Rattle.dj_report.specs.declared.report.Violation.{Violation}
 use Rattle.dj_types.specs.declared.types.MemberOf.{MemberOf}

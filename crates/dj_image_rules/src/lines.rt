@@ -1,5 +1,5 @@
 ghost use Rattle.std.specs.Prelude.{◌≡◌, ◌++◌, ℕ, List, IfOk};
-ghost use Rattle.dj_names.specs.ModifiedUtf8.{Spells};
+ghost use Rattle.dj_names.specs.trusted.ModifiedUtf8.{SpellsUnits};
 ghost use Rattle.dj_image_rules.specs.Told.{IsLineOf};
 
 use crate::paths::{class_path, joined};
@@ -29,7 +29,7 @@ pub fn shape_line(
     member: &MemberOf<'_>,
     fault: ShapeFault,
 ) -> Result<Violation, ShapeError>
-    requires { (units : List ℕ) × Spells class.now units }
+    requires { (units : List ℕ) × SpellsUnits class.now units }
     ensures { IfOk result (IsLineOf class.now member.now fault) }
 {
     Ok(Violation {

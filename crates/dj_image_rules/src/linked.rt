@@ -1,8 +1,8 @@
 ghost use Rattle.std.specs.Prelude.{◌≡◌, ◌<◌, ◌^◌, [], length, map, All, IfOk};
-ghost use Rattle.dj_report.specs.Lines.{AreExactly};
+ghost use Rattle.dj_report.specs.trusted.Lines.{AreExactly};
 ghost use Rattle.dj_rules.specs.Views.{path_file_view};
-ghost use Rattle.dj_check.specs.Malformed.{IsRefused};
-ghost use Rattle.dj_link.specs.Lines.{IsLinkLine};
+ghost use Rattle.dj_check.specs.trusted.Malformed.{IsRefused};
+ghost use Rattle.dj_link.specs.trusted.Lines.{IsLinkLine};
 ghost use Rattle.dj_image_rules.specs.Rules.{declared_of};
 
 use dj_image::Image;

@@ -1,7 +1,7 @@
 ghost use Rattle.std.specs.Prelude.{◌≡◌, ◌++◌, ℕ, List, codes, IfOk};
 ghost use Rattle.std.specs.Char.Utf16.{utf16_lossy_chars};
 ghost use Rattle.std.specs.Str.{encode_utf8_all};
-ghost use Rattle.dj_names.specs.ModifiedUtf8.{Spells};
+ghost use Rattle.dj_names.specs.trusted.ModifiedUtf8.{SpellsUnits};
 ghost use Rattle.dj_image_rules.specs.Rules.{IsPathOf};
 
 use dj_names::{Name, NoMemory, TextError, units_of};
@@ -30,7 +30,7 @@ fn units_path(alloc: Global, units: &[u16]) -> Result<Name, ShapeError>
 
 /// The path of the file of the class of this name.
 pub fn class_path(alloc: Global, name: &[u8]) -> Result<Name, ShapeError>
-    requires { (units : List ℕ) × Spells name.now units }
+    requires { (units : List ℕ) × SpellsUnits name.now units }
     ensures { IfOk result (λ path. IsPathOf path name.now) }
 {
     // There is no memory for a longer name.

@@ -1,14 +1,15 @@
 ghost use Rattle.std.specs.Prelude.{◌≡◌, ℕ, ◌<◌, length, List, IfOk, Some};
-ghost use Rattle.dj_names.specs.ModifiedUtf8.{Spells};
-ghost use Rattle.dj_pool.specs.Pool.{Constant};
-ghost use Rattle.dj_model.specs.Kinds.{Signature};
-ghost use Rattle.dj_model.specs.Program.{is_static};
-ghost use Rattle.dj_declared.specs.Files.{name_in};
+ghost use Rattle.dj_names.specs.trusted.ModifiedUtf8.{SpellsUnits};
+ghost use Rattle.dj_pool.specs.trusted.Pool.{Constant};
+ghost use Rattle.dj_model.specs.trusted.Kinds.{Signature};
+ghost use Rattle.dj_model.specs.trusted.Program.{is_static};
+ghost use Rattle.dj_declared.specs.trusted.Files.{name_in};
 ghost use Rattle.dj_declared.specs.Members.{IsDescriptor};
-ghost use Rattle.dj_program.specs.Codes.{code_in};
+ghost use Rattle.dj_program.specs.trusted.Codes.{code_in};
 ghost use Rattle.dj_program.specs.Views.{parts_of};
 ghost use Rattle.dj_shape.specs.Pools.{ArePoolKinds};
-ghost use Rattle.dj_shape.specs.Rule.{signature_at, IsShapeAnswer};
+ghost use Rattle.dj_shape.specs.trusted.Rule.{signature_at};
+ghost use Rattle.dj_shape.specs.Rule.{IsShapeAnswer};
 ghost use Rattle.dj_classes.specs.Tables.{name_at};
 ghost use Rattle.dj_types.specs.Members.{all_methods};
 ghost use Rattle.dj_image.specs.Imaged.{program_of};
@@ -55,7 +56,7 @@ fn line_of(
     fault: ShapeFault,
 ) -> Result<Violation, ShapeError>
     requires there { member.now.class < length (program_of image.now) }
-    requires spelled { (class : List ℕ) → name_at (program_of image.now) member.now.class ≡ Some class → (units : List ℕ) × Spells class units }
+    requires spelled { (class : List ℕ) → name_at (program_of image.now) member.now.class ≡ Some class → (units : List ℕ) × SpellsUnits class units }
     ensures { IfOk result (IsLineIn image.now member.now fault) }
 {
     let class = class_name(image, member.class);

@@ -6,13 +6,13 @@ use Rattle.std.specs.Option.{option_map}
 use Rattle.std.proofs.lemmas.Bool.{ltb-true, ltb-false}
 use Rattle.std.proofs.lemmas.List.{drop_more, drop_all, get_or-reverse, length-reverse}
 use Rattle.std.proofs.lemmas.Option.{none-some, same_Some, get_or_from_slice_get, slice_get_within, slice_get-map}
-use Rattle.dj_names.specs.Types.{Name}
-use Rattle.dj_model.specs.Program as programs
-use Rattle.dj_model.specs.Program.{Program, Class, Field, Constant, is_static, fields_of, class_at}
-use Rattle.dj_model.specs.Linking.{FoundField, place_of_static}
+use Rattle.dj_names.specs.trusted.Types.{Name}
+use Rattle.dj_model.specs.trusted.Program as programs
+use Rattle.dj_model.specs.trusted.Program.{Program, Class, Field, Constant, is_static, fields_of, class_at}
+use Rattle.dj_model.specs.trusted.Linking.{FoundField, place_of_static}
 use Rattle.dj_model.specs.Sound.{IsProgram}
-use Rattle.dj_model.specs.State.{State, Terms}
-use Rattle.dj_model.specs.Initialisation.{Initialised, Ready, then_ready, with_constant, with_constants, constants_of}
+use Rattle.dj_model.specs.trusted.State.{State, Terms}
+use Rattle.dj_model.specs.trusted.Initialisation.{Initialised, Ready, then_ready, with_constant, with_constants, constants_of}
 use Rattle.dj_classes.specs.Tables.{fields_at}
 use Rattle.dj_linking.specs.Linked.{class_name}
 use Rattle.dj_linking.proofs.Resolution.{DoNamesDiffer, class_of_name}
@@ -44,7 +44,7 @@ pub record IsFieldOf (program : Program) (class at number : ℕ) : Type 0 where
   pub stands : slice_get (fields_at program class) at ≡ Some field
   pub there : slice_get (all_fields program) number ≡ Some (record { class = class_name program class; field = field })
 
--- what is told of the n-th
+-- what the number is, where there is one
 pub told_if : (at long first : ℕ) (number : Option ℕ) → number ≡ (if nat_lt at long then Some (first + at) else None) → (n : ℕ) → number ≡ Some n → (at < long) × (n ≡ first + at)
 told_if at long first number is n told = by (nat_lt at long) refl (sym told ∙ is) where
   by : (b : Bool) → nat_lt at long ≡ b → Some n ≡ (if b then Some (first + at) else None) → (at < long) × (n ≡ first + at)
@@ -111,7 +111,7 @@ value_of imaged field found units there begins = from (program_of imaged) field 
     | inr later ↦ from classes later.0 later.1 (λ d is. all d (suc is.0, omega (arith, is.1), is.2))
   ]
 
--- what is told as neither a number nor a text sets nothing
+-- an operand that is neither a number nor a text sets nothing
 pub nothing_set : (imaged : Imaged) (field place : ℕ) (operand : Operand) (st : Store) → IsConstantAt imaged field operand
     → ((z : ℤ) → operand ≡ operands.Int z → ⊥) → ((z : ℤ) → operand ≡ operands.Long z → ⊥) → ((text : ℕ) → operand ≡ operands.Text text → ⊥)
     → AreTexts imaged → IsStore imaged st → FillsConstant imaged place field st st filled.Done

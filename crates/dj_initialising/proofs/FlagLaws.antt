@@ -5,10 +5,10 @@ use Rattle.std.specs.Option.{option_map}
 use Rattle.std.proofs.lemmas.Bool.{false≢true}
 use Rattle.std.proofs.lemmas.List.{length-set, map-append, reverse-append}
 use Rattle.std.proofs.lemmas.List.Elements.{All-head, All-tail, All-nil, All-push, All-same}
-use Rattle.dj_names.specs.Types.{Name, same_name}
-use Rattle.dj_model.specs.Program.{Program}
-use Rattle.dj_model.specs.Linking.{option_list}
-use Rattle.dj_model.specs.Initialisation.{is_initialised, mark, mark_all, not_initialised}
+use Rattle.dj_names.specs.trusted.Types.{Name, same_name}
+use Rattle.dj_model.specs.trusted.Program.{Program}
+use Rattle.dj_model.specs.trusted.Linking.{option_list}
+use Rattle.dj_model.specs.trusted.Initialisation.{is_initialised, mark, mark_all, not_initialised}
 use Rattle.dj_classes.specs.Tables.{class_number, class_numbers}
 use Rattle.dj_classes.proofs.Numbered.{name_at-number}
 use Rattle.dj_linking.specs.Linked.{class_name}

@@ -9,13 +9,13 @@ use Rattle.std.proofs.lemmas.List.Elements.{All-head, All-tail}
 use Rattle.std.proofs.lemmas.Option.{same_Some, get_or_from_slice_get, slice_get_within}
 use Rattle.dj_names.specs.declared.descriptor.Desc.{Desc}
 use Rattle.dj_names.specs.declared.run.Value.{Value}
-use Rattle.dj_names.specs.Types.{Name, same_name, same_desc}
-use Rattle.dj_model.specs.Types.{Declared, initialiser_name, no_parameters}
-use Rattle.dj_model.specs.Program.{Program, Class, Method, Code, Runs, Body, Abstract, Native, method_in, method_of, method_at, runs_static, code_in, has_code, code_of, has_initialiser, initialiser_of, is_named, is_static, body_code}
-use Rattle.dj_model.specs.Linking.{FoundMethod}
-use Rattle.dj_model.specs.State.{Frame}
-use Rattle.dj_model.specs.Initialisation as initialisation
-use Rattle.dj_model.specs.Initialisation.{initialiser_frames, locals_for}
+use Rattle.dj_names.specs.trusted.Types.{Name, same_name, same_desc}
+use Rattle.dj_model.specs.trusted.Types.{Declared, initialiser_name, no_parameters}
+use Rattle.dj_model.specs.trusted.Program.{Program, Class, Method, Code, Runs, Body, Abstract, Native, method_in, method_of, method_at, runs_static, code_in, has_code, code_of, has_initialiser, initialiser_of, is_named, is_static, body_code}
+use Rattle.dj_model.specs.trusted.Linking.{FoundMethod}
+use Rattle.dj_model.specs.trusted.State.{Frame}
+use Rattle.dj_model.specs.trusted.Initialisation as initialisation
+use Rattle.dj_model.specs.trusted.Initialisation.{initialiser_frames, locals_for}
 use Rattle.dj_model.specs.Sound.{IsProgram}
 use Rattle.dj_stack.specs.Frames.{StackFrame, new_frame}
 use Rattle.dj_declared.proofs.DescTests.{same_name_is, same_name_itself, same_desc_is}
@@ -25,7 +25,7 @@ use Rattle.dj_linking.proofs.Resolution.{class_of_name}
 use Rattle.dj_types.specs.Members.{all_methods, methods_before, IsMethodThere}
 use Rattle.dj_types.specs.declared.types.MemberOf.{MemberOf}
 use Rattle.dj_types.proofs.Starts.{some_there}
-use Rattle.dj_program.specs.Codes as part_codes
+use Rattle.dj_program.specs.trusted.Codes as part_codes
 use Rattle.dj_program.specs.declared.code.MethodCode.{MethodCode}
 use Rattle.dj_image.specs.Codes.{TellsBody, IsBodyAt}
 use Rattle.dj_image.specs.declared.image.Body.TheVariants as bodies
@@ -97,7 +97,7 @@ frames_above imaged each (k ∷ ks) frames are within =
     (sym (frames_more (program_of imaged) (reverse (names_of (program_of imaged) ks)) (class_name (program_of imaged) k))
     ∙ ap (initialiser_frames (program_of imaged)) (sym (reverse-append (class_name (program_of imaged) k ∷ []) (names_of (program_of imaged) ks))))
 
--- there are so many
+-- there are this many
 one_count : (imaged : Imaged) (class : Name) (o : Option Initialiser) → IsInitialiserOf imaged class o → length (initialiser_frames (program_of imaged) (class ∷ [])) ≡ one_if o
 one_count imaged class None none = ap (λ (b : Bool). length ((if b then initialisation.new_frame (program_of imaged) (initialiser_of class) [] ∷ [] else []) ++ [])) none
 one_count imaged class (Some i) is = ap (λ (b : Bool). length ((if b then initialisation.new_frame (program_of imaged) (initialiser_of class) [] ∷ [] else []) ++ [])) is.has
@@ -188,7 +188,7 @@ method_told program class at number is n told =
 pub method_number_within : (program : Program) (class at n : ℕ) → IsMethodOf program class at n → n < length (all_methods program)
 method_number_within program class at n m = slice_get_within (all_methods program) n _ m.there
 
--- the texts are those of an initialiser where they are told so
+-- the texts are those of an initialiser where the test says so
 spelled_parts : (name desc : List ℕ) → spells_initialiser name desc ≡ true → (name ≡ codes "<clinit>") × (desc ≡ codes "()V")
 spelled_parts name desc e =
     let parts = and_parts (same_name name initialiser_name) (same_name desc (codes "()V")) e in
@@ -200,13 +200,13 @@ other_spelled name desc e is =
     ap (λ (b : Bool). b && same_name desc (codes "()V")) (same_name_itself name initialiser_name is.0) ∙ same_name_itself desc (codes "()V") is.1 in
     false≢true (sym e ∙ same)
 
--- a method that isn't told so has another name or descriptor
+-- where the test says no, the method has another name or descriptor
 pub other_named : (imaged : Imaged) (class at number : ℕ) (told : MemberOf) (m : IsMethodOf (program_of imaged) class at number) → IsMethodThere (typed_of imaged) number told
     → spells_initialiser told.name.now told.desc.now ≡ false → is_named initialiser_name no_parameters m.method.name m.method.desc ≡ false
 other_named imaged class at number told m there other =
     sym (initialiser_of_number (program_of imaged) number _ m.there) ∙ no_initialiser_told imaged number told there (other_spelled told.name.now told.desc.now other)
 
--- and one that is, is the initialiser of the class
+-- and where it says yes, it is the initialiser of the class
 pub named_so : (imaged : Imaged) (class at number : ℕ) (told : MemberOf) (m : IsMethodOf (program_of imaged) class at number) → IsMethodThere (typed_of imaged) number told
     → spells_initialiser told.name.now told.desc.now ≡ true → declared_at (program_of imaged) number ≡ initialiser_of (class_name (program_of imaged) class)
 named_so imaged class at number told m there so =
@@ -248,7 +248,7 @@ found_so imaged class at number told o formed m there so runs = by o runs where
         room = is.room;
       }
 
--- what a method that runs code is told as
+-- what is recorded of a method that runs code
 pub runs_told : (imaged : Imaged) (method flags : ℕ) (code : Bor MethodCode) (i : Initialiser) → is_static flags ≡ true → IsBodyAt imaged method (bodies.Code code)
     → i.method ≡ method → i.locals ≡ code.now.max_locals → i.room ≡ code.now.max_stack → RunsIt imaged method flags i
 unfolding part_codes.code_in

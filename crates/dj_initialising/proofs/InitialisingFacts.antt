@@ -3,10 +3,10 @@ use Rattle.std.proofs.Common.{◌≡◌, ℕ, true, false, List, [], ◌∷◌, 
 use Rattle.std.proofs.lemmas.Bool.{false≢true}
 use Rattle.dj_names.specs.declared.descriptor.Desc.{Desc}
 use Rattle.dj_names.specs.declared.descriptor.Desc.TheVariants as descs
-use Rattle.dj_names.specs.Library.{int}
-use Rattle.dj_model.specs.Program.{Program, Class, Field}
-use Rattle.dj_model.specs.Linking.{static_place}
-use Rattle.dj_model.specs.Rows.{class_with, field_with, initialiser_with}
+use Rattle.dj_names.specs.trusted.Library.{int}
+use Rattle.dj_model.specs.trusted.Program.{Program, Class, Field}
+use Rattle.dj_model.specs.trusted.Linking.{static_place}
+use Rattle.dj_model.specs.SmallRuns.{class_with, field_with, initialiser_with}
 use Rattle.dj_stack.specs.Frames.{new_frame}
 use Rattle.dj_classes.specs.Tables.{super_number}
 use Rattle.dj_initialising.specs.declared.initialisers.Initialiser.{Initialiser}

@@ -3,8 +3,8 @@ use Rattle.std.proofs.Common.{◌≡◌, ℕ, ◌+◌, ◌<◌, Bool, true, fals
 use Rattle.std.proofs.lemmas.List.Elements.{All-push}
 use Rattle.std.proofs.lemmas.Option.{none-some, same_Some}
 use Rattle.dj_names.specs.declared.descriptor.Ty.{Ty}
-use Rattle.dj_names.specs.Heaps.{Heap, Text, next_number, text_size, with_new}
-use Rattle.dj_model.specs.Arrays.{passes_limit}
+use Rattle.dj_names.specs.trusted.Heaps.{Heap, Text, next_number, text_size, with_new}
+use Rattle.dj_model.specs.trusted.Arrays.{passes_limit}
 use Rattle.dj_calls.specs.Known.{IsKnown}
 use Rattle.dj_members.specs.Literals.{KeptBy, kept_by, kept_or_made_by, object_of}
 

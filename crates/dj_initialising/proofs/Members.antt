@@ -4,9 +4,9 @@ use Rattle.std.specs.Prelude.{slice_get, IfOk, Result, Ok, Err}
 use Rattle.std.specs.Option.{option_map}
 use Rattle.std.proofs.lemmas.List.{length-map, length-append}
 use Rattle.std.proofs.lemmas.Option.{slice_get-map}
-use Rattle.dj_model.specs.Program.{Program, Class, Method, Field}
-use Rattle.dj_names.specs.Types.{class_type}
-use Rattle.dj_model.specs.Linking.{FoundMethod, FoundField}
+use Rattle.dj_model.specs.trusted.Program.{Program, Class, Method, Field}
+use Rattle.dj_names.specs.trusted.Types.{class_type}
+use Rattle.dj_model.specs.trusted.Linking.{FoundMethod, FoundField}
 use Rattle.dj_classes.specs.Tables.{name_of}
 use Rattle.dj_types.specs.Typed.{Typed, types_of}
 use Rattle.dj_types.specs.Members.{all_methods, all_fields, methods_in, fields_in, methods_before, fields_before}

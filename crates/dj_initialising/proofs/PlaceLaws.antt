@@ -7,15 +7,15 @@ use Rattle.std.proofs.lemmas.Bool.{and_parts, false≢true}
 use Rattle.std.proofs.lemmas.List.{map-append, length-map, take_more, take_all}
 use Rattle.std.specs.List.Sorted.{IsStrictlySortedBy}
 use Rattle.std.proofs.lemmas.Option.{none-some, same_Some, slice_get-map, get_or_from_slice_get, slice_get_within}
-use Rattle.dj_names.specs.Types.{Name, same_name, same_desc}
+use Rattle.dj_names.specs.trusted.Types.{Name, same_name, same_desc}
 use Rattle.dj_names.specs.declared.descriptor.Desc.{Desc}
-use Rattle.dj_model.specs.Program.{Program, Class, Field, fields_of, is_named, is_static}
-use Rattle.dj_model.specs.Linking.{FoundField, count_fields, fields_before, static_place, place_of_static, static_count}
+use Rattle.dj_model.specs.trusted.Program.{Program, Class, Field, fields_of, is_named, is_static}
+use Rattle.dj_model.specs.trusted.Linking.{FoundField, count_fields, fields_before, static_place, place_of_static, static_count}
 use Rattle.dj_model.specs.Sound.{IsProgram, fields_differ}
 use Rattle.dj_model.proofs.MappedNames.{either}
 use Rattle.dj_declared.proofs.DescTests.{same_name_is, same_name_itself, same_desc_is, same_desc_itself}
 use Rattle.dj_classes.specs.Tables.{name_at, fields_at}
-use Rattle.dj_classes.specs.Rows.{RiseStrictly}
+use Rattle.dj_classes.specs.ClassRows.{RiseStrictly}
 use Rattle.dj_classes.proofs.Orders.{not_same_if_less, rise-from_names_rise}
 use Rattle.dj_classes.proofs.Shared.{first_differs}
 use Rattle.dj_classes.proofs.Numbered.{class_number-rise}
@@ -221,7 +221,7 @@ places_length : (n : ℕ) (fields : List Field) → length (places_from n fields
 places_length n [] = refl
 places_length n (f ∷ fields) = ap suc (places_length (n + one f) fields)
 
--- either in the first list, or so many places later in the other
+-- either in the first list, or this many places later in the other
 data Split {A B : Type 0} (xs ys : List A) (us vs : List B) (i : ℕ) : Type 0 where
   first : slice_get (xs ++ ys) i ≡ slice_get xs i → slice_get (us ++ vs) i ≡ slice_get us i → Split xs ys us vs i
   second : (j : ℕ) → slice_get (xs ++ ys) i ≡ slice_get ys j → slice_get (us ++ vs) i ≡ slice_get vs j → Split xs ys us vs i
@@ -263,7 +263,7 @@ place_within program places i place found formed are at static is =
     let count = are.count in
     omega (arith, lt, count)
 
--- what is told of a field is its place
+-- what is recorded of a field is its place
 pub place_told : (program : Program) (places : Places) (i place : ℕ) (found : FoundField) → ArePlaces program places → slice_get (all_fields program) i ≡ Some found
     → slice_get places.each i ≡ Some place → place ≡ place_of_static program found
 place_told program places i place found are at is =

@@ -3,11 +3,11 @@ use Rattle.std.proofs.Common.{◌≡◌, ℕ, ◌+◌, ◌<◌, Bool, true, List
 use Rattle.std.proofs.lemmas.Bool.{lt-ltb, le-ltb}
 use Rattle.std.proofs.lemmas.List.{length-map}
 use Rattle.dj_names.specs.declared.run.Outcome.TheVariants as outcomes
-use Rattle.dj_names.specs.Types.{Name}
-use Rattle.dj_model.specs.Types.{Declared}
-use Rattle.dj_model.specs.Linking.{most_classes, chain}
-use Rattle.dj_model.specs.State.{Frame, State, Terms}
-use Rattle.dj_model.specs.Initialisation.{Initialised, Waits, Fails, most_frames, then_ready, not_initialised, constants_of, initialiser_frames, with_frames, initialise_all, initialise}
+use Rattle.dj_names.specs.trusted.Types.{Name}
+use Rattle.dj_model.specs.trusted.Types.{Declared}
+use Rattle.dj_model.specs.trusted.Linking.{most_classes, chain}
+use Rattle.dj_model.specs.trusted.State.{Frame, State, Terms}
+use Rattle.dj_model.specs.trusted.Initialisation.{Initialised, Waits, Fails, most_frames, then_ready, not_initialised, constants_of, initialiser_frames, with_frames, initialise_all, initialise}
 use Rattle.dj_model.specs.Sound.{IsProgram}
 use Rattle.dj_stack.specs.Frames.{StackFrame}
 use Rattle.dj_linking.specs.Linked.{class_name}

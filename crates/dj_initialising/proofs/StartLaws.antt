@@ -6,9 +6,9 @@ use Rattle.std.proofs.Common.{eqb-true}
 use Rattle.std.proofs.lemmas.Bool.{eqb-false, false≢true}
 use Rattle.std.proofs.lemmas.List.{length-replicate, get_or-replicate}
 use Rattle.std.proofs.lemmas.Option.{none-some, same_Some, slice_get-get_or, slice_get_within}
-use Rattle.dj_names.specs.Types.{same_name}
-use Rattle.dj_model.specs.Program.{Program, Class, superclass_of}
-use Rattle.dj_model.specs.Linking.{static_count}
+use Rattle.dj_names.specs.trusted.Types.{same_name}
+use Rattle.dj_model.specs.trusted.Program.{Program, Class, superclass_of}
+use Rattle.dj_model.specs.trusted.Linking.{static_count}
 use Rattle.dj_model.proofs.MappedNames.{either}
 use Rattle.dj_declared.proofs.DescTests.{same_name_is, same_name_itself}
 use Rattle.dj_classes.specs.Tables.{class_number, super_number}

@@ -9,17 +9,18 @@ use Rattle.dj_names.specs.declared.run.Value.{Value}
 use Rattle.dj_names.specs.declared.run.Value.TheVariants as values
 use Rattle.dj_names.specs.declared.run.Outcome.TheVariants as outcomes
 use Rattle.dj_names.specs.declared.descriptor.Ty.{Ty}
-use Rattle.dj_names.specs.Heaps.{heap_map, field_bits, text_size}
-use Rattle.dj_names.specs.Types.{Name, same_name, class_type}
+use Rattle.dj_names.specs.trusted.Heaps.{field_bits, text_size}
+use Rattle.dj_names.specs.Heaps.{heap_map}
+use Rattle.dj_names.specs.trusted.Types.{Name, same_name, class_type}
 use Rattle.dj_natives.specs.Numbered.{type_at}
-use Rattle.dj_model.specs.Types.{string_name}
-use Rattle.dj_model.specs.Program as programs
-use Rattle.dj_model.specs.Program.{Program, Class, Field, Constant, is_static, fields_of, class_at}
-use Rattle.dj_model.specs.Linking.{FoundField}
-use Rattle.dj_model.specs.State.{State, Terms}
-use Rattle.dj_model.specs.Members as members
-use Rattle.dj_model.specs.Members.{with_literal}
-use Rattle.dj_model.specs.Initialisation.{Initialised, Ready, Fails, then_ready, with_text, with_static}
+use Rattle.dj_model.specs.trusted.Types.{string_name}
+use Rattle.dj_model.specs.trusted.Program as programs
+use Rattle.dj_model.specs.trusted.Program.{Program, Class, Field, Constant, is_static, fields_of, class_at}
+use Rattle.dj_model.specs.trusted.Linking.{FoundField}
+use Rattle.dj_model.specs.trusted.State.{State, Terms}
+use Rattle.dj_model.specs.trusted.Members as members
+use Rattle.dj_model.specs.trusted.Members.{with_literal}
+use Rattle.dj_model.specs.trusted.Initialisation.{Initialised, Ready, Fails, then_ready, with_text, with_static}
 use Rattle.dj_heap.specs.Heaps.{LimitedHeap}
 use Rattle.dj_calls.specs.Known.{AreKnown}
 use Rattle.dj_members.specs.Literals as literals
@@ -216,7 +217,7 @@ module _ (imaged : Imaged) (field : ℕ) (operand : Operand) (at : IsConstantAt 
       let t = text_told imaged found.field.constant text (sym constant_is ∙ e) in
       t.is ∙ ap (λ (us : List ℕ). Some (programs.Text us)) (sym (units_told imaged.texts text t.units (units_at imaged.texts t.units text t.number)))
 
--- a number of a text that a constant tells
+-- a number of a text that a constant has
 pub text_known : (imaged : Imaged) (field text : ℕ) → IsConstantAt imaged field (operands.Text text) → text < length imaged.texts
 text_known imaged field text at =
     let t = text_told imaged at.found.field.constant text (sym at.is) in
@@ -244,7 +245,7 @@ pub text_constant : (imaged : Imaged) (field place text : ℕ) (operand : Operan
 text_constant imaged field place text operand before after result at is fills found there =
     subst (λ (constant : Option Constant). Fills imaged (one_constant imaged place constant) before after result) (sym (text_is imaged field operand at found there text is)) fills
 
--- what is told as neither sets nothing
+-- an operand that is neither sets nothing
 pub nothing_told : (imaged : Imaged) (found : FoundField) (operand : Operand) → operand ≡ value_operand imaged found.field.constant
     → ((z : ℤ) → operand ≡ operands.Int z → ⊥) → ((z : ℤ) → operand ≡ operands.Long z → ⊥) → ((text : ℕ) → operand ≡ operands.Text text → ⊥)
     → ((units : List ℕ) → found.field.constant ≡ Some (programs.Text units) → (n : ℕ) × (units_number imaged.texts units ≡ Some n))

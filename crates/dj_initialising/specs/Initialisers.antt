@@ -1,9 +1,9 @@
 -- The initialisers of classes, by numbers (JVMS 2.9).
 use Rattle.std.specs.Prelude.{◌≡◌, ℕ, ◌+◌, ◌<◌, ◌&&◌, Bool, true, false, List, [], ◌∷◌, length, get_or, Option, Some, None, codes, slice_get}
-use Rattle.dj_names.specs.Types.{Name, same_name}
-use Rattle.dj_model.specs.Types.{initialiser_name}
-use Rattle.dj_model.specs.Program.{Code, Runs, code_of, has_code, has_initialiser, initialiser_of, is_static}
-use Rattle.dj_model.specs.Linking.{FoundMethod, declared_of}
+use Rattle.dj_names.specs.trusted.Types.{Name, same_name}
+use Rattle.dj_model.specs.trusted.Types.{initialiser_name}
+use Rattle.dj_model.specs.trusted.Program.{Code, Runs, code_of, has_code, has_initialiser, initialiser_of, is_static}
+use Rattle.dj_model.specs.trusted.Linking.{FoundMethod, declared_of}
 use Rattle.dj_stack.specs.Frames.{StackFrame, new_frame}
 use Rattle.dj_linking.specs.Linked.{class_name}
 use Rattle.dj_types.specs.Members.{all_methods}
@@ -29,13 +29,13 @@ IsInitialiserOf imaged class (Some i) = IsInitialiser imaged class i
 pub record AreInitialisers (imaged : Imaged) (list : List (Option Initialiser)) : Type 0 where
   pub each : (k : ℕ) → k < length (program_of imaged) → IsInitialiserOf imaged (class_name (program_of imaged) k) (get_or list k None)
 
--- ---- the code's own: how one is found
+-- ---- used by the code alone: how one is found
 
 -- the descriptor without parameters and result is ()V
 abbrev pub spells_initialiser : List ℕ → List ℕ → Bool
 spells_initialiser name desc = same_name name initialiser_name && same_name desc (codes "()V")
 
--- the method runs code, and it is told so
+-- the method is static and runs code, and the initialiser is this method
 pub record RunsIt (imaged : Imaged) (method flags : ℕ) (i : Initialiser) : Type 0 where
   pub static : is_static flags ≡ true
   pub number : i.method ≡ method

@@ -1,7 +1,7 @@
 -- The places of static fields, by the numbers of fields.
 use Rattle.std.specs.Prelude.{◌≡◌, ℕ, ◌+◌, true, List, [], ◌∷◌, ◌++◌, map, if◌then◌else◌}
-use Rattle.dj_model.specs.Program.{Program, Field, is_static}
-use Rattle.dj_model.specs.Linking.{count_fields, place_of_static, static_count}
+use Rattle.dj_model.specs.trusted.Program.{Program, Field, is_static}
+use Rattle.dj_model.specs.trusted.Linking.{count_fields, place_of_static, static_count}
 use Rattle.dj_types.specs.Members.{all_fields}
 
 -- one place for each field, and how many static fields there are
@@ -13,9 +13,9 @@ pub record ArePlaces (program : Program) (places : Places) : Type 0 where
   pub each : places.each ≡ map (place_of_static program) (all_fields program)
   pub count : places.count ≡ static_count program
 
--- ---- the code's own: as they are counted
+-- ---- used by the code alone: as they are counted
 
--- of each field how many static ones stand before it, where so many stand before the first
+-- for each field how many static ones come before it, where this many come before the first
 abbrev pub places_from : ℕ → List Field → List ℕ
 places_from n [] = []
 places_from n (f ∷ fields) = n ∷ places_from (n + count_fields true (f ∷ [])) fields

@@ -1,8 +1,8 @@
 -- The initialisation of classes at a use, by what a machine keeps.
 use Rattle.std.specs.Prelude.{◌≡◌, ℕ, ◌+◌, ◌<◌, ◌≤◌, Bool, List, length, Option, Some}
 use Rattle.dj_names.specs.declared.run.Outcome.TheVariants as outcomes
-use Rattle.dj_model.specs.State.{State, Terms}
-use Rattle.dj_model.specs.Initialisation.{Initialised, Ready, Waits, Fails, initialise}
+use Rattle.dj_model.specs.trusted.State.{State, Terms}
+use Rattle.dj_model.specs.trusted.Initialisation.{Initialised, Ready, Waits, Fails, initialise}
 use Rattle.dj_stack.specs.Frames.{StackFrame}
 use Rattle.dj_linking.specs.Linked.{class_name}
 use Rattle.dj_image.specs.Imaged.{Imaged, program_of}
@@ -14,7 +14,7 @@ use Rattle.dj_initialising.specs.Flags.{AreFlags}
 use Rattle.dj_initialising.specs.Initialisers.{initialiser_count, pushed}
 use Rattle.dj_initialising.specs.Store.{Store, IsStore, stored}
 
--- what of a machine an initialisation may change
+-- what an initialisation may change of a machine
 pub record Parts : Type 0 where
   pub flags : List Bool
   pub store : Store
@@ -33,7 +33,7 @@ prepared_told prepared.Waits s = Waits s
 prepared_told prepared.TooDeep s = Fails outcomes.TooDeep s
 prepared_told (prepared.HeapFull used size) s = Fails (outcomes.HeapFull used size) s
 
--- the model's initialisation of the class is told, with the state that it leaves
+-- the model's initialisation of the class is this, and leaves this state
 pub record Prepares (imaged : Imaged) (class : ℕ) (before after : Parts) (result : Prepared) : Type 0 where
   pub effect : (terms : Terms) (s : State) → terms.limit ≡ Some before.store.heap.limit
       → initialise (program_of imaged) imaged.prefix terms (class_name (program_of imaged) class) (with_parts imaged before s) ≡ prepared_told result (with_parts imaged after s)
@@ -42,20 +42,20 @@ pub record Prepares (imaged : Imaged) (class : ℕ) (before after : Parts) (resu
   pub flags : AreFlags (program_of imaged) after.flags
   pub frames : AreActivations imaged before.frames → AreActivations imaged after.frames
 
--- ---- the code's own: frames alone
+-- ---- used by the code alone: frames alone
 
 abbrev pub left_of : Prepared → List StackFrame → List StackFrame → List StackFrame
 left_of prepared.Waits pushed old = pushed
 left_of result pushed old = old
 
--- with so many initialisers above so many frames
+-- with this many frames of initialisers on top of this many frames
 abbrev pub IsCause : ℕ → ℕ → Prepared → Type 0
 IsCause count depth prepared.Ready = count ≡ 0
 IsCause count depth prepared.Waits = (0 < count) × (count + depth ≤ 1024)
 IsCause count depth prepared.TooDeep = (0 < count) × (1024 < count + depth)
 IsCause count depth (prepared.HeapFull used size) = ⊥
 
--- the initialisers of these classes stand above, where there are some and the frames aren't too many
+-- the frames of these classes' initialisers are pushed, where there are some and the frames aren't too many
 pub record Pushes (each : List (Option Initialiser)) (classes : List ℕ) (old new : List StackFrame) (result : Prepared) : Type 0 where
   pub frames : new ≡ left_of result (pushed each classes old) old
   pub cause : IsCause (initialiser_count each classes) (length old) result

@@ -2,12 +2,12 @@
 use Rattle.std.specs.Prelude.{◌≡◌, ℕ, List, length, Option, Some, slice_get, if◌then◌else◌}
 use Rattle.dj_names.specs.declared.run.Outcome.TheVariants as outcomes
 use Rattle.dj_names.specs.Heaps.{heap_map}
-use Rattle.dj_names.specs.Types.{Name}
+use Rattle.dj_names.specs.trusted.Types.{Name}
 use Rattle.dj_natives.specs.Numbered.{type_at}
-use Rattle.dj_model.specs.Program.{Constant, Field, is_static}
-use Rattle.dj_model.specs.Linking.{FoundField, place_of_static, static_count}
-use Rattle.dj_model.specs.State.{State, Terms}
-use Rattle.dj_model.specs.Initialisation.{Initialised, Ready, Fails, with_constant, with_constants, constants_of}
+use Rattle.dj_model.specs.trusted.Program.{Constant, Field, is_static}
+use Rattle.dj_model.specs.trusted.Linking.{FoundField, place_of_static, static_count}
+use Rattle.dj_model.specs.trusted.State.{State, Terms}
+use Rattle.dj_model.specs.trusted.Initialisation.{Initialised, Ready, Fails, with_constant, with_constants, constants_of}
 use Rattle.dj_heap.specs.Heaps.{LimitedHeap}
 use Rattle.dj_calls.specs.Known.{AreKnown}
 use Rattle.dj_members.specs.Literals as literals
@@ -38,7 +38,7 @@ stored imaged st s = record s {
   literals = literals_map imaged.texts st.literals.made;
 }
 
--- they are of the image: so many static fields, and literals of its texts
+-- they are of the image: this many static fields, and literals of its texts
 pub record IsStore (imaged : Imaged) (st : Store) : Type 0 where
   pub statics : length st.statics ≡ static_count (program_of imaged)
   pub count : st.literals.count ≡ length imaged.texts
@@ -56,14 +56,14 @@ pub record Leads (imaged : Imaged) (whole rest : Terms → State → Initialised
   pub effect : (terms : Terms) (s : State) → terms.limit ≡ Some before.heap.limit → whole terms (stored imaged before s) ≡ rest terms (stored imaged after s)
   pub limit : after.heap.limit ≡ before.heap.limit
   pub are : IsStore imaged after
-  -- new objects are texts alone
+  -- all new objects are texts
   pub known : AreKnown (types_of (typed_of imaged)) before.heap → AreKnown (types_of (typed_of imaged)) after.heap
 
 abbrev pub told : Filled → State → Initialised
 told filled.Done s = Ready s
 told (filled.HeapFull used size) s = Fails (outcomes.HeapFull used size) s
 
--- all of it was done, as it is told
+-- all of it was done, with this result
 abbrev pub Fills : Imaged → (Terms → State → Initialised) → Store → Store → Filled → Type 0
 Fills imaged whole before after result = Leads imaged whole (λ terms. told result) before after
 

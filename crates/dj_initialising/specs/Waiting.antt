@@ -1,9 +1,9 @@
 -- Which classes wait for their initialisation when one is used, by their numbers.
 use Rattle.std.specs.Prelude.{◌≡◌, ℕ, suc, ◌+◌, ◌-◌, ◌<◌, ◌⊎◌, Bool, true, false, List, [], ◌∷◌, ◌++◌, map, length, set, reverse, Option, Some, All, IfSome}
-use Rattle.dj_names.specs.Types.{Name}
-use Rattle.dj_model.specs.Program.{Program}
-use Rattle.dj_model.specs.Linking.{chain}
-use Rattle.dj_model.specs.Initialisation.{mark_all, not_initialised}
+use Rattle.dj_names.specs.trusted.Types.{Name}
+use Rattle.dj_model.specs.trusted.Program.{Program}
+use Rattle.dj_model.specs.trusted.Linking.{chain}
+use Rattle.dj_model.specs.trusted.Initialisation.{mark_all, not_initialised}
 use Rattle.dj_classes.specs.Tables.{super_number}
 use Rattle.dj_linking.specs.Linked.{class_name}
 use Rattle.dj_linking.specs.Numbers.{numbers_up}
@@ -19,7 +19,7 @@ pub record AreWaiting (program : Program) (class : ℕ) (old new : List Bool) (c
   pub numbers : All (λ k. k < length program) classes
   pub are : AreFlags program new
 
--- ---- the code's own: on the way up
+-- ---- used by the code alone: on the way up
 
 abbrev pub marks : List Bool → List ℕ → List Bool
 marks flags [] = flags
@@ -31,7 +31,7 @@ waiting_count [] = 0
 waiting_count (true ∷ flags) = waiting_count flags
 waiting_count (false ∷ flags) = suc (waiting_count flags)
 
--- so many levels are looked at, at most; those on the path wait, and what waits above it begins at the next class
+-- at most this many levels are looked at; the classes on the path wait, and what waits above it begins at the next class
 pub record IsWalked (program : Program) (levels class : ℕ) (old now : List Bool) (path : List ℕ) (next : Option ℕ) : Type 0 where
   pub rest : not_begun old (numbers_up levels program (Some class)) ≡ path ++ not_begun now (numbers_up (levels - length path) program next)
   pub few : length path + waiting_count now ≡ waiting_count old

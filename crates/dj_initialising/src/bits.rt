@@ -1,5 +1,5 @@
 ghost use Rattle.std.specs.Prelude.{◌≡◌};
-ghost use Rattle.dj_model.specs.Program.{is_static};
+ghost use Rattle.dj_model.specs.trusted.Program.{is_static};
 
 // The flag of static fields and methods (JVMS tables 4.5-A and 4.6-A).
 const STATIC: u16 = 0x0008;

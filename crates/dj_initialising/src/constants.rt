@@ -1,6 +1,6 @@
 ghost use Rattle.std.specs.Prelude.{◌≡◌, ◌<◌, All, Some, length, reverse, IfOk, slice_get};
-ghost use Rattle.dj_model.specs.Program.{Text};
-ghost use Rattle.dj_model.specs.Linking.{FoundField};
+ghost use Rattle.dj_model.specs.trusted.Program.{Text};
+ghost use Rattle.dj_model.specs.trusted.Linking.{FoundField};
 ghost use Rattle.dj_model.specs.Sound.{IsProgram};
 ghost use Rattle.dj_members.specs.Literals.{text_at};
 ghost use Rattle.dj_types.specs.Members.{all_fields};

@@ -1,7 +1,7 @@
-/// What came of constants that static fields had to be given.
+/// Whether static fields were given their constants.
 #[derive(Clone, Copy, Debug)]
 pub enum Filled {
-    /// They have them.
+    /// They have their constants.
     Done,
     /// The object of a text doesn't fit.
     HeapFull { used: u64, size: u64 },

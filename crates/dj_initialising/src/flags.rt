@@ -5,7 +5,7 @@ use dj_names::NoMemory;
 use std::alloc::Global;
 use std::marker::Model;
 
-/// Of each class, in their order, whether its initialisation has begun.
+/// For each class, in their order, whether its initialisation has begun.
 #[derive(Debug, Drop)]
 pub struct Initialised {
     flags: Vec<bool>,
@@ -20,7 +20,7 @@ impl Model for Initialised {
 }
 
 impl Initialised {
-    /// Of so many classes none.
+    /// The flags of this many classes, none of which has begun.
     pub fn new(alloc: Global, count: u32) -> Result<Initialised, NoMemory>
         ensures { IfOk result (λ initialised. initialised ≡ replicate count false) }
     {

@@ -21,7 +21,7 @@ pub struct Initialiser {
     pub room: u16,
 }
 
-/// Of each class its initialiser, where it has one.
+/// For each class its initialiser, where it has one.
 #[derive(Debug, Drop)]
 pub struct Initialisers {
     each: Vec<Option<Initialiser>>,
@@ -37,7 +37,7 @@ impl Model for Initialisers {
 }
 
 impl Initialisers {
-    /// Those of the classes of an image. Each method is looked at once at most.
+    /// The initialisers of the classes of an image. Each method is looked at once at most.
     pub fn of(alloc: Global, image: &Image) -> Result<Initialisers, NoMemory>
         requires { IsProgram (program_of image.now) }
         ensures { IfOk result (λ initialisers. AreInitialisers image.now initialisers) }
@@ -50,7 +50,7 @@ impl Initialisers {
         Ok(Initialisers { each })
     }
 
-    /// That of a class; an array has none.
+    /// The initialiser of a class; an array has none.
     pub fn initialiser(&self, class: u32) -> Option<Initialiser>
         ensures { result ≡ get_or self.now class None }
     {

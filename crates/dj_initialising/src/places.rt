@@ -1,5 +1,5 @@
 ghost use Rattle.std.specs.Prelude.{◌≡◌, ◌+◌, ◌++◌, ◌<◌, true, length, Some, IfOk, OnOk, slice_get};
-ghost use Rattle.dj_model.specs.Linking.{count_fields};
+ghost use Rattle.dj_model.specs.trusted.Linking.{count_fields};
 ghost use Rattle.dj_model.specs.Sound.{IsProgram};
 ghost use Rattle.dj_classes.specs.Tables.{fields_at};
 ghost use Rattle.dj_types.specs.Typed.{types_of};
@@ -13,10 +13,10 @@ use dj_types::FieldId;
 use std::alloc::Global;
 use std::marker::Model;
 
-/// Of each field its place among the static fields of the program, and how many static fields there are.
+/// For each field its place among the static fields of the program, and how many static fields there are.
 #[derive(Debug, Drop)]
 pub struct StaticPlaces {
-    // By the number of a field; of an instance field so many static ones stand before it.
+    // For each field, by its number, how many static fields come before it.
     each: Vec<u32>,
     count: u32,
 }
@@ -30,7 +30,7 @@ impl Model for StaticPlaces {
 }
 
 impl StaticPlaces {
-    /// Those of the fields of an image, each of which is looked at once.
+    /// The places of the fields of an image, each of which is looked at once.
     pub fn of(alloc: Global, image: &Image) -> Result<StaticPlaces, NoMemory>
         requires { IsProgram (program_of image.now) }
         ensures { IfOk result (λ places. ArePlaces (program_of image.now) places) }
@@ -59,7 +59,7 @@ impl StaticPlaces {
     }
 }
 
-// The places of the fields that a class declares, where so many static fields stand before them; and how many stand before the next class.
+// The places of the fields that a class declares, after this many static fields; and how many come before the next class.
 fn add_class(image: &Image, each: &mut Vec<u32>, before: u32, class: u32) -> Result<u32, NoMemory>
     requires { class < length (types_of (typed_of image.now)) }
     ensures { IfOk result (λ after. IsCounted (fields_at (program_of image.now) class) each.old.items before each.new.items after) }

@@ -26,17 +26,17 @@ use std::alloc::Global;
 /// How a run goes on at a use of a class.
 #[derive(Clone, Copy, Debug)]
 pub enum Prepared {
-    /// Nothing has to run before.
+    /// Nothing has to run first.
     Ready,
-    /// Initialisers stand above, and have to run.
+    /// Frames of initialisers were pushed, and have to run.
     Waits,
-    /// Not at all: their frames would be too many.
+    /// The run ends: the initialisers' frames would be too many.
     TooDeep,
-    /// Not at all: the object of a text with which a static field begins doesn't fit.
+    /// The run ends: the object of a text with which a static field begins doesn't fit.
     HeapFull { used: u64, size: u64 },
 }
 
-// The initialisers of these classes stand above, that of the last class on top.
+// Pushes the frames of the initialisers of these classes, that of the last class on top.
 fn stand_above(
     initialisers: &Initialisers,
     frames: &mut Frames,
@@ -55,8 +55,8 @@ fn stand_above(
     Ok(Prepared::Waits)
 }
 
-/// A class and its superclasses are initialised, where they are not yet, the highest superclass first (JVMS 5.5): their static fields begin with
-/// their constants (JVMS 4.7.2), and their initialisers stand above, that of the highest superclass on top.
+/// Initialises a class and its superclasses, where they aren't initialised yet, the highest superclass first (JVMS 5.5): their static fields begin with
+/// their constants (JVMS 4.7.2), and the frames of their initialisers are pushed, that of the highest superclass on top.
 pub fn initialise(
     alloc: Global,
     image: &Image,

@@ -17,7 +17,7 @@ pub fn count_of(initialisers: &Initialisers, classes: &[u32]) -> usize
     count
 }
 
-// How many of one there are.
+// 1 where there is an initialiser, else 0.
 fn one_if(initialiser: Option<Initialiser>) -> usize
     ensures { result ≡ one_if initialiser }
 {
@@ -27,20 +27,19 @@ fn one_if(initialiser: Option<Initialiser>) -> usize
     }
 }
 
-// The frame of the initialiser of a class, where it has one.
+// Pushes the frame of the initialiser of a class, where it has one.
 fn push_one(initialisers: &Initialisers, frames: &mut Frames, class: u32) -> Result<(), NoMemory>
     ensures { OnOk result (frames.new ≡ with_initialiser (get_or initialisers.now class None) frames.old) }
 {
     let Some(initialiser) = initialisers.initialiser(class) else {
         return Ok(());
     };
-    match frames.push(initialiser.method, initialiser.locals, initialiser.room) {
-        Ok(()) => Ok(()),
-        Err(_) => Err(NoMemory::Memory),
-    }
+    frames
+        .push(initialiser.method, initialiser.locals, initialiser.room)
+        .or(Err(NoMemory::Memory))
 }
 
-/// The frames of the initialisers of these classes, the last class on top.
+/// Pushes the frames of the initialisers of these classes, that of the last class on top.
 pub fn push_all(
     initialisers: &Initialisers,
     frames: &mut Frames,

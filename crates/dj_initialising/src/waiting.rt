@@ -9,7 +9,7 @@ use dj_image::Image;
 use dj_names::NoMemory;
 use std::alloc::Global;
 
-/// The class and the superclasses that aren't initialised yet, the class first; their initialisation begins.
+/// The class and those of its superclasses that aren't initialised yet, the class first; they count as initialised from now on.
 pub fn begin_upward(
     alloc: Global,
     image: &Image,

@@ -1,17 +1,17 @@
--- What runs, as the readers of an image tell it.
+-- What runs, as the readers of an image report it.
 use Rattle.std.proofs.Common.{◌≡◌, ℕ, Bool, List, ◌∷◌, length, map, nat_eq, reverse, take, drop, Option, Some, true, refl, sym, ap, subst, ◌∙◌, Bor, None, Result, Ok, Err, IfOk, arith}
 use Rattle.std.proofs.lemmas.Bool.Decides.{nat_tests}
 use Rattle.std.proofs.lemmas.List.{length-map, length-reverse, length-take}
 use Rattle.std.proofs.lemmas.Option.{same_Some}
 use Rattle.dj_names.specs.declared.native.NativeId.{NativeId}
 use Rattle.dj_names.specs.declared.descriptor.Desc.{Desc}
-use Rattle.dj_names.specs.Types.{parameters_of}
-use Rattle.dj_names.specs.Values.{value_kind}
-use Rattle.dj_model.specs.Program.{Body, Abstract, Native, Runs, Code, is_static}
-use Rattle.dj_model.specs.Shape.{is_static_mode}
-use Rattle.dj_model.specs.Instructions.{Mode, Virtual, Special, Static, Interface}
-use Rattle.dj_model.specs.Linking.{FoundMethod}
-use Rattle.dj_program.specs.Codes.{code_in}
+use Rattle.dj_names.specs.trusted.Types.{parameters_of}
+use Rattle.dj_names.specs.trusted.Values.{value_kind}
+use Rattle.dj_model.specs.trusted.Program.{Body, Abstract, Native, Runs, Code, is_static}
+use Rattle.dj_model.specs.trusted.Shape.{is_static_mode}
+use Rattle.dj_model.specs.trusted.Instructions.{Mode, Virtual, Special, Static, Interface}
+use Rattle.dj_model.specs.trusted.Linking.{FoundMethod}
+use Rattle.dj_program.specs.trusted.Codes.{code_in}
 use Rattle.dj_program.specs.declared.code.MethodCode.{MethodCode}
 use Rattle.dj_stack.specs.Frames.{StackFrame, top_operands}
 use Rattle.dj_types.specs.Members.{IsMethodThere}

@@ -6,10 +6,11 @@ use Rattle.dj_names.specs.declared.descriptor.Base.{Base}
 use Rattle.dj_names.specs.declared.run.Element.{Element}
 use Rattle.dj_ops.specs.declared.instruction.Instr.{Instr}
 use Rattle.dj_ops.specs.declared.instruction.Instr.TheVariants as instrs
-use Rattle.dj_model.specs.Types.{Prefix}
-use Rattle.dj_model.specs.Instructions.{Named, AnInt, ALong, AText, AClass, AField, AMethod, AnInterfaceMethod, Instruction, Invoke, Other, calls}
-use Rattle.dj_model.specs.Opcodes.{Row, row_does, rows_of, simple, constant_rows, store_rows, stack_rows, number_rows, bit_rows, last_rows, local_rows, jump_rows, operand_does, literal, member, interface_call, class_use, array_rows, new_array, instruction_of}
-use Rattle.dj_model.specs.Program.{Program}
+use Rattle.dj_model.specs.trusted.Types.{Prefix}
+use Rattle.dj_model.specs.trusted.Instructions.{Named, AnInt, ALong, AText, AClass, AField, AMethod, AnInterfaceMethod, Instruction, Invoke, Other}
+use Rattle.dj_model.specs.Instructions.{calls}
+use Rattle.dj_model.specs.trusted.Opcodes.{Row, row_does, rows_of, simple, constant_rows, store_rows, stack_rows, number_rows, bit_rows, last_rows, local_rows, jump_rows, operand_does, literal, member, interface_call, class_use, array_rows, new_array, instruction_of}
+use Rattle.dj_model.specs.trusted.Program.{Program}
 use Rattle.dj_model.specs.Sound.{is_linked}
 use Rattle.dj_invoking.specs.Sites.{opcode_mode, call_mode}
 

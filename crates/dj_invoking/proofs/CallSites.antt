@@ -5,23 +5,23 @@ use Rattle.std.specs.Option.{option_map}
 use Rattle.std.proofs.lemmas.Bool.{eqb-true}
 use Rattle.std.proofs.lemmas.Option.{none-some, same_Some, slice_get-map}
 use Rattle.dj_names.specs.declared.descriptor.Kind.{Kind}
-use Rattle.dj_names.specs.Types.{parameters_of}
+use Rattle.dj_names.specs.trusted.Types.{parameters_of}
 use Rattle.dj_ops.specs.declared.instruction.Instr.{Instr}
 use Rattle.dj_ops.specs.declared.instruction.Instr.TheVariants as instrs
-use Rattle.dj_model.specs.Types.{Prefix, Member}
-use Rattle.dj_model.specs.Instructions as model
-use Rattle.dj_model.specs.Instructions.{Named, AMethod, AnInterfaceMethod, Instruction, Invoke, Other, Virtual, Special, Static, Interface}
-use Rattle.dj_model.specs.Opcodes.{instruction_of}
-use Rattle.dj_model.specs.Program.{Program, Code, body_code}
+use Rattle.dj_model.specs.trusted.Types.{Prefix, Member}
+use Rattle.dj_model.specs.trusted.Instructions as model
+use Rattle.dj_model.specs.trusted.Instructions.{Named, AMethod, AnInterfaceMethod, Instruction, Invoke, Other, Virtual, Special, Static, Interface}
+use Rattle.dj_model.specs.trusted.Opcodes.{instruction_of}
+use Rattle.dj_model.specs.trusted.Program.{Program, Code, body_code}
 use Rattle.dj_model.specs.Sound.{IsProgram}
-use Rattle.dj_model.specs.State.{instruction_in}
-use Rattle.dj_model.specs.Kinds.{Signature, call_signature}
-use Rattle.dj_model.specs.Members.{kinds_of}
-use Rattle.dj_model.specs.Linking.{FoundMethod, resolve_method}
-use Rattle.dj_check.specs.Instructions.{index_of}
-use Rattle.dj_program.specs.Codes.{code_in}
-use Rattle.dj_program.specs.Naming.{named_at, named_if}
-use Rattle.dj_program.specs.Naming as naming
+use Rattle.dj_model.specs.trusted.State.{instruction_in}
+use Rattle.dj_model.specs.trusted.Kinds.{Signature, call_signature}
+use Rattle.dj_model.specs.trusted.Members.{kinds_of}
+use Rattle.dj_model.specs.trusted.Linking.{FoundMethod, resolve_method}
+use Rattle.dj_check.specs.trusted.Instructions.{index_of}
+use Rattle.dj_program.specs.trusted.Codes.{code_in}
+use Rattle.dj_program.specs.trusted.Naming.{named_at, named_if}
+use Rattle.dj_program.specs.trusted.Naming as naming
 use Rattle.dj_program.specs.declared.code.MethodCode.{MethodCode}
 use Rattle.dj_shape.specs.Kept.{KeptKinds}
 use Rattle.dj_shape.specs.Pools.{TellsKind, call_at}
@@ -247,7 +247,7 @@ call_there imaged formed caller number instr named at operand told parts are sit
       kinds = parameters_called imaged formed caller number parts are c.called c.member is site.kinds.now kinds;
     }
 
--- what is told of the parameters, where it is told
+-- what the parameters are, where they are given
 pub parameters_told : (code : MethodCode) (kinds : KeptKinds) (number : ℕ) (instr : Instr) (index : ℕ) (o : Option (Bor (List Kind))) → slice_get code.code.code number ≡ Some instr
     → call_index instr ≡ Some index → option_map (λ (told : Bor (List Kind)). told.now) o ≡ parameters_in (call_named kinds index)
     → IfSome o (λ (told : Bor (List Kind)). AreParametersAt code kinds number told.now)

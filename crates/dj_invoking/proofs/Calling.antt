@@ -4,12 +4,12 @@ use Rattle.std.proofs.lemmas.Bool.Decides.{nat_tests}
 use Rattle.std.proofs.lemmas.List.{length-map}
 use Rattle.dj_names.specs.declared.run.Value.{Value}
 use Rattle.dj_names.specs.declared.run.Outcome.TheVariants as outcomes
-use Rattle.dj_model.specs.Types.{Declared}
-use Rattle.dj_model.specs.Program.{Code, body_code, code_in, code_of}
-use Rattle.dj_model.specs.Linking.{declared_of}
-use Rattle.dj_model.specs.State.{Frame, State}
-use Rattle.dj_model.specs.Initialisation.{locals_for, new_frame}
-use Rattle.dj_model.specs.Step.{Went, Ended, called}
+use Rattle.dj_model.specs.trusted.Types.{Declared}
+use Rattle.dj_model.specs.trusted.Program.{Code, body_code, code_in, code_of}
+use Rattle.dj_model.specs.trusted.Linking.{declared_of}
+use Rattle.dj_model.specs.trusted.State.{Frame, State}
+use Rattle.dj_model.specs.trusted.Initialisation.{locals_for, new_frame}
+use Rattle.dj_model.specs.trusted.Step.{Went, Ended, called}
 use Rattle.dj_stack.specs.Frames.{StackFrame}
 use Rattle.dj_image.specs.Imaged.{program_of}
 use Rattle.dj_invoking.specs.Operands.{with_operands}

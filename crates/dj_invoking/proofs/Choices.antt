@@ -8,14 +8,15 @@ use Rattle.std.proofs.lemmas.Option.{none-some, same_Some, slice_get_within, get
 use Rattle.dj_names.specs.declared.descriptor.Ty.{Ty}
 use Rattle.dj_names.specs.declared.run.Value.{Value}
 use Rattle.dj_names.specs.declared.run.Value.TheVariants as values
-use Rattle.dj_names.specs.Heaps.{Object, Heap, class_of, object_map, object_at}
-use Rattle.dj_names.specs.Types.{Name, class_type}
+use Rattle.dj_names.specs.trusted.Heaps.{Object, Heap, class_of, object_at}
+use Rattle.dj_names.specs.Heaps.{object_map}
+use Rattle.dj_names.specs.trusted.Types.{Name, class_type}
 use Rattle.dj_heap.specs.Heaps.{LimitedHeap, object_in}
-use Rattle.dj_model.specs.Types.{Prefix, Member}
-use Rattle.dj_model.specs.Program.{Program}
-use Rattle.dj_model.specs.Linking.{FoundMethod, is_subtype, resolve_method, select, special_method}
-use Rattle.dj_model.specs.Performing.{class_in, class_at_number, is_instance}
-use Rattle.dj_model.specs.Members.{asked_class}
+use Rattle.dj_model.specs.trusted.Types.{Prefix, Member}
+use Rattle.dj_model.specs.trusted.Program.{Program}
+use Rattle.dj_model.specs.trusted.Linking.{FoundMethod, is_subtype, resolve_method, select, special_method}
+use Rattle.dj_model.specs.trusted.Performing.{class_in, class_at_number, is_instance}
+use Rattle.dj_model.specs.trusted.Members.{asked_class}
 use Rattle.dj_model.proofs.MappedHeaps.{object_at_mapped, class_of_mapped}
 use Rattle.dj_effects.proofs.ArrayFacts.{not_null}
 use Rattle.dj_classes.specs.Tables.{name_of, name_at}

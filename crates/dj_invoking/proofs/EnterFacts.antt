@@ -4,9 +4,9 @@ use Rattle.std.proofs.Math.Seq.{set-append_seam, take-suc}
 use Rattle.std.proofs.lemmas.List.{length-append, length-replicate}
 use Rattle.dj_names.specs.declared.run.Value.{Value}
 use Rattle.dj_names.specs.declared.run.Value.TheVariants as values
-use Rattle.dj_model.specs.Numbers.{is_long}
-use Rattle.dj_model.specs.Values.{in_slots}
-use Rattle.dj_model.specs.Initialisation.{padded}
+use Rattle.dj_model.specs.trusted.Numbers.{is_long}
+use Rattle.dj_model.specs.trusted.Values.{in_slots}
+use Rattle.dj_model.specs.trusted.Initialisation.{padded}
 use Rattle.dj_stack.specs.Frames.{StackFrame, SameButLocals, SameButOperands, top_locals, top_operands, new_frame}
 use Rattle.dj_invoking.specs.Operands.{with_operands}
 use Rattle.dj_invoking.specs.Entering.{entered}
@@ -60,7 +60,7 @@ set_next most xs v less =
     ∙ (set-append_seam xs None (replicate (most - length (xs ++ v ∷ [])) None) v
     ∙ sym (append_assoc xs (v ∷ []) (replicate (most - length (xs ++ v ∷ [])) None)))
 
--- a local variable without a value comes to those that are told
+-- a local variable without a value is added to those that are given
 padded_none : (most : ℕ) (xs : List (Option Value)) → length xs < most → padded most xs ≡ padded most (xs ++ None ∷ [])
 padded_none most xs less =
     let none : List (Option Value) = None ∷ [] in

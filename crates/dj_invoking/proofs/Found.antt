@@ -7,10 +7,10 @@ use Rattle.std.specs.Cmp.Lexicographic.{bytes_decides}
 use Rattle.std.proofs.lemmas.Option.{none-some, same_Some}
 use Rattle.dj_names.specs.declared.descriptor.Desc.{Desc}
 use Rattle.dj_names.specs.declared.descriptor.Ty.{Ty}
-use Rattle.dj_names.specs.Types.{Name, same_name}
-use Rattle.dj_model.specs.Types.{Prefix, Member, constructor_name}
-use Rattle.dj_model.specs.Program.{Program, Class, Method, class_at, method_in, method_of, is_named, is_private}
-use Rattle.dj_model.specs.Linking.{FoundMethod, method_or, first_method, is_plain, is_not_static, with_body, has_body, member_class, chain, superclasses, is_among, select, special_method, resolve_method}
+use Rattle.dj_names.specs.trusted.Types.{Name, same_name}
+use Rattle.dj_model.specs.trusted.Types.{Prefix, Member, constructor_name}
+use Rattle.dj_model.specs.trusted.Program.{Program, Class, Method, class_at, method_in, method_of, is_named, is_private}
+use Rattle.dj_model.specs.trusted.Linking.{FoundMethod, method_or, first_method, is_plain, is_not_static, with_body, has_body, member_class, chain, superclasses, is_among, select, special_method, resolve_method}
 use Rattle.dj_model.proofs.MappedNames.{either}
 use Rattle.dj_model.proofs.SoundLinks.{IsThere, resolved_there, there_name}
 use Rattle.dj_declared.proofs.DescTests.{same_name_itself}
@@ -144,7 +144,7 @@ resolved_own program prefix m resolved e = own_of program m.name m.desc resolved
 pub resolved_described : (program : Program) (prefix : Prefix) (m : Member) (resolved : FoundMethod) → resolve_method program prefix m ≡ Some resolved → resolved.method.desc ≡ m.desc
 resolved_described program prefix m resolved e = (there_name program m.name m.desc resolved (resolved_there program prefix m resolved e)).1
 
--- a number is told where a method is found
+-- a number is given where a method is found
 pub told_method : (program : Program) (id : Option MethodId) (found : Option FoundMethod) → ((f : FoundMethod) → found ≡ Some f → IsOwn program f)
     → option_map (λ (m : MethodId). m.number) id ≡ found_method_number program found → IsMethodOrNone program id found
 told_method program None None own e = tt

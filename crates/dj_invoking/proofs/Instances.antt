@@ -8,15 +8,15 @@ use Rattle.dj_names.specs.declared.descriptor.Kind.TheVariants as kinds
 use Rattle.dj_names.specs.declared.descriptor.Ty.{Ty}
 use Rattle.dj_names.specs.declared.run.Value.{Value}
 use Rattle.dj_names.specs.declared.run.Value.TheVariants as values
-use Rattle.dj_names.specs.Heaps.{Heap}
-use Rattle.dj_names.specs.Values.{value_kind}
-use Rattle.dj_names.specs.Descriptors.{type_kind}
-use Rattle.dj_model.specs.Types.{Prefix}
-use Rattle.dj_model.specs.Program.{Program}
-use Rattle.dj_model.specs.Numbers.{is_of_kind}
-use Rattle.dj_model.specs.Linking.{is_subtype}
-use Rattle.dj_model.specs.Performing.{is_instance, class_at_number}
-use Rattle.dj_model.specs.Members.{with_kind, kinds_of, are_instances}
+use Rattle.dj_names.specs.trusted.Heaps.{Heap}
+use Rattle.dj_names.specs.trusted.Values.{value_kind}
+use Rattle.dj_names.specs.trusted.Descriptors.{type_kind}
+use Rattle.dj_model.specs.trusted.Types.{Prefix}
+use Rattle.dj_model.specs.trusted.Program.{Program}
+use Rattle.dj_model.specs.trusted.Numbers.{is_of_kind}
+use Rattle.dj_model.specs.trusted.Linking.{is_subtype}
+use Rattle.dj_model.specs.trusted.Performing.{is_instance, class_at_number}
+use Rattle.dj_model.specs.trusted.Members.{with_kind, kinds_of, are_instances}
 use Rattle.dj_types.specs.Typed.{Typed, types_of}
 use Rattle.dj_image.specs.Imaged.{Imaged, program_of, typed_of}
 use Rattle.dj_invoking.specs.Operands.{fit}

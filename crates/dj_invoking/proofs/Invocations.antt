@@ -3,10 +3,10 @@ use Rattle.std.proofs.Common.{◌≡◌, ℕ, ◌+◌, true, List, length, rever
 use Rattle.dj_names.specs.declared.descriptor.Kind.{Kind}
 use Rattle.dj_names.specs.declared.run.Raised.TheVariants as raises
 use Rattle.dj_names.specs.declared.run.Outcome.TheVariants as outcomes
-use Rattle.dj_names.specs.Types.{parameters_of}
-use Rattle.dj_model.specs.Linking.{FoundMethod, resolve_method}
-use Rattle.dj_model.specs.State.{Raise, Goes, End}
-use Rattle.dj_model.specs.Members.{kinds_of}
+use Rattle.dj_names.specs.trusted.Types.{parameters_of}
+use Rattle.dj_model.specs.trusted.Linking.{FoundMethod, resolve_method}
+use Rattle.dj_model.specs.trusted.State.{Raise, Goes, End}
+use Rattle.dj_model.specs.trusted.Members.{kinds_of}
 use Rattle.dj_stack.specs.Frames.{StackFrame, top_operands}
 use Rattle.dj_types.specs.declared.types.MethodId.{MethodId}
 use Rattle.dj_image.specs.Imaged.{program_of}

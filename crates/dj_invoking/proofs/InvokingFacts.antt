@@ -3,9 +3,9 @@ use Rattle.std.proofs.Common.{◌≡◌, ℕ, true, false, pos, List, [], ◌∷
 use Rattle.dj_names.specs.declared.descriptor.Kind.TheVariants as kinds
 use Rattle.dj_names.specs.declared.run.Value.{Value}
 use Rattle.dj_names.specs.declared.run.Value.TheVariants as values
-use Rattle.dj_names.specs.Heaps.{Heap}
+use Rattle.dj_names.specs.trusted.Heaps.{Heap}
 use Rattle.dj_names.specs.declared.descriptor.Ty.{Ty}
-use Rattle.dj_model.specs.Instructions.{Virtual, Special, Static, Interface}
+use Rattle.dj_model.specs.trusted.Instructions.{Virtual, Special, Static, Interface}
 use Rattle.dj_stack.specs.Frames.{StackFrame}
 use Rattle.dj_invoking.specs.declared.choosing.Mode.TheVariants as modes
 use Rattle.dj_invoking.specs.declared.choosing.Chosen.TheVariants as chosen

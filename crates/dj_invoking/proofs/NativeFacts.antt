@@ -10,9 +10,9 @@ use Rattle.dj_names.specs.declared.native.NativeId.{NativeId}
 use Rattle.dj_names.specs.declared.descriptor.Base.{Base}
 use Rattle.dj_names.specs.declared.descriptor.Base.TheVariants as bases
 use Rattle.dj_names.specs.declared.descriptor.Of.TheVariants as ofs
-use Rattle.dj_names.specs.Types.{Name, base_array, parameters_of}
-use Rattle.dj_model.specs.Program.{Program, Method, Native}
-use Rattle.dj_model.specs.Linking.{FoundMethod}
+use Rattle.dj_names.specs.trusted.Types.{Name, base_array, parameters_of}
+use Rattle.dj_model.specs.trusted.Program.{Program, Method, Native}
+use Rattle.dj_model.specs.trusted.Linking.{FoundMethod}
 use Rattle.dj_classes.specs.Tables.{methods_at, class_number}
 use Rattle.dj_classes.proofs.Numbered.{name_at-number}
 use Rattle.dj_linking.specs.Linked.{Linked}
@@ -85,7 +85,7 @@ row_last [] row (suc n) e = absurd (omega (arith, e))
 row_last (r ∷ rows) row zero e = absurd (omega (arith, e))
 row_last (r ∷ rows) row (suc n) e = row_last rows row n (omega (arith, e))
 
--- those of so many methods
+-- those of this many methods
 abbrev pub AreRowsTo : Imaged → ℕ → List (Vec (Option ℕ)) → Type 0
 AreRowsTo imaged count rows = (number : ℕ) (found : FoundMethod) (id : NativeId) → number < count → slice_get (all_methods (program_of imaged)) number ≡ Some found → found.method.body ≡ Native id
     → AreClasses (typed_of imaged) (parameters_of found.method.desc) (row_at (row_items rows) number)

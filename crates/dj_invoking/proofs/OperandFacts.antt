@@ -8,11 +8,11 @@ use Rattle.std.proofs.Math.Seq.{take-suc}
 use Rattle.std.proofs.lemmas.Option.{slice_get-get_or, get_or_from_slice_get, none-some, same_Some}
 use Rattle.dj_names.specs.declared.descriptor.Kind.{Kind}
 use Rattle.dj_names.specs.declared.descriptor.Kind.TheVariants as tags
-use Rattle.dj_names.specs.Values.{value_kind}
+use Rattle.dj_names.specs.trusted.Values.{value_kind}
 use Rattle.dj_names.specs.declared.run.Value.{Value}
 use Rattle.dj_names.specs.declared.run.Value.TheVariants as values
-use Rattle.dj_model.specs.Numbers.{is_of_kind, same_kind}
-use Rattle.dj_model.specs.Members.{with_last, taken_from}
+use Rattle.dj_model.specs.trusted.Numbers.{is_of_kind, same_kind}
+use Rattle.dj_model.specs.trusted.Members.{with_last, taken_from}
 use Rattle.dj_stack.specs.Frames.{StackFrame, SameButOperands, operand_at, top_operands}
 use Rattle.dj_effects.proofs.TopFacts.{last_frame}
 use Rattle.dj_invoking.specs.Operands.{fit, receiver_in, with_operands}

@@ -6,7 +6,7 @@ use Rattle.std.proofs.lemmas.Bool.{cases_lt}
 use Rattle.std.proofs.lemmas.Option.{none-some, same_Some, slice_get_within}
 use Rattle.dj_names.specs.declared.run.Value.{Value}
 use Rattle.dj_names.specs.declared.run.Value.TheVariants as values
-use Rattle.dj_names.specs.Heaps.{Object, Heap, class_of}
+use Rattle.dj_names.specs.trusted.Heaps.{Object, Heap, class_of}
 use Rattle.dj_heap.specs.Heaps.{LimitedHeap}
 use Rattle.dj_effects.proofs.ArrayFacts.{not_null}
 use Rattle.dj_calls.specs.Known.{IsKnown, AreKnown}

@@ -4,11 +4,11 @@ use Rattle.std.proofs.lemmas.Option.{none-some, same_Some}
 use Rattle.dj_names.specs.declared.descriptor.Kind.{Kind}
 use Rattle.dj_names.specs.declared.descriptor.Desc.{Desc}
 use Rattle.dj_names.specs.declared.descriptor.Desc.TheVariants as descs
-use Rattle.dj_names.specs.Descriptors.{type_kind}
-use Rattle.dj_names.specs.Types.{parameters_of}
-use Rattle.dj_model.specs.Linking.{FoundMethod}
-use Rattle.dj_model.specs.Members.{kinds_of}
-use Rattle.dj_model.specs.Kinds.{Signature, signature_with, with_result, call_signature}
+use Rattle.dj_names.specs.trusted.Descriptors.{type_kind}
+use Rattle.dj_names.specs.trusted.Types.{parameters_of}
+use Rattle.dj_model.specs.trusted.Linking.{FoundMethod}
+use Rattle.dj_model.specs.trusted.Members.{kinds_of}
+use Rattle.dj_model.specs.trusted.Kinds.{Signature, signature_with, with_result, call_signature}
 use Rattle.dj_shape.specs.Pools.{call_at}
 use Rattle.dj_types.specs.declared.types.MethodId.{MethodId}
 use Rattle.dj_image.specs.declared.shaped.ShapeParts.{ShapeParts}

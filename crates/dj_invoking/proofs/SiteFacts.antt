@@ -4,11 +4,11 @@ use Rattle.std.proofs.lemmas.Option.{same_Some}
 use Rattle.dj_names.specs.declared.descriptor.Kind.{Kind}
 use Rattle.dj_names.specs.declared.descriptor.Kind.TheVariants as kinds
 use Rattle.dj_names.specs.declared.descriptor.Desc.{Desc}
-use Rattle.dj_names.specs.Types.{parameters_of}
+use Rattle.dj_names.specs.trusted.Types.{parameters_of}
 use Rattle.dj_ops.specs.declared.instruction.Instr.TheVariants as instrs
-use Rattle.dj_model.specs.Types.{Member, no_parameters}
-use Rattle.dj_model.specs.Instructions.{Instruction, Nop, Invoke, Static}
-use Rattle.dj_model.specs.Members.{kinds_of}
+use Rattle.dj_model.specs.trusted.Types.{Member, no_parameters}
+use Rattle.dj_model.specs.trusted.Instructions.{Instruction, Nop, Invoke, Static}
+use Rattle.dj_model.specs.trusted.Members.{kinds_of}
 use Rattle.dj_shape.specs.Kept.{KeptKinds}
 use Rattle.dj_shape.specs.declared.pool.ConstantKind.TheVariants as constants
 use Rattle.dj_image.specs.Imaged.{Imaged}

@@ -4,23 +4,23 @@ use Rattle.std.proofs.lemmas.List.{length-reverse}
 use Rattle.std.proofs.lemmas.Option.{none-some}
 use Rattle.dj_names.specs.declared.descriptor.Kind.{Kind}
 use Rattle.dj_names.specs.declared.descriptor.Kind.TheVariants as tags
-use Rattle.dj_names.specs.Values.{value_kind}
+use Rattle.dj_names.specs.trusted.Values.{value_kind}
 use Rattle.dj_names.specs.declared.descriptor.Ty.{Ty}
 use Rattle.dj_names.specs.declared.run.Value.{Value}
 use Rattle.dj_names.specs.declared.run.Value.TheVariants as values
 use Rattle.dj_names.specs.declared.run.Raised.TheVariants as raises
 use Rattle.dj_names.specs.declared.run.Outcome.TheVariants as outcomes
 use Rattle.dj_names.specs.declared.native.NativeId.{NativeId}
-use Rattle.dj_names.specs.Heaps.{Heap}
-use Rattle.dj_names.specs.Types.{Name, class_type, parameters_of}
-use Rattle.dj_model.specs.Types.{Prefix}
-use Rattle.dj_model.specs.Instructions.{Mode, Virtual, Special, Static, Interface}
-use Rattle.dj_model.specs.Program.{Program, Body, Abstract, Native, Runs, Code, is_static}
-use Rattle.dj_model.specs.Shape.{is_static_mode}
-use Rattle.dj_model.specs.Linking.{FoundMethod, declared_of, resolve_method, select, special_method}
-use Rattle.dj_model.specs.State.{Terms, Part, Raise, Goes, Call, End, Effect, goes}
-use Rattle.dj_model.specs.Performing.{is_instance, class_at_number, native}
-use Rattle.dj_model.specs.Members.{broken, kinds_of, Arguments, taken_from, arguments_of, are_instances, run_body, run_method, received, call, call_with, invoke}
+use Rattle.dj_names.specs.trusted.Heaps.{Heap}
+use Rattle.dj_names.specs.trusted.Types.{Name, class_type, parameters_of}
+use Rattle.dj_model.specs.trusted.Types.{Prefix}
+use Rattle.dj_model.specs.trusted.Instructions.{Mode, Virtual, Special, Static, Interface}
+use Rattle.dj_model.specs.trusted.Program.{Program, Body, Abstract, Native, Runs, Code, is_static}
+use Rattle.dj_model.specs.trusted.Shape.{is_static_mode}
+use Rattle.dj_model.specs.trusted.Linking.{FoundMethod, declared_of, resolve_method, select, special_method}
+use Rattle.dj_model.specs.trusted.State.{Terms, Part, Raise, Goes, Call, End, Effect, goes}
+use Rattle.dj_model.specs.trusted.Performing.{is_instance, class_at_number, native}
+use Rattle.dj_model.specs.trusted.Members.{broken, kinds_of, Arguments, taken_from, arguments_of, are_instances, run_body, run_method, received, call, call_with, invoke}
 use Rattle.dj_model.proofs.SoundLinks.{IsThere, declared_there}
 use Rattle.dj_stack.specs.Frames.{StackFrame, top_operands}
 use Rattle.dj_types.specs.declared.types.MethodId.{MethodId}

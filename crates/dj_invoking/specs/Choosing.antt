@@ -3,16 +3,16 @@ use Rattle.std.specs.Prelude.{◌≡◌, ◌<◌, ℕ, ⊤, length, List, Option
 use Rattle.dj_names.specs.declared.descriptor.Ty.{Ty}
 use Rattle.dj_names.specs.declared.run.Value.{Value}
 use Rattle.dj_names.specs.declared.run.Raised.TheVariants as raises
-use Rattle.dj_names.specs.Heaps.{Heap}
-use Rattle.dj_names.specs.Types.{Name, class_type}
-use Rattle.dj_model.specs.Types.{Prefix}
-use Rattle.dj_model.specs.Instructions as model
-use Rattle.dj_model.specs.Instructions.{Virtual, Special, Static, Interface}
-use Rattle.dj_model.specs.Program.{Program}
-use Rattle.dj_model.specs.Linking.{FoundMethod, select, special_method}
-use Rattle.dj_model.specs.State.{Terms, Part, Raise, Goes, Effect, goes}
-use Rattle.dj_model.specs.Performing.{is_instance, class_at_number}
-use Rattle.dj_model.specs.Members.{broken, asked_class, run_body}
+use Rattle.dj_names.specs.trusted.Heaps.{Heap}
+use Rattle.dj_names.specs.trusted.Types.{Name, class_type}
+use Rattle.dj_model.specs.trusted.Types.{Prefix}
+use Rattle.dj_model.specs.trusted.Instructions as model
+use Rattle.dj_model.specs.trusted.Instructions.{Virtual, Special, Static, Interface}
+use Rattle.dj_model.specs.trusted.Program.{Program}
+use Rattle.dj_model.specs.trusted.Linking.{FoundMethod, select, special_method}
+use Rattle.dj_model.specs.trusted.State.{Terms, Part, Raise, Goes, Effect, goes}
+use Rattle.dj_model.specs.trusted.Performing.{is_instance, class_at_number}
+use Rattle.dj_model.specs.trusted.Members.{broken, asked_class, run_body}
 use Rattle.dj_types.specs.Members.{all_methods}
 use Rattle.dj_types.specs.declared.types.MethodId.{MethodId}
 use Rattle.dj_invoking.specs.declared.choosing.Mode.{Mode}

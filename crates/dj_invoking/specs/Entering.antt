@@ -1,9 +1,9 @@
 -- A frame that is entered.
 use Rattle.std.specs.Prelude.{◌≡◌, ◌<◌, ◌≤◌, ℕ, Bool, true, false, List, [], ◌∷◌, length, reverse, take, drop}
 use Rattle.dj_names.specs.declared.run.Value.{Value}
-use Rattle.dj_model.specs.Numbers.{is_long}
-use Rattle.dj_model.specs.Values.{in_slots}
-use Rattle.dj_model.specs.Initialisation.{padded}
+use Rattle.dj_model.specs.trusted.Numbers.{is_long}
+use Rattle.dj_model.specs.trusted.Values.{in_slots}
+use Rattle.dj_model.specs.trusted.Initialisation.{padded}
 use Rattle.dj_stack.specs.Frames.{StackFrame, most_frames, top_operands}
 use Rattle.dj_invoking.specs.declared.entering.Room.{Room}
 use Rattle.dj_invoking.specs.Operands.{with_operands}
@@ -13,7 +13,7 @@ abbrev pub entered : ℕ → ℕ → ℕ → List Value → StackFrame
 entered method locals room arguments =
     record { method = method; number = 0; locals = padded locals (in_slots is_long arguments); operands = []; room = room }
 
--- where one more frame may stand, the upper operands, which are taken, are the arguments of a new one
+-- where one more frame is allowed, the upper operands, which are taken, are the arguments of a new one
 abbrev pub Enters : ℕ → Room → List StackFrame → List StackFrame → Bool → Type 0
 Enters count room old new true = (length old < most_frames)
     × (new ≡ entered room.method room.max_locals room.max_stack (reverse (take count (top_operands old))) ∷ with_operands (drop count (top_operands old)) old)

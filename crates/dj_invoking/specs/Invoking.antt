@@ -5,18 +5,18 @@ use Rattle.dj_names.specs.declared.descriptor.Kind.TheVariants as tags
 use Rattle.dj_names.specs.declared.run.Value.{Value}
 use Rattle.dj_names.specs.declared.run.Outcome.TheVariants as outcomes
 use Rattle.dj_names.specs.declared.native.NativeId.{NativeId}
-use Rattle.dj_names.specs.Heaps.{Heap}
-use Rattle.dj_names.specs.Values.{value_kind}
-use Rattle.dj_names.specs.Types.{Name, parameters_of}
-use Rattle.dj_model.specs.Types.{Member}
-use Rattle.dj_model.specs.Instructions.{Mode, Static}
-use Rattle.dj_model.specs.Program.{Code, Native, Runs, is_static, method_at}
-use Rattle.dj_model.specs.Shape.{is_static_mode}
-use Rattle.dj_model.specs.Linking.{FoundMethod, declared_of}
-use Rattle.dj_model.specs.State.{Terms, Part, Flow, Raise, Goes, Call, End, Effect, goes}
-use Rattle.dj_model.specs.Performing.{native}
-use Rattle.dj_model.specs.Members as model
-use Rattle.dj_model.specs.Members.{are_instances, kinds_of, run_body}
+use Rattle.dj_names.specs.trusted.Heaps.{Heap}
+use Rattle.dj_names.specs.trusted.Values.{value_kind}
+use Rattle.dj_names.specs.trusted.Types.{Name, parameters_of}
+use Rattle.dj_model.specs.trusted.Types.{Member}
+use Rattle.dj_model.specs.trusted.Instructions.{Mode, Static}
+use Rattle.dj_model.specs.trusted.Program.{Code, Native, Runs, is_static, method_at}
+use Rattle.dj_model.specs.trusted.Shape.{is_static_mode}
+use Rattle.dj_model.specs.trusted.Linking.{FoundMethod, declared_of}
+use Rattle.dj_model.specs.trusted.State.{Terms, Part, Flow, Raise, Goes, Call, End, Effect, goes}
+use Rattle.dj_model.specs.trusted.Performing.{native}
+use Rattle.dj_model.specs.trusted.Members as model
+use Rattle.dj_model.specs.trusted.Members.{are_instances, kinds_of, run_body}
 use Rattle.dj_stack.specs.Frames.{StackFrame, most_frames, top_operands}
 use Rattle.dj_program.specs.declared.code.MethodCode.{MethodCode}
 use Rattle.dj_types.specs.declared.types.MethodId.{MethodId}
@@ -28,7 +28,7 @@ use Rattle.dj_invoking.specs.Receivers.{typed_heap}
 use Rattle.dj_invoking.specs.Choosing.{IsMethod}
 use Rattle.dj_invoking.specs.Entering.{entered}
 
--- where a call stands: before it, in a method of the class own
+-- the state before a call, in a method of the class own
 pub record Site : Type 0 where
   pub imaged : Imaged
   pub frames : List StackFrame
@@ -40,12 +40,12 @@ pub record Site : Type 0 where
 abbrev pub site : Imaged → List StackFrame → Heap ℕ → Mode → Name → Member → Site
 site imaged frames heap mode own m = record { imaged = imaged; frames = frames; heap = heap; mode = mode; own = own; member = m }
 
--- what the model's call does there, whatever the rest of the state is
+-- what the model's call does in that state, whatever the rest of the state is
 abbrev pub CallIs : Site → (Terms → Part → Option Effect) → Type 0
 CallIs s effect = (terms : Terms) (p : Part) → p.operands ≡ top_operands s.frames → p.heap ≡ typed_heap s.imaged s.heap
     → model.invoke (program_of s.imaged) s.imaged.prefix terms s.own s.mode s.member p ≡ effect terms p
 
--- ---- so many operands are taken
+-- ---- this many operands are taken
 
 -- in the order in which they were pushed
 abbrev pub taken_values : Site → ℕ → List Value
@@ -62,7 +62,7 @@ left_frames s taken = with_operands (left_values s taken) s.frames
 
 -- ---- how the run goes on
 
--- so, with what is left
+-- in this way, with what is left
 pub record GoesOn (s : Site) (new : List StackFrame) (flow : Flow) : Type 0 where
   pub taken : ℕ
   pub does : CallIs s (λ terms p. Some (goes (left_part s taken p) flow))
@@ -74,7 +74,7 @@ pub record Calls (s : Site) : Type 0 where
   pub method : MethodId
   pub found : FoundMethod
   pub there : IsMethod (program_of s.imaged) method found
-  -- it is the one that the program has by its names
+  -- it is the method that the program has by its names
   pub its : method_at (program_of s.imaged) (declared_of found) ≡ Some found.method
   pub code : Code
   pub runs : found.method.body ≡ Runs code
@@ -95,7 +95,7 @@ abbrev pub taken_kinds : Mode → List Kind → List Kind
 taken_kinds Static parameters = parameters
 taken_kinds mode parameters = tags.Ref ∷ parameters
 
--- by the native method, whose arguments are so many upper operands, which stay; they are of its kinds, and the references of its classes
+-- by the native method, whose arguments are this many upper operands, which stay; they are of its kinds, and the references of its classes
 pub record IsNative (s : Site) (new : List StackFrame) (id : NativeId) (count : ℕ) : Type 0 where
   pub within : count ≤ length (top_operands s.frames)
   pub does : CallIs s (λ terms p. native (program_of s.imaged) s.imaged.prefix terms (left_part s count p) id (taken_values s count))
@@ -119,7 +119,7 @@ Invokes s new (Some (invoked.Native id count)) = IsNative s new id count
 Invokes s new (Some (invoked.Raise raised)) = GoesOn s new (Goes (Raise raised))
 Invokes s new (Some invoked.Link) = GoesOn s new (End outcomes.Link)
 
--- the upper operands are the arguments of a frame of the method with this code, where one more may stand
+-- the upper operands are the arguments of a frame of the method with this code, where one more frame is allowed
 abbrev pub Steps : MethodId → MethodCode → ℕ → List StackFrame → List StackFrame → Invoked → Type 0
 Steps method code taken old new invoked.Entered = (length old < most_frames)
     × (new ≡ entered method.number code.max_locals code.max_stack (reverse (take taken (top_operands old))) ∷ with_operands (drop taken (top_operands old)) old)
@@ -128,7 +128,7 @@ Steps method code taken old new invoked = ⊥
 
 -- ---- before that: what is to run
 
--- the method runs on so many operands, of which the upper ones are of its parameters
+-- the method runs on this many operands, of which the upper ones are of its parameters
 pub record RunsBody (s : Site) (taken count : ℕ) (found : FoundMethod) : Type 0 where
   pub receiver : List Value
   pub all : receiver ++ taken_values s count ≡ taken_values s taken

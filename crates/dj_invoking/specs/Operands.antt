@@ -3,8 +3,8 @@ use Rattle.std.specs.Prelude.{ℕ, ◌&&◌, Bool, true, false, List, [], ◌∷
 use Rattle.dj_names.specs.declared.descriptor.Kind.{Kind}
 use Rattle.dj_names.specs.declared.run.Value.{Value}
 use Rattle.dj_names.specs.declared.run.Value.TheVariants as values
-use Rattle.dj_model.specs.Kinds.{Signature}
-use Rattle.dj_model.specs.Numbers.{is_of_kind}
+use Rattle.dj_model.specs.trusted.Kinds.{Signature}
+use Rattle.dj_model.specs.trusted.Numbers.{is_of_kind}
 use Rattle.dj_stack.specs.Frames.{StackFrame}
 
 -- the upper operands are of these kinds, the last one on top; kinds and operands come from the top down

@@ -4,10 +4,11 @@ use Rattle.std.specs.List.{All}
 use Rattle.dj_names.specs.declared.descriptor.Ty.{Ty}
 use Rattle.dj_names.specs.declared.run.Value.{Value}
 use Rattle.dj_names.specs.declared.run.Value.TheVariants as values
-use Rattle.dj_names.specs.Heaps.{Heap, heap_map, class_of, object_at}
-use Rattle.dj_model.specs.Types.{Prefix}
-use Rattle.dj_model.specs.Program.{Program}
-use Rattle.dj_model.specs.Performing.{is_instance}
+use Rattle.dj_names.specs.trusted.Heaps.{Heap, class_of, object_at}
+use Rattle.dj_names.specs.Heaps.{heap_map}
+use Rattle.dj_model.specs.trusted.Types.{Prefix}
+use Rattle.dj_model.specs.trusted.Program.{Program}
+use Rattle.dj_model.specs.trusted.Performing.{is_instance}
 use Rattle.dj_types.specs.Typed.{types_of, type_at}
 use Rattle.dj_image.specs.Imaged.{Imaged, typed_of}
 

@@ -1,14 +1,14 @@
 -- What the call instructions of an image name.
 use Rattle.std.specs.Prelude.{◌≡◌, ℕ, List, Option, Some, None, nat_eq, if◌then◌else◌, get_or, slice_get, option_and_then}
 use Rattle.dj_names.specs.declared.descriptor.Kind.{Kind}
-use Rattle.dj_names.specs.Types.{parameters_of}
+use Rattle.dj_names.specs.trusted.Types.{parameters_of}
 use Rattle.dj_ops.specs.declared.instruction.Instr.{Instr}
 use Rattle.dj_ops.specs.declared.instruction.Instr.TheVariants as instrs
-use Rattle.dj_model.specs.Types.{Member}
-use Rattle.dj_model.specs.Instructions as model
-use Rattle.dj_model.specs.Members.{kinds_of}
-use Rattle.dj_model.specs.Kinds.{Signature}
-use Rattle.dj_model.specs.Linking.{FoundMethod, resolve_method}
+use Rattle.dj_model.specs.trusted.Types.{Member}
+use Rattle.dj_model.specs.trusted.Instructions as model
+use Rattle.dj_model.specs.trusted.Members.{kinds_of}
+use Rattle.dj_model.specs.trusted.Kinds.{Signature}
+use Rattle.dj_model.specs.trusted.Linking.{FoundMethod, resolve_method}
 use Rattle.dj_program.specs.declared.code.MethodCode.{MethodCode}
 use Rattle.dj_shape.specs.Kept.{KeptKinds}
 use Rattle.dj_shape.specs.Pools.{call_at}
@@ -33,18 +33,18 @@ pub record IsCallAt (imaged : Imaged) (caller number : ℕ) (site : CallSite) : 
   pub method : IsMethod (program_of imaged) site.method resolved
   pub kinds : kinds_of (parameters_of member.desc) ≡ Some site.kinds.now
 
--- ---- the code's own: by opcodes and indexes
+-- ---- used by the code alone: by opcodes and indexes
 
 abbrev pub opcode_mode : ℕ → Option Mode
 opcode_mode op = if nat_eq op 182 then Some modes.Virtual else if nat_eq op 183 then Some modes.Special else if nat_eq op 184 then Some modes.Static else None
 
--- none of an instruction that is no call
+-- none for an instruction that is no call
 abbrev pub call_mode : Instr → Option Mode
 call_mode (instrs.Member op index) = opcode_mode op
 call_mode (instrs.Interface index count) = Some modes.Interface
 call_mode instr = None
 
--- the index of what a call names; of another instruction it doesn't matter
+-- the index of what a call names; for another instruction it may be any
 abbrev pub call_index : Instr → Option ℕ
 call_index (instrs.Member op index) = Some index
 call_index (instrs.Interface index count) = Some index
@@ -55,7 +55,7 @@ desc_index (constants.Method index) = Some index
 desc_index (constants.InterfaceMethod index) = Some index
 desc_index kind = None
 
--- the kinds of a call of the method that the constant of an index names
+-- the kinds of a call of the method that the constant at an index names
 abbrev pub call_named : KeptKinds → ℕ → Option Signature
 call_named kinds index = option_and_then (call_at kinds.calls) (desc_index (get_or kinds.constants index constants.Other))
 

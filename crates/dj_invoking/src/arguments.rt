@@ -1,9 +1,9 @@
 ghost use Rattle.std.specs.Prelude.{◌≡◌, ◌≤◌, List, Some, None, true, length, get_or, reverse, take, slice_get};
 ghost use Rattle.dj_names.specs.declared.descriptor.Kind.TheVariants as kinds;
 ghost use Rattle.dj_names.specs.declared.descriptor.Ty.{Ty};
-ghost use Rattle.dj_names.specs.Values.{value_kind};
-ghost use Rattle.dj_model.specs.Members as model;
-ghost use Rattle.dj_model.specs.Performing.{is_instance};
+ghost use Rattle.dj_names.specs.trusted.Values.{value_kind};
+ghost use Rattle.dj_model.specs.trusted.Members as model;
+ghost use Rattle.dj_model.specs.trusted.Performing.{is_instance};
 ghost use Rattle.dj_stack.specs.Frames.{top_operands};
 ghost use Rattle.dj_types.specs.Typed.{types_of};
 ghost use Rattle.dj_image.specs.Imaged.{program_of, typed_of};
@@ -33,7 +33,7 @@ fn has_object(heap: &Heap, value: Value) -> bool
     }
 }
 
-/// Whether each of so many upper operands that is a reference is null or that of an object.
+/// Whether each of this many upper operands that is a reference is null or that of an object.
 pub fn are_there(heap: &Heap, frames: &Frames, count: u16) -> bool
     requires within { count ≤ length (top_operands frames.now) }
     ensures { result ≡ true → AreObjects heap.now.heap (take count (top_operands frames.now)) }
@@ -88,7 +88,7 @@ fn class_at(classes: &[Option<u32>], at: u16) -> Option<u32>
     }
 }
 
-/// Whether each of so many upper operands that is a reference is null or of the class of its parameter.
+/// Whether each of this many upper operands that is a reference is null or of the class of its parameter.
 pub fn are_instances(
     image: &Image,
     heap: &Heap,

@@ -1,7 +1,7 @@
 ghost use Rattle.std.specs.Prelude.{◌≡◌, ◌<◌, None, Some, IfSome, length};
-ghost use Rattle.dj_model.specs.Instructions as model;
-ghost use Rattle.dj_model.specs.Types.{Member};
-ghost use Rattle.dj_model.specs.Linking.{FoundMethod, resolve_method, special_method};
+ghost use Rattle.dj_model.specs.trusted.Instructions as model;
+ghost use Rattle.dj_model.specs.trusted.Types.{Member};
+ghost use Rattle.dj_model.specs.trusted.Linking.{FoundMethod, resolve_method, special_method};
 ghost use Rattle.dj_linking.specs.Linked.{class_name};
 ghost use Rattle.dj_types.specs.Members.{all_methods};
 ghost use Rattle.dj_image.specs.Imaged.{program_of};
@@ -20,7 +20,7 @@ pub enum Mode {
     Interface,
 }
 
-/// What a call takes.
+/// What a call takes: a method, or the reason why there is none.
 #[derive(Clone, Copy, Debug)]
 pub enum Chosen {
     Method(MethodId),
@@ -30,7 +30,7 @@ pub enum Chosen {
     Link,
 }
 
-// What is taken, where a receiver is fit.
+// The method that is taken, where there is one for the receiver.
 fn method_or_link(method: Option<MethodId>) -> Chosen
     ensures { result ≡ chosen_method method }
 {
@@ -104,7 +104,7 @@ fn choose_special(image: &Image, heap: &Heap, own: u32, method: MethodId, r: u32
     }
 }
 
-/// What a call of a method in a class takes, with a receiver, which a static method hasn't.
+/// What a call of a method in a class takes, with a receiver, which a static method doesn't have.
 pub fn choose(image: &Image, heap: &Heap, mode: Mode, own: u32, method: MethodId, r: u32) -> Chosen
     requires there { method.number < length (all_methods (program_of image.now)) }
     requires own { own < length (program_of image.now) }

@@ -1,7 +1,7 @@
 ghost use Rattle.std.specs.Prelude.{◌≡◌, ◌≤◌, ◌<◌, ◌∷◌, [], length, replicate, None, IfOk};
-ghost use Rattle.dj_model.specs.Numbers.{is_long};
-ghost use Rattle.dj_model.specs.Values.{in_slots};
-ghost use Rattle.dj_model.specs.Initialisation.{padded};
+ghost use Rattle.dj_model.specs.trusted.Numbers.{is_long};
+ghost use Rattle.dj_model.specs.trusted.Values.{in_slots};
+ghost use Rattle.dj_model.specs.trusted.Initialisation.{padded};
 ghost use Rattle.dj_stack.specs.Frames.{SameButLocals, most_frames, top_locals, top_operands};
 ghost use Rattle.dj_invoking.specs.Operands.{with_operands};
 ghost use Rattle.dj_invoking.specs.Entering.{Enters};
@@ -56,7 +56,7 @@ fn set_arguments(frames: &mut Frames, arguments: &[Value])
     }
 }
 
-/// Makes the upper operands the arguments of a frame of a method, which stands on top, and tells whether one more frame could stand. The buffer has the arguments then.
+/// Makes the upper operands the arguments of a new top frame, of this method, and returns whether one more frame was allowed. The buffer has the arguments then.
 pub fn enter(
     frames: &mut Frames,
     arguments: &mut Vec<Value>,
@@ -75,11 +75,9 @@ pub fn enter(
         return Err(NoMemory::Memory);
     };
     drop_operands(frames, count);
-    match frames.push(room.method, room.max_locals.max(slots), room.max_stack) {
-        Ok(()) => {
-            set_arguments(frames, arguments);
-            Ok(true)
-        }
-        Err(_) => Err(NoMemory::Memory),
-    }
+    frames
+        .push(room.method, room.max_locals.max(slots), room.max_stack)
+        .or(Err(NoMemory::Memory))?;
+    set_arguments(frames, arguments);
+    Ok(true)
 }

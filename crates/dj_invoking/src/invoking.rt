@@ -1,11 +1,11 @@
 ghost use Rattle.std.specs.Prelude.{◌≡◌, ◌≤◌, ◌<◌, ◌+◌, List, Some, true, false, length, drop, reverse, IfOk};
 ghost use Rattle.dj_names.specs.declared.descriptor.Kind.{Kind};
-ghost use Rattle.dj_names.specs.Types.{Name, parameters_of};
-ghost use Rattle.dj_model.specs.Types.{Member};
-ghost use Rattle.dj_model.specs.Instructions as model;
-ghost use Rattle.dj_model.specs.Members.{kinds_of};
-ghost use Rattle.dj_model.specs.Program.{is_static};
-ghost use Rattle.dj_model.specs.Linking.{FoundMethod, resolve_method};
+ghost use Rattle.dj_names.specs.trusted.Types.{Name, parameters_of};
+ghost use Rattle.dj_model.specs.trusted.Types.{Member};
+ghost use Rattle.dj_model.specs.trusted.Instructions as model;
+ghost use Rattle.dj_model.specs.trusted.Members.{kinds_of};
+ghost use Rattle.dj_model.specs.trusted.Program.{is_static};
+ghost use Rattle.dj_model.specs.trusted.Linking.{FoundMethod, resolve_method};
 ghost use Rattle.dj_stack.specs.Frames.{top_operands};
 ghost use Rattle.dj_linking.specs.Linked.{class_name};
 ghost use Rattle.dj_calls.specs.Known.{AreKnown};
@@ -30,7 +30,7 @@ use dj_image::{Body, Image, MethodCode, MethodId};
 use dj_names::{Kind, NoMemory, Raised, Value};
 use dj_stack::Frames;
 
-// A frame of a method with code.
+// The room for a frame of a method with code.
 fn room_of(method: MethodId, code: &MethodCode) -> Room
     ensures method { result.method ≡ method.number }
     ensures locals { result.max_locals ≡ code.now.max_locals }
@@ -43,7 +43,7 @@ fn room_of(method: MethodId, code: &MethodCode) -> Room
     }
 }
 
-// The operands that a call takes go, and so the run goes on.
+// Takes the operands of a call away, and the run goes on in this way.
 fn give_up(frames: &mut Frames, taken: u16, invoked: Invoked) -> Invoked
     requires { taken ≤ length (top_operands frames.old) }
     ensures frames { frames.new ≡ with_operands (drop taken (top_operands frames.old)) frames.old }
@@ -53,7 +53,7 @@ fn give_up(frames: &mut Frames, taken: u16, invoked: Invoked) -> Invoked
     invoked
 }
 
-// A frame of a method with code stands on top, on so many operands, where it may.
+// Pushes a frame of a method with code, with this many operands as its arguments, where one more frame is allowed.
 fn enter_code(
     frames: &mut Frames,
     arguments: &mut Vec<Value>,
@@ -72,7 +72,7 @@ fn enter_code(
     }
 }
 
-// Whether a method is static as a call asks.
+// Whether a method is static as a call requires.
 #[tactic(auto, using(crate::proofs::Bodies::called_so))]
 fn is_called_so(image: &Image, method: MethodId, static_call: bool) -> bool
     requires { method.number < length (all_methods (program_of image.now)) }
@@ -88,7 +88,7 @@ fn is_static(flags: u16) -> bool
     flags & 0x0008 != 0
 }
 
-// A method runs on so many operands, of which the upper ones are of its parameters.
+// Runs a method on this many operands, the upper ones of which are its arguments.
 fn run_method(
     image: &Image,
     natives: &Natives,
@@ -128,7 +128,7 @@ fn run_method(
     }
 }
 
-// A call on a receiver, below so many arguments.
+// A call on a receiver, below this many arguments.
 fn invoke_on(
     image: &Image,
     natives: &Natives,
@@ -176,7 +176,7 @@ fn invoke_on(
 }
 
 /// Calls a method to which an instruction resolves in a method of the class own, on operands of these kinds and, where it isn't static, the object below them.
-/// None where these don't stand on the operands.
+/// None where the operands don't have these.
 pub fn invoke(
     image: &Image,
     natives: &Natives,

@@ -1,11 +1,11 @@
 ghost use Rattle.std.specs.Prelude.{◌≡◌, Some, IfOk, IfSome, length, slice_get};
-ghost use Rattle.dj_names.specs.Types.{parameters_of};
-ghost use Rattle.dj_names.specs.Descriptors.{Describes};
+ghost use Rattle.dj_names.specs.trusted.Types.{parameters_of};
+ghost use Rattle.dj_names.specs.trusted.Descriptors.{Describes};
 ghost use Rattle.dj_names.specs.declared.descriptor.Desc.{Desc};
 ghost use Rattle.dj_names.specs.declared.descriptor.Of.TheVariants as ofs;
 ghost use Rattle.dj_names.specs.declared.native.NativeId.{NativeId};
-ghost use Rattle.dj_model.specs.Program.{Native};
-ghost use Rattle.dj_model.specs.Linking.{FoundMethod};
+ghost use Rattle.dj_model.specs.trusted.Program.{Native};
+ghost use Rattle.dj_model.specs.trusted.Linking.{FoundMethod};
 ghost use Rattle.dj_types.specs.Typed.{types_of};
 ghost use Rattle.dj_types.specs.Members.{all_methods};
 ghost use Rattle.dj_image.specs.Imaged.{program_of, typed_of};
@@ -19,7 +19,7 @@ use std::alloc::{AllocError, AllocFailed, Global};
 use std::marker::Model;
 use thiserror::Error;
 
-/// Why the classes of native methods were not told.
+/// Why the classes of native methods were not found.
 #[derive(Clone, Copy, Debug, PartialEq, Eq, Error)]
 pub enum NativesError {
     /// There was no memory.
@@ -60,7 +60,7 @@ impl From<DescError> for NativesError {
     }
 }
 
-/// Of each native method of an image the classes of its parameters, where they take references.
+/// For each native method of an image the classes of its parameters, where they take references.
 #[derive(Drop)]
 pub struct Natives {
     // By the number of a method.

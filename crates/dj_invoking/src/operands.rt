@@ -47,7 +47,7 @@ pub fn fit(frames: &Frames, kinds: &[Kind]) -> bool
     true
 }
 
-/// Takes so many operands of the top frame away.
+/// Takes this many operands of the top frame away.
 pub fn drop_operands(frames: &mut Frames, count: u16)
     requires { count ≤ length (top_operands frames.old) }
     ensures operands { top_operands frames.new ≡ drop count (top_operands frames.old) }
@@ -58,7 +58,7 @@ pub fn drop_operands(frames: &mut Frames, count: u16)
     }
 }
 
-/// Puts so many upper operands of the top frame, where they stay, into a buffer, in the order in which they were pushed.
+/// Puts this many upper operands of the top frame, where they stay, into a buffer, in the order in which they were pushed.
 pub fn copy_operands(frames: &Frames, count: u16, copied: &mut Vec<Value>) -> Result<(), NoMemory>
     requires { count ≤ length (top_operands frames.now) }
     ensures { OnOk result (copied.new.items ≡ reverse (take count (top_operands frames.now))) }
@@ -70,7 +70,7 @@ pub fn copy_operands(frames: &Frames, count: u16, copied: &mut Vec<Value>) -> Re
     Ok(())
 }
 
-/// The reference below so many upper operands of the top frame, where one stands there.
+/// The reference below this many upper operands of the top frame, where there is one.
 pub fn receiver(frames: &Frames, above: u16) -> Option<u32>
     ensures receiver { result ≡ receiver_in (drop above (top_operands frames.now)) }
     ensures few { IfSome result (λ _. above < 65535) }

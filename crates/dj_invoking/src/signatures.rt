@@ -1,8 +1,8 @@
 ghost use Rattle.std.specs.Prelude.{◌≡◌};
 ghost use Rattle.std.specs.Option.{option_map};
-ghost use Rattle.dj_model.specs.Program.{Code, Runs};
-ghost use Rattle.dj_model.specs.Linking.{FoundMethod};
-ghost use Rattle.dj_model.specs.Kinds.{call_signature};
+ghost use Rattle.dj_model.specs.trusted.Program.{Code, Runs};
+ghost use Rattle.dj_model.specs.trusted.Linking.{FoundMethod};
+ghost use Rattle.dj_model.specs.trusted.Kinds.{call_signature};
 ghost use Rattle.dj_image.specs.Imaged.{program_of};
 ghost use Rattle.dj_invoking.specs.Choosing.{IsMethod, IsNumber};
 ghost use Rattle.dj_invoking.specs.Operands.{parameters_in};
@@ -10,7 +10,7 @@ ghost use Rattle.dj_invoking.specs.Operands.{parameters_in};
 use dj_image::{Image, MethodId};
 use dj_names::Kind;
 
-/// The kinds of the parameters of a method with code; none where it takes or gives a float or a double. Of a method without code nothing is told.
+/// The kinds of the parameters of a method with code; none where it takes or gives a float or a double. Nothing is promised for a method without code.
 pub fn parameters(image: &Image, method: MethodId) -> Option<&[Kind]>
     requires { IsNumber (program_of image.now) method }
     ensures { (found : FoundMethod) (code : Code) → IsMethod (program_of image.now) method found → found.method.body ≡ Runs code

@@ -1,9 +1,10 @@
 ghost use Rattle.std.specs.Prelude.{◌≡◌, ◌<◌, true, length, IfSome};
 ghost use Rattle.std.specs.Option.{option_map};
-ghost use Rattle.dj_model.specs.Types.{Prefix};
-ghost use Rattle.dj_model.specs.Instructions as model;
-ghost use Rattle.dj_model.specs.Opcodes.{instruction_of};
-ghost use Rattle.dj_model.specs.Program.{Program};
+ghost use Rattle.dj_model.specs.trusted.Types.{Prefix};
+ghost use Rattle.dj_model.specs.trusted.Instructions as model;
+ghost use Rattle.dj_model.specs.Instructions as more_model;
+ghost use Rattle.dj_model.specs.trusted.Opcodes.{instruction_of};
+ghost use Rattle.dj_model.specs.trusted.Program.{Program};
 ghost use Rattle.dj_model.specs.Sound.{IsSound, is_linked};
 ghost use Rattle.dj_types.specs.Members.{all_methods};
 ghost use Rattle.dj_image.specs.Imaged.{program_of};
@@ -28,7 +29,7 @@ pub struct CallSite<'i> {
     pub kinds: &'i [Kind],
 }
 
-// How the instruction of an opcode calls, but for invokeinterface; none where it is no call.
+// How the instruction of an opcode calls, except invokeinterface; none where it is no call.
 fn opcode_mode(op: u8) -> Option<Mode>
     ensures { result ≡ opcode_mode op }
 {
@@ -51,11 +52,11 @@ fn call_mode(instr: &Instr) -> Option<Mode>
     }
 }
 
-/// Whether an instruction that is linked, as each of a sound program is, is a call.
+/// Whether an instruction is a call; it has to be linked, as each instruction of a sound program is.
 #[tactic(auto, using(crate::proofs::CallForms::call_linked))]
 pub fn is_call(instr: &Instr) -> bool
     ensures { (program : Program) (prefix : Prefix) (named : model.Named) → is_linked program prefix (instruction_of instr.now named) ≡ true
-        → result ≡ model.calls (instruction_of instr.now named) }
+        → result ≡ more_model.calls (instruction_of instr.now named) }
 {
     call_mode(instr).is_some()
 }
@@ -82,7 +83,7 @@ fn desc_index(constant: ConstantKind) -> Option<u16>
     }
 }
 
-// The kinds of the parameters of the method that the constant of an index names; none where it names none, or one with floats or doubles.
+// The kinds of the parameters of the method that the constant at an index names; none where it names none, or one with floats or doubles.
 fn parameters_named(kinds: &PoolKinds, index: u16) -> Option<&[Kind]>
     ensures { option_map (λ told. told.now) result ≡ parameters_in (call_named kinds.now index) }
 {
@@ -100,7 +101,8 @@ fn parameters_at<'i>(kinds: &'i PoolKinds, code: &MethodCode, number: u32) -> Op
     parameters_named(kinds, index)
 }
 
-/// The call of the instruction of a number in a method with code; none where it is no call, and never of a call in a sound program (then nothing is told).
+/// The call of the instruction of a number in a method with code; none where it is no call, and never for a call in a sound program.
+/// Where the answer is none, nothing is promised.
 pub fn call_at<'i>(image: &'i Image, caller: MethodId, number: u32) -> Option<CallSite<'i>>
     requires sound { IsSound (program_of image.now) image.now.prefix }
     requires there { caller.number < length (all_methods (program_of image.now)) }

@@ -1,19 +1,19 @@
--- What is told of a class file.
+-- What is known of a class file.
 use Rattle.std.proofs.Common.{◌≡◌, ℕ, ◌+◌, ◌<◌, ◌≤◌, List, [], take, map, length, get_or, Option, Some, None, subst, sym, inl, inr, Bool, false, IsTrue, ◌↔◌}
 use Rattle.std.proofs.lemmas.List.{take_all}
 use Rattle.dj_class.specs.declared.class.MemberView.{MemberView}
-use Rattle.dj_class.specs.ClassFile.{ClassFile}
+use Rattle.dj_class.specs.trusted.ClassFile.{ClassFile}
 use Rattle.dj_class.specs.Members.{member_of}
 use Rattle.dj_report.specs.Lines.{Gains, Adds, IsLineAmong}
 use Rattle.dj_report.proofs.Adding.{IsAmong, adds_none_yet, adds_read, not_both}
-use Rattle.dj_model.specs.Program.{Program}
+use Rattle.dj_model.specs.trusted.Program.{Program}
 use Rattle.dj_check.specs.declared.judged.JudgedText.{JudgedText}
 use Rattle.dj_check.specs.declared.marks.Mark.{Mark}
 use Rattle.dj_check.specs.Judged.{AreTexts}
-use Rattle.dj_check.specs.Malformed.{IsFaultyMethod, HasFaultyMethod, HasFaultyField, IsFaulty}
+use Rattle.dj_check.specs.trusted.Malformed.{IsFaultyMethod, HasFaultyMethod, HasFaultyField, IsFaulty}
 use Rattle.dj_check.specs.Marks.{names_in, MarksOf, IsMarkLine}
-use Rattle.dj_check.specs.Methods.{MethodViolates}
-use Rattle.dj_check.specs.Rules.{IsOwnLine}
+use Rattle.dj_check.specs.trusted.Methods.{MethodViolates}
+use Rattle.dj_check.specs.trusted.Rules.{IsOwnLine}
 use Rattle.dj_check.proofs.Anys.{IsAny, none_yet, none_more, found_at, none_at_all, seen_any, from_seen_any}
 use Rattle.dj_check.proofs.MarkLaws.{marks_seen}
 use Rattle.dj_link.proofs.FileLaws.{mark_lines}
@@ -35,7 +35,7 @@ IsEarlyOf c texts m = MarksOf (names_in texts (member_of m)) (MethodViolates c (
 abbrev pub IsLateOf : Program → ClassFile → List JudgedText → MemberView → Mark → Type 0
 IsLateOf program c texts m = MarksOf (names_in texts (member_of m)) (MethodLateViolates program c (member_of m))
 
--- none of the first methods, so many, is faulty, and the marks are theirs
+-- none of the first n methods is faulty, and the marks are theirs
 pub record AreFirstTold (c : ClassFile) (Has : Program → Type 0) (texts : List JudgedText) (views : List MemberView) (count : ℕ) (marks : Marks) : Type 0 where
   pub sound : IsAny (λ m. IsFaultyMethod c.pool (member_of m)) (take count views) → ⊥
   pub early : Gains (IsAmong (IsEarlyOf c texts) (take count views)) [] marks.early.items

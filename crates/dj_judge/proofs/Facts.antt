@@ -5,33 +5,33 @@ use Rattle.dj_names.specs.declared.descriptor.Of.TheVariants as ofs
 use Rattle.dj_names.specs.declared.descriptor.Ty.{Ty}
 use Rattle.dj_names.specs.declared.descriptor.Desc.{Desc}
 use Rattle.dj_names.specs.declared.descriptor.Desc.TheVariants as descs
-use Rattle.dj_names.specs.NameReading.{reads_class_name}
-use Rattle.dj_names.specs.DescReading.{dims_read, name_read, class_read, of_read, type_read, params_read, field_read, return_read, method_read, desc_read}
-use Rattle.dj_names.specs.Descriptors.{Describes}
+use Rattle.dj_names.specs.trusted.NameReading.{reads_class_name}
+use Rattle.dj_names.specs.trusted.DescReading.{dims_read, name_read, class_read, of_read, type_read, params_read, field_read, return_read, method_read, desc_read}
+use Rattle.dj_names.specs.trusted.Descriptors.{Describes}
 use Rattle.dj_names.proofs.DescLaws.{described_once}
-use Rattle.dj_edge.specs.Held.{File}
+use Rattle.dj_edge.specs.trusted.Held.{File}
 use Rattle.dj_ops.specs.declared.instruction.Instr.TheVariants as instrs
-use Rattle.dj_pool.specs.Pool.{Constant, Utf8, Class}
+use Rattle.dj_pool.specs.trusted.Pool.{Constant, Utf8, Class}
 use Rattle.dj_pool.proofs.Decides.{tests_decide}
-use Rattle.dj_class.specs.ClassFile.{MemberInfo, ClassFile}
-use Rattle.dj_class.specs.Code.{CodeInfo}
+use Rattle.dj_class.specs.trusted.ClassFile.{MemberInfo, ClassFile}
+use Rattle.dj_class.specs.trusted.Code.{CodeInfo}
 use Rattle.dj_class.proofs.ClassLaws.{one_class_file}
 use Rattle.dj_labels.specs.declared.labelled.Protected.{Protected}
 use Rattle.dj_labels.specs.declared.labelled.Labelled.{Labelled}
 use Rattle.dj_report.specs.declared.report.Violation.{Violation}
-use Rattle.dj_report.specs.Lines.{file_line}
+use Rattle.dj_report.specs.trusted.Lines.{file_line}
 use Rattle.dj_report.proofs.Sorted.{contains_none, contains_cases}
-use Rattle.dj_model.specs.Program.{Program}
-use Rattle.dj_declared.specs.Files.{desc_in, type_in}
-use Rattle.dj_rules.specs.Violations.{this_name}
-use Rattle.dj_check.specs.Code.{IsCodeOf}
-use Rattle.dj_check.specs.Floats.{MentionsFloat, HasFloat}
-use Rattle.dj_check.specs.Malformed.{IsGood}
-use Rattle.dj_check.specs.Methods.{CatchesError, HandlerViolates, MethodViolates}
-use Rattle.dj_check.specs.Rules.{IsDuplicateLine}
-use Rattle.dj_link.specs.Foreign.{IsForeignConstant}
-use Rattle.dj_link.specs.Lines.{HandlerLinkViolates, MethodLinkViolates}
-use Rattle.dj_judge.specs.Lines.{IsUntold, MethodShapeViolates}
+use Rattle.dj_model.specs.trusted.Program.{Program}
+use Rattle.dj_declared.specs.trusted.Files.{desc_in, type_in}
+use Rattle.dj_rules.specs.trusted.Violations.{this_name}
+use Rattle.dj_check.specs.trusted.Code.{IsCodeOf}
+use Rattle.dj_check.specs.trusted.Floats.{MentionsFloat, HasFloat}
+use Rattle.dj_check.specs.trusted.Malformed.{IsGood}
+use Rattle.dj_check.specs.trusted.Methods.{CatchesError, HandlerViolates, MethodViolates}
+use Rattle.dj_check.specs.trusted.Rules.{IsDuplicateLine}
+use Rattle.dj_link.specs.trusted.Foreign.{IsForeignConstant}
+use Rattle.dj_link.specs.trusted.Lines.{HandlerLinkViolates, MethodLinkViolates}
+use Rattle.dj_judge.specs.trusted.Lines.{IsUntold, MethodShapeViolates}
 
 -- ---- rule 5
 
@@ -88,7 +88,7 @@ module _ (p q r : List ℕ) (a b d : List ℕ) (first second third : ClassFile) 
             ]
       ]
 
--- ---- rule 19, judged where nothing else is told of the method
+-- ---- rule 19, judged where nothing else is reported of the method
 
 -- 3 and 5 are names, 4 a descriptor and 6 one with a float
 pool : List Constant

@@ -1,36 +1,37 @@
 -- The lines of files.
 use Rattle.std.proofs.Common.{◌≡◌, ℕ, ◌≤◌, ◌⊎◌, ◌↔◌, List, [], map, take, length, Option, Some, None, sym, ◌∙◌, subst, inl, inr, Contains}
 use Rattle.std.proofs.lemmas.List.{take_all}
-use Rattle.dj_edge.specs.Held.{File}
+use Rattle.dj_edge.specs.trusted.Held.{File}
 use Rattle.dj_pool.proofs.Decides.{tests_decide}
-use Rattle.dj_class.specs.ClassFile.{ClassFile, IsClassFile}
+use Rattle.dj_class.specs.trusted.ClassFile.{ClassFile, IsClassFile}
 use Rattle.dj_class.proofs.ClassLaws.{one_class_file}
 use Rattle.dj_report.specs.declared.report.Violation.{Violation}
 use Rattle.dj_report.specs.declared.report.PathFile.{PathFile}
-use Rattle.dj_report.specs.Lines.{file_line, Adds, Gains, IsLineAmong}
+use Rattle.dj_report.specs.trusted.Lines.{file_line}
+use Rattle.dj_report.specs.Lines.{Adds, Gains, IsLineAmong}
 use Rattle.dj_report.proofs.Sorted.{contains_none}
 use Rattle.dj_report.proofs.Adding.{adds_same, adds_nothing, adds_both, adds_part, among_map}
 use Rattle.dj_hierarchy.specs.Views.{head_view}
-use Rattle.dj_model.specs.Program.{Program}
+use Rattle.dj_model.specs.trusted.Program.{Program}
 use Rattle.dj_rules.specs.Views.{path_file_view}
-use Rattle.dj_rules.specs.Violations.{IsClassLine}
+use Rattle.dj_rules.specs.trusted.Violations.{IsClassLine}
 use Rattle.dj_check.specs.declared.judged.JudgedText.{JudgedText}
 use Rattle.dj_check.specs.declared.good.GoodFile.{GoodFile}
 use Rattle.dj_check.specs.declared.marks.Mark.{Mark}
 use Rattle.dj_check.specs.Judged.{AreTexts}
-use Rattle.dj_check.specs.Malformed.{IsFaulty, IsRefused, IsGood}
-use Rattle.dj_check.specs.Methods.{MethodViolates}
-use Rattle.dj_check.specs.Rules.{IsMemberLine, FieldViolates, IsNamingLine, IsOwnLine, IsLoneLine, IsAmongLoneLines, IsDuplicateLine, IsHierarchyLine, IsEarlyLine}
+use Rattle.dj_check.specs.trusted.Malformed.{IsFaulty, IsRefused, IsGood}
+use Rattle.dj_check.specs.trusted.Methods.{MethodViolates}
+use Rattle.dj_check.specs.trusted.Rules.{IsMemberLine, FieldViolates, IsNamingLine, IsOwnLine, IsLoneLine, IsAmongLoneLines, IsDuplicateLine, IsHierarchyLine, IsEarlyLine}
 use Rattle.dj_check.specs.Marks.{AreMarksOf, IsMarkLine}
 use Rattle.dj_check.specs.Doubles.{IsRepeatedLine}
 use Rattle.dj_check.specs.Kept.{IsOwnersLine}
 use Rattle.dj_check.proofs.FileLaws.{member_lines, refused_not_good}
 use Rattle.dj_check.proofs.DoubleLaws.{duplicate_lines}
 use Rattle.dj_check.proofs.HierarchyLaws.{hierarchy_lines}
-use Rattle.dj_link.specs.Lines.{MethodLinkViolates}
+use Rattle.dj_link.specs.trusted.Lines.{MethodLinkViolates}
 use Rattle.dj_judge.specs.declared.files.JudgedFiles.{JudgedFiles}
 use Rattle.dj_judge.specs.declared.kept.Kept.{Kept}
-use Rattle.dj_judge.specs.Lines.{MethodShapeViolates, IsLinkedLine}
+use Rattle.dj_judge.specs.trusted.Lines.{MethodShapeViolates, IsLinkedLine}
 use Rattle.dj_judge.specs.Late.{MethodLateViolates, IsFileLateLine}
 use Rattle.dj_judge.specs.Told.{TellsPart, IsJudgedFile, IsToldFile}
 use Rattle.dj_judge.specs.Kept.{AreKept}

@@ -3,7 +3,7 @@ use Rattle.std.proofs.Common.{◌≡◌, ℕ, zero, suc, ◌+◌, ◌<◌, ◌�
 use Rattle.std.proofs.lemmas.Bool.{cases_lt}
 use Rattle.std.proofs.lemmas.List.{length-append, take_more, take_all}
 use Rattle.std.proofs.lemmas.List.Elements.{Contains-append_left, Contains-push, Contains-push_cases}
-use Rattle.dj_class.specs.ClassFile.{ClassFile}
+use Rattle.dj_class.specs.trusted.ClassFile.{ClassFile}
 use Rattle.dj_class.proofs.ClassLaws.{one_class_file}
 use Rattle.dj_pool.proofs.Decides.{tests_decide}
 use Rattle.dj_report.specs.declared.report.PathFile.{PathFile}
@@ -13,7 +13,7 @@ use Rattle.dj_check.specs.declared.doubles.NamedFile.{NamedFile}
 use Rattle.dj_check.specs.declared.good.GoodFile.{GoodFile}
 use Rattle.dj_check.specs.declared.hierarchy.Owner.{Owner}
 use Rattle.dj_judge.specs.declared.kept.Kept.{Kept}
-use Rattle.dj_check.specs.Malformed.{IsGood}
+use Rattle.dj_check.specs.trusted.Malformed.{IsGood}
 use Rattle.dj_check.specs.Passes.{IsGoodPart}
 use Rattle.dj_judge.specs.Told.{TellsPart}
 use Rattle.dj_check.specs.Doubles.{IsNamedAs}
@@ -73,7 +73,7 @@ refused_more files file heads owners refused before = record {
   ];
 }
 
--- and another has the one that is told
+-- and another has the one that is given
 good_more : (files : List PathFile) (file : PathFile) (path : Bor (List ℕ)) (part : GoodFile) (heads : List ClassHead) (owners : List Owner) → path.now ≡ file.path.now → TellsPart file (Some part) → AreOwned files heads owners
     → AreOwned (files ++ file ∷ []) (heads ++ part.head ∷ []) (owners ++ record { path = path; repeats = part.repeats } ∷ [])
 good_more files file path part heads owners same (class, good, told) before =
@@ -115,7 +115,7 @@ named_part : (file : PathFile) (path : Bor (List ℕ)) (part : Option GoodFile) 
 named_part file path None same refused = record { path = same; name = refused }
 named_part file path (Some part) same (c, good, told) = record { path = same; name = (c, good, told.head_is.name) }
 
--- what is kept of the first files, so many
+-- what is kept of the first n files
 pub record AreFirstKept (count : ℕ) (files : List PathFile) (kept : Kept) : Type 0 where
   pub named : AreFirstNamed count files kept.named.items
   pub owned : AreOwned (take count files) kept.heads.items kept.owners.items

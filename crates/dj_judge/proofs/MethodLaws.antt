@@ -1,28 +1,28 @@
 -- The marks of methods.
 use Rattle.std.proofs.Common.{◌≡◌, ◌≢◌, ℕ, ◌⊎◌, ◌↔◌, Bool, true, false, not, IsTrue, List, [], ◌∷◌, ◌++◌, Option, Some, None, refl, sym, ◌∙◌, subst, inl, inr, arith, Contains, Bor, Vec, Global}
-use Rattle.dj_pool.specs.Pool.{Constant}
-use Rattle.dj_class.specs.ClassFile.{MemberInfo, ClassFile}
-use Rattle.dj_class.specs.Code.{CodeInfo}
+use Rattle.dj_pool.specs.trusted.Pool.{Constant}
+use Rattle.dj_class.specs.trusted.ClassFile.{MemberInfo, ClassFile}
+use Rattle.dj_class.specs.trusted.Code.{CodeInfo}
 use Rattle.dj_report.specs.Lines.{Gains}
 use Rattle.dj_report.proofs.Sorted.{contains_none}
 use Rattle.dj_report.proofs.Adding.{adds_same, adds_nothing, adds_both, adds_members, adds_part}
-use Rattle.dj_rules.specs.Violations.{IsNative, IsFinalizer}
-use Rattle.dj_model.specs.Program.{Program}
+use Rattle.dj_rules.specs.trusted.Violations.{IsNative, IsFinalizer}
+use Rattle.dj_model.specs.trusted.Program.{Program}
 use Rattle.dj_check.specs.declared.code.WholeCode.{WholeCode}
 use Rattle.dj_check.specs.declared.marks.Mark.{Mark}
 use Rattle.dj_check.specs.declared.judged.JudgedText.{JudgedText}
-use Rattle.dj_check.specs.Attributes.{codes_of}
-use Rattle.dj_check.specs.Code.{IsCodeOf}
-use Rattle.dj_check.specs.Floats.{NamesFloat}
-use Rattle.dj_check.specs.Malformed.{IsFaultyMethod}
+use Rattle.dj_check.specs.trusted.Attributes.{codes_of}
+use Rattle.dj_check.specs.trusted.Code.{IsCodeOf}
+use Rattle.dj_check.specs.trusted.Floats.{NamesFloat}
+use Rattle.dj_check.specs.trusted.Malformed.{IsFaultyMethod}
 use Rattle.dj_check.specs.Marks.{place_of, names_in, MarksOf}
-use Rattle.dj_check.specs.Methods.{MethodViolates}
+use Rattle.dj_check.specs.trusted.Methods.{MethodViolates}
 use Rattle.dj_check.specs.Passes.{IsWholeMethod}
 use Rattle.dj_link.specs.declared.known.Known.{Known}
-use Rattle.dj_link.specs.Lines.{MethodLinkViolates}
+use Rattle.dj_link.specs.trusted.Lines.{MethodLinkViolates}
 use Rattle.dj_link.specs.Marks.{IsUntoldMethod}
 use Rattle.dj_judge.specs.declared.lent.Marks.{Marks}
-use Rattle.dj_judge.specs.Lines.{IsUntold}
+use Rattle.dj_judge.specs.trusted.Lines.{IsUntold}
 use Rattle.dj_judge.specs.Late.{HasKnown, ShapeViolates, MethodLateViolates, AreToldMarks}
 use Rattle.dj_judge.specs.Told.{IsToldMethod}
 
@@ -124,7 +124,7 @@ whole_method c Has texts m old own new sound told early late = record {
   late = λ program has. appended (MarksOf (names_in texts m) (MethodLateViolates program c m)) old.late.items own.late.items new.late.items (told.late program has) late;
 }
 
--- ---- what is told of a method with code
+-- ---- what is known of a method with code
 
 both_ways : (b : Bool) → IsTrue b → IsTrue (not b) → ⊥
 both_ways true t n = absurd cc

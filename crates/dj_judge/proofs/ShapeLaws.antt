@@ -8,33 +8,34 @@ use Rattle.dj_names.specs.declared.descriptor.Ty.{Ty}
 use Rattle.dj_names.specs.declared.descriptor.Kind.{Kind}
 use Rattle.dj_names.specs.declared.descriptor.Desc.{Desc}
 use Rattle.dj_names.specs.declared.descriptor.Desc.TheVariants as descs
-use Rattle.dj_names.specs.Descriptors.{type_kind, IsMethodDescriptor}
-use Rattle.dj_pool.specs.Pool.{Constant, text_at}
-use Rattle.dj_class.specs.ClassFile.{MemberInfo, IsMethod}
+use Rattle.dj_names.specs.trusted.Descriptors.{type_kind, IsMethodDescriptor}
+use Rattle.dj_pool.specs.trusted.Pool.{Constant, text_at}
+use Rattle.dj_class.specs.trusted.ClassFile.{MemberInfo, IsMethod}
 use Rattle.dj_labels.specs.declared.labelled.Labelled.{Labelled}
 use Rattle.dj_report.specs.Lines.{Gains}
 use Rattle.dj_report.proofs.Adding.{adds_same, adds_nothing}
-use Rattle.dj_model.specs.Program.{is_static}
-use Rattle.dj_model.specs.Members.{kinds_of}
-use Rattle.dj_model.specs.Kinds.{Signature, signature_of, call_signature, with_receiver}
-use Rattle.dj_model.specs.Shape.{IsShapeFault}
+use Rattle.dj_model.specs.trusted.Program.{is_static}
+use Rattle.dj_model.specs.trusted.Members.{kinds_of}
+use Rattle.dj_model.specs.trusted.Kinds.{Signature, signature_of, call_signature, with_receiver}
+use Rattle.dj_model.specs.trusted.Shape.{IsShapeFault}
 use Rattle.dj_model.proofs.Shapes.{no_fault_with_shape, one_shape_fault}
-use Rattle.dj_declared.specs.Files.{desc_in, name_in}
+use Rattle.dj_declared.specs.trusted.Files.{desc_in, name_in}
 use Rattle.dj_declared.specs.Members.{IsDescriptor}
 use Rattle.dj_declared.proofs.DescTests.{desc_in_is, is_descriptor}
 use Rattle.dj_check.specs.declared.code.WholeCode.{WholeCode}
 use Rattle.dj_check.specs.declared.marks.Place.{Place}
 use Rattle.dj_check.specs.declared.marks.Mark.{Mark}
-use Rattle.dj_check.specs.Attributes.{codes_of}
-use Rattle.dj_check.specs.Floats.{IsFloating, HasFloating, MentionsFloat, HasFloat, NamesFloat}
+use Rattle.dj_check.specs.trusted.Attributes.{codes_of}
+use Rattle.dj_check.specs.trusted.Floats.{IsFloating, HasFloating, MentionsFloat, HasFloat, NamesFloat}
 use Rattle.dj_check.specs.Marks.{mark_at, place_of, MarksOf}
 use Rattle.dj_check.specs.Passes.{IsWholeMethod}
 use Rattle.dj_check.proofs.DoubleLaws.{from_some}
 use Rattle.dj_check.proofs.MethodLaws.{short_code, one_labelled}
-use Rattle.dj_program.specs.Codes.{CodeParts, code_in, IsMethodCode}
+use Rattle.dj_program.specs.trusted.Codes.{CodeParts, code_in, IsMethodCode}
 use Rattle.dj_program.proofs.Once.{one_parts}
 use Rattle.dj_shape.specs.declared.judge.ShapeFault.{ShapeFault}
-use Rattle.dj_shape.specs.Rule.{signature_at, LacksShape, IsShapeAnswer}
+use Rattle.dj_shape.specs.trusted.Rule.{signature_at, LacksShape}
+use Rattle.dj_shape.specs.Rule.{IsShapeAnswer}
 use Rattle.dj_judge.specs.Late.{IsFaultOf, FaultViolates, ShapeViolates}
 
 -- ---- a descriptor without floats and doubles has kinds

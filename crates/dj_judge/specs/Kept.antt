@@ -1,4 +1,4 @@
--- The code's own: what is kept of files, for the rules that look at all of them.
+-- Used by the code alone: what is kept of files, for the rules that look at all of them.
 use Rattle.std.specs.Prelude.{◌≡◌, ℕ, List, [], ◌∷◌, ◌++◌, Option, Some, None}
 use Rattle.std.specs.Borrow.{Bor}
 use Rattle.dj_report.specs.declared.report.PathFile.{PathFile}
@@ -25,13 +25,13 @@ owners_in path (Some part) = record { path = path; repeats = part.repeats } ∷ 
 abbrev pub named_as : Bor (List ℕ) → Option GoodFile → NamedFile
 named_as path part = record { path = path; name = name_in part }
 
--- a file of this path is kept, of which this is known
+-- a file of this path was added, of which this is known
 pub record Keeps (path : Bor (List ℕ)) (part : Option GoodFile) (old new : Kept) : Type 0 where
   pub named : new.named.items ≡ old.named.items ++ named_as path part ∷ []
   pub heads : new.heads.items ≡ old.heads.items ++ heads_in part
   pub owners : new.owners.items ≡ old.owners.items ++ owners_in path part
 
--- the files are named, and the heads are theirs
+-- these files were added, each with its path, its class file's head and what else is known
 pub record AreKept (files : List PathFile) (kept : Kept) : Type 0 where
   pub named : AreNamed files kept.named.items
   pub owned : AreOwned files kept.heads.items kept.owners.items

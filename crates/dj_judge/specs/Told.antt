@@ -1,17 +1,18 @@
--- The code's own: what is told of methods, of class files and of files.
+-- Used by the code alone: what the calls that judge methods, class files and files answer.
 use Rattle.std.specs.Prelude.{◌≡◌, ℕ, Bool, true, false, List, [], Option, Some, None}
-use Rattle.dj_class.specs.ClassFile.{MemberInfo, ClassFile}
+use Rattle.dj_class.specs.trusted.ClassFile.{MemberInfo, ClassFile}
 use Rattle.dj_report.specs.declared.report.PathFile.{PathFile}
-use Rattle.dj_report.specs.Lines.{Gains, Adds, file_line}
+use Rattle.dj_report.specs.trusted.Lines.{file_line}
+use Rattle.dj_report.specs.Lines.{Gains, Adds}
 use Rattle.dj_rules.specs.Views.{path_file_view}
-use Rattle.dj_model.specs.Program.{Program}
+use Rattle.dj_model.specs.trusted.Program.{Program}
 use Rattle.dj_check.specs.declared.judged.JudgedText.{JudgedText}
 use Rattle.dj_check.specs.declared.good.GoodFile.{GoodFile}
-use Rattle.dj_check.specs.Malformed.{IsFaulty, IsFaultyMethod, HasFaultyMethod, IsRefused, IsGood}
-use Rattle.dj_check.specs.Methods.{MethodViolates}
+use Rattle.dj_check.specs.trusted.Malformed.{IsFaulty, IsFaultyMethod, HasFaultyMethod, IsRefused, IsGood}
+use Rattle.dj_check.specs.trusted.Methods.{MethodViolates}
 use Rattle.dj_check.specs.Marks.{names_in, MarksOf, AreMarksOf}
 use Rattle.dj_check.specs.Passes.{IsGoodPart}
-use Rattle.dj_check.specs.Rules.{IsMemberLine, IsOwnLine, IsLoneLine}
+use Rattle.dj_check.specs.trusted.Rules.{IsMemberLine, IsOwnLine, IsLoneLine}
 use Rattle.dj_judge.specs.declared.lent.Marks.{Marks}
 use Rattle.dj_judge.specs.declared.files.JudgedFiles.{JudgedFiles}
 use Rattle.dj_judge.specs.Late.{MethodLateViolates, IsFileLateLine}
@@ -24,12 +25,12 @@ pub record IsToldMethod (c : ClassFile) (Has : Program → Type 0) (texts : List
   pub early : Gains (MarksOf (names_in texts m) (MethodViolates c m)) old.early.items new.early.items
   pub late : (program : Program) → Has program → Gains (MarksOf (names_in texts m) (MethodLateViolates program c m)) old.late.items new.late.items
 
--- or it is
+-- that is so, or the method is faulty
 abbrev pub IsJudgedMethod : ClassFile → (Program → Type 0) → List JudgedText → MemberInfo → Marks → Marks → Bool → Type 0
 IsJudgedMethod c Has texts m old new true = IsToldMethod c Has texts m old new
 IsJudgedMethod c Has texts m old new false = IsFaultyMethod c.pool m
 
--- the same of all methods
+-- the same for all methods
 pub record AreToldMethods (c : ClassFile) (Has : Program → Type 0) (texts : List JudgedText) (marks : Marks) : Type 0 where
   pub sound : HasFaultyMethod c → ⊥
   pub early : Gains (AreMarksOf texts (MethodViolates c) c.methods) [] marks.early.items
@@ -41,12 +42,12 @@ AreJudgedMethods c Has texts None = HasFaultyMethod c
 
 -- ---- class files
 
--- the lines of a class file without a faulty part were added
+-- the lines of a class file without faulty parts were added
 pub record HasOwnLines (path : List ℕ) (c : ClassFile) (Has : Program → Type 0) (old new : JudgedFiles) : Type 0 where
   pub early : Adds (IsOwnLine path c) old.early.items new.early.items
   pub late : (program : Program) → Has program → Adds (IsMemberLine (MethodLateViolates program c) c.methods path c) old.late.items new.late.items
 
--- the class file has no faulty part, and its lines were added; or it has one, and nothing was
+-- the class file has no faulty part, and its lines were added; or it has one, and no line was added
 abbrev pub IsJudgedClass : List ℕ → ClassFile → (Program → Type 0) → JudgedFiles → JudgedFiles → Option GoodFile → Type 0
 IsJudgedClass path c Has old new (Some part) = (IsFaulty c → ⊥) × (IsGoodPart c part × HasOwnLines path c Has old new)
 IsJudgedClass path c Has old new None = IsFaulty c × (new ≡ old)
@@ -70,12 +71,12 @@ abbrev pub IsJudgedFile : PathFile → (Program → Type 0) → JudgedFiles → 
 IsJudgedFile file Has old new None = IsRefusedFile file old new
 IsJudgedFile file Has old new (Some part) = IsGoodFile file Has old new part
 
--- what is kept of the file, and nothing where rule 1 is violated
+-- what is kept of the file; none where it violates rule 1
 abbrev pub TellsPart : PathFile → Option GoodFile → Type 0
 TellsPart file None = IsRefused file.bytes.now
 TellsPart file (Some part) = (c : ClassFile) × IsGood file.bytes.now c × IsGoodPart c part
 
--- the lines of the file by itself were added, and what is kept of it is told
+-- the lines of the file by itself were added, and this is kept of it
 pub record IsToldFile (file : PathFile) (Has : Program → Type 0) (old new : JudgedFiles) (part : Option GoodFile) : Type 0 where
   pub early : Adds (IsLoneLine (path_file_view file)) old.early.items new.early.items
   pub late : (program : Program) → Has program → Adds (IsFileLateLine program (path_file_view file)) old.late.items new.late.items

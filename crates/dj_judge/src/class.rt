@@ -1,11 +1,11 @@
 ghost use Rattle.std.specs.Prelude.{[], Some, IfOk, OnOk};
-ghost use Rattle.dj_class.specs.ClassFile.{IsValid};
+ghost use Rattle.dj_class.specs.trusted.ClassFile.{IsValid};
 ghost use Rattle.dj_class.specs.Views.{class_of};
 ghost use Rattle.dj_report.specs.Lines.{Adds, Gains, IsLineAmong};
 ghost use Rattle.dj_check.specs.Judged.{AreTexts};
 ghost use Rattle.dj_check.specs.Marks.{AreMarksOf, IsMarkLine};
-ghost use Rattle.dj_check.specs.Methods.{MethodViolates};
-ghost use Rattle.dj_check.specs.Rules.{IsOwnLine};
+ghost use Rattle.dj_check.specs.trusted.Methods.{MethodViolates};
+ghost use Rattle.dj_check.specs.trusted.Rules.{IsOwnLine};
 ghost use Rattle.dj_judge.specs.Late.{HasLent, AreLent, IsReady};
 ghost use Rattle.dj_judge.specs.Told.{AreJudgedMethods, IsJudgedClass};
 
@@ -21,7 +21,7 @@ use dj_link::{Known, classes_above, judge_constants};
 use dj_rules::{RulesError, add_class_lines};
 use std::alloc::Global;
 
-// The marks of the methods of a class file where classes are lent. What its constants name, and what stands above it, is looked up once.
+// The marks of the methods of a class file where classes are borrowed. What its constants name, and what is above it, is looked up once.
 fn judge_linked(
     alloc: Global,
     lent: Lent<'_, '_>,
@@ -62,7 +62,7 @@ fn judge_members(
     }
 }
 
-// Appends all lines of a class file that has no faulty part, whose methods have these marks.
+// Appends all lines of a class file without a faulty part, whose methods have these marks.
 fn add_lines(
     alloc: Global,
     found: &mut JudgedFiles,
@@ -85,7 +85,7 @@ fn add_lines(
     add_mark_lines(alloc, &mut found.late, path, &view.pool, late)
 }
 
-/// Appends all lines of a class file by itself, and answers what is kept of it, or nothing where a part of it is faulty.
+/// Appends all lines of a class file by itself, and returns what is kept of it, or none where a part of it is faulty.
 pub fn judge_class<'a>(
     alloc: Global,
     found: &mut JudgedFiles,

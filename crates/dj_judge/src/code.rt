@@ -1,8 +1,8 @@
 ghost use Rattle.std.specs.Prelude.{◌≢◌, ◌↔◌, ◌⊎◌, [], IfSome, IsTrue, IfOk, OnOk};
-ghost use Rattle.dj_class.specs.ClassFile.{IsMethod, IsValid};
+ghost use Rattle.dj_class.specs.trusted.ClassFile.{IsMethod, IsValid};
 ghost use Rattle.dj_class.specs.Members.{member_of};
 ghost use Rattle.dj_class.specs.Views.{class_of};
-ghost use Rattle.dj_rules.specs.Violations.{IsFinalizer};
+ghost use Rattle.dj_rules.specs.trusted.Violations.{IsFinalizer};
 ghost use Rattle.dj_check.specs.Judged.{AreTexts};
 ghost use Rattle.dj_check.specs.Marks.{names_in};
 ghost use Rattle.dj_check.specs.Passes.{IsWholeMethod};

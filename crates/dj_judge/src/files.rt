@@ -1,12 +1,13 @@
 ghost use Rattle.std.specs.Prelude.{◌≡◌, ◌<◌, ◌^◌, [], length, map, All, Some, IfOk, OnOk};
 ghost use Rattle.dj_linking.specs.Linked.{Linked};
 ghost use Rattle.dj_link.specs.Constants.{IsDirectoryOf};
-ghost use Rattle.dj_model.specs.Program.{Program};
+ghost use Rattle.dj_model.specs.trusted.Program.{Program};
 ghost use Rattle.dj_report.specs.Lines.{Adds};
 ghost use Rattle.dj_rules.specs.Views.{path_file_view};
-ghost use Rattle.dj_check.specs.Rules.{IsAmongLoneLines, IsEarlyLine, AreEarlyViolations};
+ghost use Rattle.dj_check.specs.trusted.Rules.{IsAmongLoneLines, IsEarlyLine};
+ghost use Rattle.dj_check.specs.Rules.{AreEarlyViolations};
 ghost use Rattle.dj_judge.specs.Judged.{HasLinker};
-ghost use Rattle.dj_judge.specs.Lines.{IsLinkedLine};
+ghost use Rattle.dj_judge.specs.trusted.Lines.{IsLinkedLine};
 ghost use Rattle.dj_judge.specs.Late.{HasLent, IsReady};
 ghost use Rattle.dj_judge.specs.Told.{IsToldFile};
 ghost use Rattle.dj_judge.specs.Kept.{AreKept};
@@ -31,7 +32,7 @@ pub struct JudgedFiles {
     pub late: Vec<Violation>,
 }
 
-// The same as `judge_file`, with the lines in order among themselves. So all lines are in order already if the files are.
+// The same as `judge_file`, with the lines sorted among themselves. So all lines are in order where the files are.
 fn judge_in_order<'a>(
     alloc: Global,
     found: &mut JudgedFiles,
@@ -53,7 +54,7 @@ fn judge_in_order<'a>(
     Ok(good)
 }
 
-// Judges all files in turn, and answers what is kept of them.
+// Judges all files in turn, and returns what is kept of them.
 fn judge_all<'a>(
     alloc: Global,
     found: &mut JudgedFiles,
@@ -78,7 +79,7 @@ fn judge_all<'a>(
     Ok(kept)
 }
 
-// Judges files by the rules 1 to 16, and, where classes are lent, by the rules 17 to 19 too.
+// Judges files by the rules 1 to 16 and, where classes are borrowed, by the rules 17 to 19 too.
 fn judge_lent(
     alloc: Global,
     files: &[PathFile<'_>],
@@ -100,7 +101,7 @@ fn judge_lent(
     Ok(found)
 }
 
-// Judges files whose classes are linked by the rules 1 to 19. The directory, where there is one, is that of the linked classes.
+// Judges files whose classes are linked by the rules 1 to 19. Where there is a directory, it is that of the linked classes.
 fn judge_linked_by(
     alloc: Global,
     files: &[PathFile<'_>],

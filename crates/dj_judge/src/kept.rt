@@ -10,13 +10,13 @@ use dj_rules::RulesError;
 pub struct Kept<'a> {
     /// All files, in turn.
     pub named: Vec<NamedFile<'a>>,
-    /// The heads of those where rule 1 isn't violated.
+    /// The heads of those that don't violate rule 1.
     pub heads: Vec<ClassHead<'a>>,
-    /// The files of the heads, side by side with them.
+    /// The files of the heads, each at its head's place.
     pub owners: Vec<Owner<'a>>,
 }
 
-// Keeps a file where rule 1 isn't violated.
+// Keeps a file that doesn't violate rule 1.
 fn keep_good<'a>(kept: &mut Kept<'a>, path: &'a str, good: GoodFile<'a>) -> Result<(), RulesError>
     ensures { OnOk result (Keeps path.entry (Some good.entry) kept.old kept.new) }
 {

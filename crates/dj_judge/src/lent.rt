@@ -2,14 +2,14 @@ use dj_check::Mark;
 use dj_directory::Directory;
 use dj_linking::Linker;
 
-/// The classes of a set that are lent to judge its files by the rules 17 to 19.
+/// The classes of a set, borrowed to judge its files by the rules 17 to 19.
 #[derive(Clone, Copy)]
 pub struct Lent<'a, 'd> {
     /// What links them.
     pub linker: &'a Linker,
-    /// Their members by the numbers of their texts, where a search by the texts could take long.
+    /// Their members by the numbers of their texts, where a search by texts could take long.
     pub directory: Option<&'a Directory<'d>>,
-    /// By their numbers, whether no object of a class can be made.
+    /// For each number of a class, whether no object of the class can be made.
     pub unmakeable: &'a [bool],
 }
 

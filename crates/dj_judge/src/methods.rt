@@ -1,5 +1,5 @@
 ghost use Rattle.std.specs.Prelude.{◌≡◌, ◌++◌, IfSome, IfOk, OnOk};
-ghost use Rattle.dj_class.specs.ClassFile.{IsMethod, IsValid};
+ghost use Rattle.dj_class.specs.trusted.ClassFile.{IsMethod, IsValid};
 ghost use Rattle.dj_class.specs.Members.{member_of};
 ghost use Rattle.dj_class.specs.Views.{class_of};
 ghost use Rattle.dj_check.specs.Judged.{AreTexts};
@@ -30,7 +30,7 @@ fn add_marks(marks: &mut Marks, own: Marks) -> Result<(), RulesError>
     Ok(())
 }
 
-// Appends the marks of a method, or answers false where it is faulty.
+// Appends the marks of a method, or returns false where it is faulty.
 fn judge_method(
     alloc: Global,
     marks: &mut Marks,
@@ -62,7 +62,7 @@ fn judge_method(
     }
 }
 
-/// The marks of all methods, or nothing where one is faulty.
+/// The marks of all methods, or none where one is faulty.
 pub fn judge_methods(
     alloc: Global,
     view: &ClassView<'_>,

@@ -1,13 +1,13 @@
 ghost use Rattle.std.specs.Prelude.{◌<◌, ◌^◌, length, IfSome, IfOk, OnOk};
-ghost use Rattle.dj_pool.specs.Pool.{IsPool};
-ghost use Rattle.dj_class.specs.ClassFile.{IsMethod, IsValid};
+ghost use Rattle.dj_pool.specs.trusted.Pool.{IsPool};
+ghost use Rattle.dj_class.specs.trusted.ClassFile.{IsMethod, IsValid};
 ghost use Rattle.dj_class.specs.Members.{member_of};
 ghost use Rattle.dj_class.specs.Views.{class_of};
 ghost use Rattle.dj_report.specs.Lines.{Gains};
-ghost use Rattle.dj_check.specs.Floats.{NamesFloat};
+ghost use Rattle.dj_check.specs.trusted.Floats.{NamesFloat};
 ghost use Rattle.dj_check.specs.Marks.{MarksOf};
 ghost use Rattle.dj_check.specs.Passes.{IsWholeMethod};
-ghost use Rattle.dj_program.specs.Codes.{IsMethodCode};
+ghost use Rattle.dj_program.specs.trusted.Codes.{IsMethodCode};
 ghost use Rattle.dj_program.specs.Views.{parts_of};
 ghost use Rattle.dj_shape.specs.Pools.{ArePoolKinds};
 ghost use Rattle.dj_judge.specs.Late.{IsFaultOf, FaultViolates, ShapeViolates};
@@ -24,7 +24,7 @@ use std::alloc::Global;
 // The number of the rule SHAPE.
 const SHAPE: u8 = 19;
 
-// What shape asks of the pool: read before, or now.
+// What shape needs of the pool, read before or read now.
 fn kinds_of(
     alloc: Global,
     pool: &Pool<'_>,
@@ -93,7 +93,7 @@ fn add_fault_mark(
     add_mark_if(marks, place, SHAPE, true)
 }
 
-/// Appends the mark of rule 19, where the code of a method has no shape. What shape asks of the pool is read once a class, where it is needed.
+/// Appends the mark of rule 19 where the code of a method has no shape. What shape needs of the pool is read once for each class, and only where it is needed.
 pub fn add_shape_mark(
     alloc: Global,
     marks: &mut Vec<Mark>,

@@ -1,5 +1,5 @@
 ghost use Rattle.std.specs.Prelude.{◌<◌, ◌^◌, length, IfOk};
-ghost use Rattle.dj_class.specs.ClassFile.{IsClassFile};
+ghost use Rattle.dj_class.specs.trusted.ClassFile.{IsClassFile};
 ghost use Rattle.dj_class.specs.Views.{class_of};
 ghost use Rattle.dj_rules.specs.Reads.{IsViewOf};
 ghost use Rattle.dj_judge.specs.Late.{HasLent, IsReady};
@@ -17,7 +17,7 @@ use std::alloc::Global;
 // The number of the rule MALFORMED.
 const MALFORMED: u8 = 1;
 
-// Appends all lines of a class file, and answers what is kept of it where rule 1 isn't violated.
+// Appends all lines of a class file, and returns what is kept of it where it doesn't violate rule 1.
 fn judge_class_file<'a>(
     alloc: Global,
     found: &mut JudgedFiles,
@@ -39,7 +39,7 @@ fn judge_class_file<'a>(
     }
 }
 
-// Appends all lines of a file that was read, and answers what is kept of it where rule 1 isn't violated.
+// Appends all lines of a file that was read, and returns what is kept of it where it doesn't violate rule 1.
 fn judge_view<'a>(
     alloc: Global,
     found: &mut JudgedFiles,
@@ -60,7 +60,7 @@ fn judge_view<'a>(
     }
 }
 
-/// Reads a file and appends all its lines, and answers what is kept of it where rule 1 isn't violated.
+/// Reads a file, appends all its lines, and returns what is kept of it where it doesn't violate rule 1.
 pub fn judge_file<'a>(
     alloc: Global,
     found: &mut JudgedFiles,

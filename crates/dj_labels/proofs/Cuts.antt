@@ -4,9 +4,9 @@ use Rattle.std.specs.List.{AllByRecursion}
 use Rattle.std.proofs.lemmas.Option.{same_Some, none-some}
 use Rattle.std.proofs.lemmas.List.Elements.{All-from_recursion}
 use Rattle.dj_ops.specs.declared.instruction.Instr.{Instr}
-use Rattle.dj_ops.specs.Instructions.{Stands}
+use Rattle.dj_ops.specs.trusted.Instructions.{Stands}
 use Rattle.dj_ops.proofs.Whole.{one_at}
-use Rattle.dj_labels.specs.Labels.{first_of, StandUpTo, IsCut}
+use Rattle.dj_labels.specs.trusted.Labels.{first_of, StandUpTo, IsCut}
 use Rattle.dj_labels.specs.Passes.{IsRising}
 
 -- ---- in one way at most

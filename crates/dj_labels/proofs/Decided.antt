@@ -15,8 +15,8 @@ use Rattle.dj_ops.proofs.Parts.{outcome}
 use Rattle.dj_ops.proofs.Whole.{what_is_read, reads_again}
 use Rattle.dj_labels.specs.declared.labelled.Protected.{Protected}
 use Rattle.dj_labels.specs.declared.errors.CodeError.TheVariants as errors
-use Rattle.dj_labels.specs.Targets.{targets_of, with_targets}
-use Rattle.dj_labels.specs.Labels.{IsCut, IsNumber, HasNumbers, IsRange, address_of, addressed, row_of}
+use Rattle.dj_labels.specs.trusted.Targets.{targets_of, with_targets}
+use Rattle.dj_labels.specs.trusted.Labels.{IsCut, IsNumber, HasNumbers, IsRange, address_of, addressed, row_of}
 use Rattle.dj_labels.specs.Faults.{IsFirstWithout, IsOpFault, HasStarts, IsRow}
 use Rattle.dj_labels.specs.Laws.{HasLabels, HasFault, LabelsOrFault}
 use Rattle.dj_labels.specs.Passes.{AreStarts, IsInstrOf, AreInstrs, IsRangeOf, AreRangesOf, IsRising}

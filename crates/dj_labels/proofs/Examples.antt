@@ -5,16 +5,17 @@ use Rattle.std.proofs.lemmas.Int.{ints}
 use Rattle.dj_ops.specs.declared.instruction.Instr.{Instr}
 use Rattle.dj_ops.specs.declared.instruction.Instr.TheVariants as instrs
 use Rattle.dj_ops.specs.declared.rows.CatchRow.{CatchRow}
-use Rattle.dj_ops.specs.Forms.{form_of}
-use Rattle.dj_ops.specs.Instructions.{Stands}
+use Rattle.dj_ops.specs.trusted.Forms.{form_of}
+use Rattle.dj_ops.specs.trusted.Instructions.{Stands}
 use Rattle.dj_ops.specs.Reading.{instr_at}
 use Rattle.dj_ops.proofs.Whole.{reads_again}
 use Rattle.dj_labels.specs.declared.labelled.Protected.{Protected}
 use Rattle.dj_labels.specs.declared.labelled.Labelled.{Labelled}
 use Rattle.dj_labels.specs.declared.errors.CodeError.{CodeError}
 use Rattle.dj_labels.specs.declared.errors.CodeError.TheVariants as errors
-use Rattle.dj_labels.specs.Targets.{targets_of, with_targets}
-use Rattle.dj_labels.specs.Labels.{first_of, StandUpTo, IsRange, IsWellFormed, IsLabelled}
+use Rattle.dj_labels.specs.trusted.Targets.{targets_of, with_targets}
+use Rattle.dj_labels.specs.trusted.Labels.{first_of, StandUpTo, IsRange, IsLabelled}
+use Rattle.dj_labels.specs.Labels.{IsWellFormed}
 use Rattle.dj_labels.specs.Faults.{IsRow, Refuses}
 use Rattle.dj_labels.proofs.Once.{one_fault_is}
 
@@ -181,7 +182,7 @@ reserved = record {
   none = λ instr next s. let read = reads_again (0 ∷ 255 ∷ []) 1 instr next s in absurd cc;
 }
 
--- ---- where a fault is: Op and Target tell an address, and Range a number
+-- ---- where a fault is: Op and Target have an address, and Range a number
 
 abbrev told : CodeError → ℕ
 told (errors.Op at) = at
@@ -197,7 +198,7 @@ push_stands : (rest : List ℕ) → Stands (17 ∷ 0 ∷ 5 ∷ rest) 0 pushed 3
 unfolding form_of
 push_stands rest = record { later = omega arith; within = omega arith; spelled = record { padding = []; padded = refl; offsets = tt; are = refl }; proper = sfits_lit tt }
 
--- the reserved opcode behind it is told by its address 3, and not by the number 1 that its instruction would have
+-- the reserved opcode behind it is reported by its address 3, and not by the number 1 that its instruction would have
 reserved_behind : Refuses (17 ∷ 0 ∷ 5 ∷ 255 ∷ []) [] (errors.Op 3)
 unfolding form_of instr_at
 reserved_behind = record {
@@ -263,7 +264,7 @@ not_third_row h = omega (arith, ap told (one_fault_is _ _ (errors.Range 1) (erro
 
 -- ---- of two faults
 
--- of two jumps into their own bytes the first is told
+-- of two jumps into their own bytes the first is reported
 not_one_of_two : (k : ℕ) → k < 2 → get_or (pos 0 ∷ pos 3 ∷ []) k (pos 1) ≡ pos 1 → ⊥
 not_one_of_two zero lt at = omega (arith, ints, at)
 not_one_of_two (suc zero) lt at = omega (arith, ints, at)

@@ -7,14 +7,14 @@ use Rattle.dj_ops.specs.declared.instruction.Instr.{Instr}
 use Rattle.dj_ops.specs.declared.instruction.Instr.TheVariants as instrs
 use Rattle.dj_labels.specs.declared.errors.CodeError.{CodeError}
 use Rattle.dj_labels.specs.declared.errors.CodeError.TheVariants as errors
-use Rattle.dj_labels.specs.Targets.{targets_of, with_targets}
-use Rattle.dj_labels.specs.Labels.{HasNumbers, address_of, addressed}
+use Rattle.dj_labels.specs.trusted.Targets.{targets_of, with_targets}
+use Rattle.dj_labels.specs.trusted.Labels.{HasNumbers, address_of, addressed}
 use Rattle.dj_labels.specs.Faults.{HasStarts}
 use Rattle.dj_labels.specs.Passes.{IsInstrOf, LacksStart, AreNumbered, IsNumberingFault}
 use Rattle.dj_labels.proofs.Lists.{each_more}
 use Rattle.dj_labels.proofs.Numbers.{have_starts}
 
--- so many of the instructions, with numbers for targets
+-- this many of the instructions, with numbers for targets
 pub record DoneUpTo (starts : List ℕ) (instrs : List Instr) (count : ℕ) (numbered : List Instr) : Type 0 where
   pub done : addressed starts numbered ≡ take count instrs
   pub each : AllByRecursion (HasNumbers (length starts)) numbered
@@ -52,7 +52,7 @@ done_all starts instrs i numbered past h = record { each = h.each; start = h.don
 
 -- ---- the instructions in their places
 
--- the first instructions have numbers for targets, so many, and the others are as they were
+-- the first instructions have numbers for targets, this many, and the others are as they were
 pub record NumberedUpTo (starts : List ℕ) (old now : List Instr) (count : ℕ) : Type 0 where
   pub same : length now ≡ length old
   pub done : DoneUpTo starts old count (take count now)

@@ -29,7 +29,7 @@ each_at P n [] x h at = absurd (none-some x at)
 each_at P zero (y ∷ ys) x h at = subst P (same_Some y x at) h.0
 each_at P (suc n) (y ∷ ys) x h at = each_at P n ys x h.1 at
 
--- of the first items so many, of which one has this number
+-- of the first n items, of which one has this number
 pub each_before : {X : Type 0} (P : X → Type 0) (m n : ℕ) (xs : List X) (x : X) → AllByRecursion P (take m xs) → n < m → slice_get xs n ≡ Some x → P x
 each_before P m n [] x h lt at = absurd (none-some x at)
 each_before P zero n (y ∷ ys) x h lt at = absurd (omega (arith, lt))

@@ -9,8 +9,8 @@ use Rattle.dj_ops.specs.declared.instruction.Instr.{Instr}
 use Rattle.dj_ops.specs.declared.instruction.Instr.TheVariants as instrs
 use Rattle.dj_ops.specs.declared.rows.CatchRow.{CatchRow}
 use Rattle.dj_labels.specs.declared.labelled.Protected.{Protected}
-use Rattle.dj_labels.specs.Targets.{targets_of, with_targets}
-use Rattle.dj_labels.specs.Labels.{IsNumber, HasNumbers, IsRange, address_of, addressed, row_of}
+use Rattle.dj_labels.specs.trusted.Targets.{targets_of, with_targets}
+use Rattle.dj_labels.specs.trusted.Labels.{IsNumber, HasNumbers, IsRange, address_of, addressed, row_of}
 use Rattle.dj_labels.specs.Faults.{HasStarts, IsRow}
 use Rattle.dj_labels.specs.Passes.{IsRising}
 use Rattle.dj_labels.proofs.Lists.{each_then, each_map, map_undone}

@@ -9,8 +9,8 @@ use Rattle.dj_ops.specs.declared.rows.CatchRow.{CatchRow}
 use Rattle.dj_labels.specs.declared.labelled.Protected.{Protected}
 use Rattle.dj_labels.specs.declared.labelled.Labelled.{Labelled}
 use Rattle.dj_labels.specs.declared.errors.CodeError.TheVariants as errors
-use Rattle.dj_labels.specs.Targets.{with_targets}
-use Rattle.dj_labels.specs.Labels.{IsCut, HasNumbers, IsRange, addressed, IsLabelled}
+use Rattle.dj_labels.specs.trusted.Targets.{with_targets}
+use Rattle.dj_labels.specs.trusted.Labels.{IsCut, HasNumbers, IsRange, addressed, IsLabelled}
 use Rattle.dj_labels.specs.Faults.{IsFirstWithout, IsOpFault, IsTargetFault, IsRangeFault, HasStarts, IsRow}
 use Rattle.dj_labels.specs.Laws.{OneLabelling, NoLabelsWhereRefused, OneFault}
 use Rattle.dj_labels.specs.Passes.{IsRising}

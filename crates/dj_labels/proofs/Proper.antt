@@ -4,9 +4,9 @@ use Rattle.std.specs.List.{AllByRecursion}
 use Rattle.std.proofs.lemmas.List.{length-map, get_or-map}
 use Rattle.dj_ops.specs.declared.instruction.Instr.{Instr}
 use Rattle.dj_ops.specs.declared.instruction.Instr.TheVariants as instrs
-use Rattle.dj_ops.specs.Instructions.{IsTable, IsLookup, IsProper}
-use Rattle.dj_labels.specs.Targets.{with_targets}
-use Rattle.dj_labels.specs.Labels.{StandUpTo, address_of}
+use Rattle.dj_ops.specs.trusted.Instructions.{IsTable, IsLookup, IsProper}
+use Rattle.dj_labels.specs.trusted.Targets.{with_targets}
+use Rattle.dj_labels.specs.trusted.Labels.{StandUpTo, address_of}
 use Rattle.dj_labels.specs.Laws.{LabelledIsWellFormed}
 use Rattle.dj_labels.proofs.Lists.{each_map, each_of_map}
 

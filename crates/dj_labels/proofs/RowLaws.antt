@@ -6,7 +6,7 @@ use Rattle.std.proofs.lemmas.List.{length-append, get_or_append_left, map_push}
 use Rattle.std.proofs.lemmas.Option.{slice_get_within, get_or_from_slice_get}
 use Rattle.dj_ops.specs.declared.rows.CatchRow.{CatchRow}
 use Rattle.dj_labels.specs.declared.labelled.Protected.{Protected}
-use Rattle.dj_labels.specs.Labels.{IsRange, row_of}
+use Rattle.dj_labels.specs.trusted.Labels.{IsRange, row_of}
 use Rattle.dj_labels.specs.Faults.{IsRow}
 use Rattle.dj_labels.specs.Passes.{IsRising, IsRangeOf, AreRangesOf, IsRowFault}
 use Rattle.dj_labels.proofs.Lists.{each_more}

@@ -3,11 +3,11 @@ use Rattle.std.proofs.Common.{◌≡◌, ℕ, ◌<◌, ◌≤◌, inl, inr, List
 use Rattle.dj_ops.specs.declared.instruction.Instr.{Instr}
 use Rattle.dj_ops.specs.declared.read.OpError.{OpError}
 use Rattle.dj_ops.specs.declared.read.OpError.TheVariants as op_errors
-use Rattle.dj_ops.specs.Instructions.{Stands}
+use Rattle.dj_ops.specs.trusted.Instructions.{Stands}
 use Rattle.dj_ops.specs.Refusals.{Yields}
 use Rattle.dj_labels.specs.declared.errors.CodeError.{CodeError}
 use Rattle.dj_labels.specs.declared.errors.CodeError.TheVariants as errors
-use Rattle.dj_labels.specs.Labels.{IsCut}
+use Rattle.dj_labels.specs.trusted.Labels.{IsCut}
 use Rattle.dj_labels.specs.Faults.{IsOpFault}
 use Rattle.dj_labels.specs.Passes.{step_error, IsStep, IsStartsFault}
 use Rattle.dj_labels.proofs.Cuts.{IsEnd, one_more}

@@ -7,7 +7,7 @@ use Rattle.std.proofs.lemmas.List.{length-map, get_or-map, map_push, take_more}
 use Rattle.std.proofs.lemmas.List.Elements.{All-from_recursion}
 use Rattle.dj_labels.specs.declared.errors.CodeError.{CodeError}
 use Rattle.dj_labels.specs.declared.errors.CodeError.TheVariants as errors
-use Rattle.dj_labels.specs.Labels.{IsNumber, address_of}
+use Rattle.dj_labels.specs.trusted.Labels.{IsNumber, address_of}
 use Rattle.dj_labels.specs.Passes.{AreNumbers, ArePairs, LacksStart}
 use Rattle.dj_labels.proofs.Lists.{each_more}
 

@@ -9,7 +9,7 @@ use Rattle.dj_labels.specs.declared.labelled.Protected.{Protected}
 use Rattle.dj_labels.specs.declared.labelled.Labelled.{Labelled}
 use Rattle.dj_labels.specs.declared.errors.CodeError.{CodeError}
 use Rattle.dj_labels.specs.declared.errors.CodeError.TheVariants as errors
-use Rattle.dj_labels.specs.Labels.{IsCut, HasNumbers, IsRange, addressed, IsLabelled}
+use Rattle.dj_labels.specs.trusted.Labels.{IsCut, HasNumbers, IsRange, addressed, IsLabelled}
 use Rattle.dj_labels.specs.Faults.{Refuses, IsRefused, Yields}
 use Rattle.dj_labels.specs.Passes.{AreStarts, IsStartsFault, IsRising, AreNumbered, IsNumberingFault, AreInstrs, AreRangesOf, IsRowsFault}
 use Rattle.dj_labels.proofs.Cuts.{as_many, starts_rise, starts_within, few_starts}

@@ -3,12 +3,12 @@ use Rattle.std.specs.Prelude.{◌≡◌, ℕ, ◌<◌, ◌⊎◌, ⊤, pos, List
 use Rattle.std.specs.List.{AllByRecursion}
 use Rattle.dj_ops.specs.declared.instruction.Instr.{Instr}
 use Rattle.dj_ops.specs.declared.rows.CatchRow.{CatchRow}
-use Rattle.dj_ops.specs.Instructions.{Stands}
+use Rattle.dj_ops.specs.trusted.Instructions.{Stands}
 use Rattle.dj_labels.specs.declared.labelled.Labelled.{Labelled}
 use Rattle.dj_labels.specs.declared.errors.CodeError.{CodeError}
 use Rattle.dj_labels.specs.declared.errors.CodeError.TheVariants as errors
-use Rattle.dj_labels.specs.Targets.{targets_of}
-use Rattle.dj_labels.specs.Labels.{IsCut}
+use Rattle.dj_labels.specs.trusted.Targets.{targets_of}
+use Rattle.dj_labels.specs.trusted.Labels.{IsCut}
 
 -- an item of a list, by its number, is not such, and all before it are
 pub record IsFirstWithout {X : Type 0} (P : X → Type 0) (xs : List X) (number : ℕ) (x : X) : Type 0 where
@@ -18,7 +18,7 @@ pub record IsFirstWithout {X : Type 0} (P : X → Type 0) (xs : List X) (number 
 
 -- ---- instructions
 
--- the instructions stand one after the other up to this address of the code, and none stands at it
+-- the instructions follow one another up to this address of the code, and there is none at it
 pub record IsOpFault (code : List ℕ) (at : ℕ) : Type 0 where
   pub starts : List ℕ
   pub instrs : List Instr
@@ -32,7 +32,7 @@ pub record IsOpFault (code : List ℕ) (at : ℕ) : Type 0 where
 abbrev pub HasStarts : List ℕ → Instr → Type 0
 HasStarts starts instr = AllByRecursion (Contains (map pos starts)) (targets_of instr)
 
--- the first instruction with a target at which none starts stands at this address
+-- the first instruction with a target at which none starts is at this address
 pub record IsTargetFault (code : List ℕ) (at : ℕ) : Type 0 where
   pub starts : List ℕ
   pub instrs : List Instr

@@ -3,7 +3,8 @@ use Rattle.std.specs.Prelude.{◌≡◌, ℕ, ◌<◌, ◌⊎◌, List, slice_in
 use Rattle.dj_ops.specs.declared.rows.CatchRow.{CatchRow}
 use Rattle.dj_labels.specs.declared.labelled.Labelled.{Labelled}
 use Rattle.dj_labels.specs.declared.errors.CodeError.{CodeError}
-use Rattle.dj_labels.specs.Labels.{IsWellFormed, IsLabelled}
+use Rattle.dj_labels.specs.trusted.Labels.{IsLabelled}
+use Rattle.dj_labels.specs.Labels.{IsWellFormed}
 use Rattle.dj_labels.specs.Faults.{Refuses}
 
 -- code and a table have one labelling at most

@@ -1,5 +1,5 @@
-pub mod Targets
 pub mod Labels
 pub mod Faults
 pub mod Laws
 pub mod Passes
+pub mod trusted

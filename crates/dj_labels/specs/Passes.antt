@@ -1,16 +1,16 @@
--- The code's own: what its passes hand on to one another.
+-- Used by the code alone: what its passes hand on to one another.
 use Rattle.std.specs.Prelude.{◌≡◌, ℕ, ◌<◌, ⊤, ℤ, pos, List, [], ◌∷◌, ◌++◌, map, length, slice_get, Some, AllPairs, Contains}
 use Rattle.std.specs.List.{AllByRecursion}
 use Rattle.dj_ops.specs.declared.instruction.Instr.{Instr}
 use Rattle.dj_ops.specs.declared.rows.CatchRow.{CatchRow}
 use Rattle.dj_ops.specs.declared.read.OpError.{OpError}
 use Rattle.dj_ops.specs.declared.read.OpError.TheVariants as op_errors
-use Rattle.dj_ops.specs.Instructions.{Stands}
+use Rattle.dj_ops.specs.trusted.Instructions.{Stands}
 use Rattle.dj_labels.specs.declared.errors.CodeError.{CodeError}
 use Rattle.dj_labels.specs.declared.errors.CodeError.TheVariants as errors
 use Rattle.dj_labels.specs.declared.labelled.Protected.{Protected}
-use Rattle.dj_labels.specs.Targets.{with_targets}
-use Rattle.dj_labels.specs.Labels.{IsCut, IsNumber, HasNumbers, IsRange, address_of, addressed, row_of}
+use Rattle.dj_labels.specs.trusted.Targets.{with_targets}
+use Rattle.dj_labels.specs.trusted.Labels.{IsCut, IsNumber, HasNumbers, IsRange, address_of, addressed, row_of}
 use Rattle.dj_labels.specs.Faults.{IsFirstWithout, IsOpFault, HasStarts, IsRow}
 
 -- ---- what is read
@@ -71,7 +71,7 @@ pub record AreNumbered (starts : List ℕ) (instrs numbered : List Instr) : Type
   pub each : AllByRecursion (HasNumbers (length starts)) numbered
   pub start : addressed starts numbered ≡ instrs
 
--- the first of these instructions with a target at which none starts stands at this address
+-- the first of these instructions with a target at which none starts is at this address
 pub record IsJumpFault (starts : List ℕ) (instrs : List Instr) (at : ℕ) : Type 0 where
   pub number : ℕ
   pub stands_at : slice_get starts number ≡ Some at

@@ -7,7 +7,7 @@ use thiserror::Error;
 /// Why code was not labelled.
 #[derive(Clone, Copy, Debug, PartialEq, Eq, Error)]
 pub enum CodeError {
-    /// No instruction stands at this address.
+    /// There is no instruction at this address.
     #[error("no instruction stands at address {0}")]
     Op(u32),
     /// The jump at this address has a target at which no instruction starts.

@@ -45,7 +45,7 @@ pub struct Protected {
     pub catch_type: u16,
 }
 
-/// Ranges of instructions, in the order in which handlers are looked for.
+/// Ranges of instructions, in the order in which handlers are looked up.
 #[derive(Debug, Drop)]
 pub struct Ranges {
     items: Vec<Protected>,
@@ -78,7 +78,7 @@ impl Ranges {
         Ok(self.items.push(item)?)
     }
 
-    /// The ranges, lent.
+    /// The ranges, borrowed.
     pub fn as_slice(&self) -> &[Protected]
         ensures { result.now ≡ self.now }
     {

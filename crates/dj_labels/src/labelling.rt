@@ -1,7 +1,7 @@
 ghost use Rattle.std.specs.Prelude.{◌≡◌, ◌^◌, ◌<◌, length, Ok, Err, IfOk, IfErr};
 ghost use Rattle.dj_labels.specs.declared.errors.CodeError.{CodeError};
 ghost use Rattle.dj_labels.specs.declared.labelled.Labelled.{Labelled};
-ghost use Rattle.dj_labels.specs.Labels.{IsLabelled};
+ghost use Rattle.dj_labels.specs.trusted.Labels.{IsLabelled};
 ghost use Rattle.dj_labels.specs.Faults.{Refuses, IsRefused, Yields};
 ghost use Rattle.dj_labels.specs.Passes.{AreStarts, AreNumbered, IsNumberingFault};
 
@@ -34,7 +34,7 @@ pub fn label_with_starts(
     table: &[CatchRow],
 ) -> Result<Labelling, CodeError>
     requires few { length code.now < 2 ^ 16 }
-    // What is answered are the labels.
+    // The answer is the labels.
     ensures labelled { IfOk result (λ l. IsLabelled code.now table.now l.labelled) }
     // The instructions start there.
     ensures starts { IfOk result (λ l. AreStarts code.now l.starts.items) }
@@ -57,13 +57,13 @@ pub fn label_with_starts(
 /// The instructions of the code, and the ranges of its exception table. The empty code has no instructions.
 pub fn label(alloc: Global, code: &[u8], table: &[CatchRow]) -> Result<Labelled, CodeError>
     requires few { length code.now < 2 ^ 16 }
-    // What is answered are the labels.
+    // The answer is the labels.
     ensures labelled { IfOk result (λ l. IsLabelled code.now table.now l) }
-    // Where there are labels they are answered.
+    // Where there are labels, they are the answer.
     ensures all_labelled { (l : Labelled) → IsLabelled code.now table.now l → Yields result (Ok l) }
     // A refusal has its cause.
     ensures refused { IfErr result (IsRefused code.now table.now) }
-    // Where a cause is, that refusal comes.
+    // Where there is a cause, there is that refusal.
     ensures all_refused { (e : CodeError) → Refuses code.now table.now e → Yields result (Err e) }
 {
     match label_with_starts(alloc, code, table) {

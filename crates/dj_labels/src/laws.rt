@@ -1,6 +1,6 @@
 ghost use Rattle.dj_labels.specs.Laws.{OneLabelling, LabelledIsWellFormed, NoLabelsWhereRefused, OneFault, LabelsOrFault};
 
-/// Code and a table have one labelling at most.
+/// Code and a table have at most one labelling.
 pub fn one_labelling()
     ensures { OneLabelling }
 {}
@@ -15,7 +15,7 @@ pub fn no_labels_where_refused()
     ensures { NoLabelsWhereRefused }
 {}
 
-/// There is one first fault at most.
+/// There is at most one first fault.
 pub fn one_fault()
     ensures { OneFault }
 {}

@@ -8,7 +8,7 @@ use crate::starts::StartTable;
 use dj_ops::CatchRow;
 use std::alloc::Global;
 
-/// The number of the instruction that starts at an address, or at the end of code of this size the number after the last one.
+/// The number of the instruction that starts at an address; at the end of code of this size, the number after the last one.
 fn bound_number(table: &StartTable, size: usize, address: usize) -> Option<u32>
     requires few { length table.now.starts.items < 2 ^ 32 }
     ensures found { IfSome result (λ number. slice_get (table.now.starts.items ++ size ∷ []) number ≡ Some address) }

@@ -1,6 +1,6 @@
 ghost use Rattle.std.specs.Prelude.{◌≡◌, ◌^◌, ◌<◌, length, Some, Contains, slice_get, IfOk, IfErr, IfSome, IfNone};
-ghost use Rattle.dj_ops.specs.Instructions.{Stands};
-ghost use Rattle.dj_labels.specs.Labels.{IsCut};
+ghost use Rattle.dj_ops.specs.trusted.Instructions.{Stands};
+ghost use Rattle.dj_labels.specs.trusted.Labels.{IsCut};
 ghost use Rattle.dj_labels.specs.Passes.{AreStarts, step_error, IsStep, IsStartsFault, IsRising};
 
 use crate::errors::CodeError;
@@ -36,7 +36,7 @@ pub fn read_code(alloc: Global, code: &[u8]) -> Result<(Vec<u32>, Vec<Instr>), C
     ensures read { IfOk result (λ x. IsCut code.now x.0.items x.1.items (length code.now)) }
     ensures refused { IfErr result (IsStartsFault code.now) }
 {
-    // An instruction has a byte at least.
+    // An instruction has at least one byte.
     let mut starts = Vec::with_capacity(alloc, code.len())?;
     let mut instrs = Vec::with_capacity(alloc, code.len())?;
     let mut at = 0;
@@ -74,7 +74,7 @@ fn number_in(starts: &[u32], address: usize) -> Option<u32>
     }
 }
 
-/// The addresses at which instructions start, which tell the numbers of these instructions.
+/// The addresses at which instructions start; an instruction's number is its place among them.
 #[derive(Drop)]
 pub struct StartTable {
     pub starts: Vec<u32>,

@@ -1,6 +1,6 @@
 ghost use Rattle.std.specs.Prelude.{◌≡◌, ◌^◌, ◌<◌, [], ◌∷◌, map, false, IfOk, IfErr, OnOk};
-ghost use Rattle.dj_labels.specs.Labels.{IsNumber, address_of};
-ghost use Rattle.dj_labels.specs.Targets.{targets_of};
+ghost use Rattle.dj_labels.specs.trusted.Labels.{IsNumber, address_of};
+ghost use Rattle.dj_labels.specs.trusted.Targets.{targets_of};
 ghost use Rattle.dj_labels.specs.Passes.{AreNumbers, ArePairs, IsInstrOf, LacksStart};
 
 use crate::errors::CodeError;
@@ -104,7 +104,7 @@ fn has_targets(instr: &Instr) -> bool
     )
 }
 
-/// Puts the numbers of the targets of the instruction at an address in their place.
+/// Puts the numbers of the targets of the instruction at an address in place of the addresses.
 pub fn renumber(
     alloc: Global,
     table: &StartTable,
@@ -117,7 +117,7 @@ pub fn renumber(
     if !has_targets(instr) {
         return Ok(());
     }
-    // Another instruction stands there meanwhile.
+    // Meanwhile another instruction is in its place.
     let addressed = mem::replace(instr, Instr::Simple { op: 0 });
     *instr = number_instr(alloc, table, at, addressed)?;
     Ok(())

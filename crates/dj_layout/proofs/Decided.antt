@@ -6,15 +6,15 @@ use Rattle.std.proofs.lemmas.Bool.{cases_lt}
 use Rattle.std.proofs.lemmas.Int.{ints}
 use Rattle.dj_ops.specs.declared.instruction.Instr.{Instr}
 use Rattle.dj_ops.specs.declared.instruction.Instr.TheVariants as instrs
-use Rattle.dj_ops.specs.Forms.{Form, ShortOffset, LongOffset, form_of}
-use Rattle.dj_ops.specs.Instructions.{IsOffset, IsFar, AreOffsets, offset, length_at}
+use Rattle.dj_ops.specs.trusted.Forms.{Form, ShortOffset, LongOffset, form_of}
+use Rattle.dj_ops.specs.trusted.Instructions.{IsOffset, IsFar, AreOffsets, offset, length_at}
 use Rattle.dj_labels.specs.declared.labelled.Labelled.{Labelled}
 use Rattle.dj_labels.specs.Labels.{IsWellFormed}
 use Rattle.dj_labels.specs.Faults.{IsFirstWithout}
 use Rattle.dj_layout.specs.declared.errors.LayError.TheVariants as errors
-use Rattle.dj_layout.specs.Places.{starts_from, end_from}
-use Rattle.dj_layout.specs.Layouts.{placed, placed_bytes, most_bytes}
-use Rattle.dj_layout.specs.Faults.{Reaches}
+use Rattle.dj_layout.specs.trusted.Places.{starts_from, end_from}
+use Rattle.dj_layout.specs.trusted.Layouts.{placed, placed_bytes, most_bytes}
+use Rattle.dj_layout.specs.trusted.Faults.{Reaches}
 use Rattle.dj_layout.specs.Laws.{HasLayout, HasFault, LayoutOrFault}
 use Rattle.dj_layout.proofs.Laying.{rows_with, laid_out}
 

@@ -3,11 +3,11 @@ use Rattle.std.proofs.Common.{◌≡◌, ℕ, zero, suc, ◌+◌, ◌*◌, ◌<�
 use Rattle.std.proofs.lemmas.List.{length-map, length-take}
 use Rattle.dj_ops.specs.declared.instruction.Instr.{Instr}
 use Rattle.dj_ops.specs.declared.instruction.Instr.TheVariants as instrs
-use Rattle.dj_ops.specs.Forms.{Form, SignedByte, SignedShort, ShortLiteral, LongLiteral, ShortOffset, LongOffset, form_of}
-use Rattle.dj_ops.specs.Instructions.{signed_bytes, literal_bytes, length_at}
+use Rattle.dj_ops.specs.trusted.Forms.{Form, SignedByte, SignedShort, ShortLiteral, LongLiteral, ShortOffset, LongOffset, form_of}
+use Rattle.dj_ops.specs.trusted.Instructions.{signed_bytes, literal_bytes, length_at}
 use Rattle.dj_ops.proofs.Sizes.{some_bytes, table_length, lookup_length}
-use Rattle.dj_labels.specs.Targets.{with_targets}
-use Rattle.dj_layout.specs.Places.{starts_from, end_from}
+use Rattle.dj_labels.specs.trusted.Targets.{with_targets}
+use Rattle.dj_layout.specs.trusted.Places.{starts_from, end_from}
 use Rattle.dj_layout.specs.Passes.{entry_count}
 
 -- ---- how long an instruction is

@@ -6,14 +6,15 @@ use Rattle.std.proofs.lemmas.Option.{same_Some}
 use Rattle.dj_ops.specs.declared.instruction.Instr.{Instr}
 use Rattle.dj_ops.specs.declared.instruction.Instr.TheVariants as instrs
 use Rattle.dj_ops.specs.declared.rows.CatchRow.{CatchRow}
-use Rattle.dj_ops.specs.Forms.{form_of}
+use Rattle.dj_ops.specs.trusted.Forms.{form_of}
 use Rattle.dj_ops.proofs.Sizes.{table_length}
 use Rattle.dj_labels.specs.declared.labelled.Labelled.{Labelled}
-use Rattle.dj_layout.specs.Places.{starts_from, end_from}
+use Rattle.dj_layout.specs.trusted.Places.{starts_from, end_from}
 use Rattle.dj_layout.specs.declared.laid.Laid.{Laid}
 use Rattle.dj_layout.specs.declared.errors.LayError.TheVariants as errors
-use Rattle.dj_layout.specs.Layouts.{IsLaidOut, most_bytes}
-use Rattle.dj_layout.specs.Faults.{IsFirstPast, IsFirstFar, Reaches, Refuses}
+use Rattle.dj_layout.specs.trusted.Layouts.{IsLaidOut, most_bytes}
+use Rattle.dj_layout.specs.trusted.Faults.{Reaches}
+use Rattle.dj_layout.specs.Faults.{IsFirstPast, IsFirstFar, Refuses}
 use Rattle.dj_layout.proofs.Once.{one_layout_is}
 
 -- ---- places
@@ -145,7 +146,7 @@ filled_has_none_past targets (suc (suc zero)) many h = omega (arith, h.past, man
 filled_has_none_past targets (suc (suc (suc zero))) many h = omega (arith, h.past, many, table_length 0 (pos 0) (pos 0) targets)
 filled_has_none_past targets (suc (suc (suc (suc n)))) many h = omega (arith, h.within)
 
--- the next one is; it is told by its number, which is 4, and not by its address, and the one after it isn't told
+-- the next one is; it is reported by its number, which is 4, and not by its address, and the one after it isn't reported
 overfull : (targets : List ℤ) → length targets ≡ 16379 → Refuses (code_of (filled targets (instrs.Simple 0 ∷ instrs.Simple 177 ∷ []))) (errors.TooLong 4)
 unfolding form_of filled code_of
 overfull targets many = record {
@@ -184,7 +185,7 @@ far targets many = record {
   };
 }
 
--- one instruction after a jump of three bytes that is near is told by its number, which is 1, and not by its address 3
+-- one instruction after a jump of three bytes that is near is reported by its number, which is 1, and not by its address 3
 second : List ℤ → List Instr
 second targets = instrs.Branch 167 (pos 1) ∷ instrs.Branch 167 (pos 3) ∷ instrs.Table (pos 0) (pos 0) targets ∷ instrs.Simple 177 ∷ []
 

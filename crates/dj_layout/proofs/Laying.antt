@@ -4,14 +4,16 @@ use Rattle.std.specs.List.{flat_map, AllByRecursion}
 use Rattle.dj_ops.specs.declared.instruction.Instr.{Instr}
 use Rattle.dj_ops.specs.declared.rows.CatchRow.{CatchRow}
 use Rattle.dj_labels.specs.declared.labelled.Labelled.{Labelled}
-use Rattle.dj_labels.specs.Targets.{with_targets}
-use Rattle.dj_labels.specs.Labels.{first_of, StandUpTo, IsCut, address_of, addressed, IsWellFormed, row_of}
+use Rattle.dj_labels.specs.trusted.Targets.{with_targets}
+use Rattle.dj_labels.specs.trusted.Labels.{first_of, StandUpTo, IsCut, address_of, addressed, row_of}
+use Rattle.dj_labels.specs.Labels.{IsWellFormed}
 use Rattle.dj_layout.specs.declared.laid.Laid.{Laid}
 use Rattle.dj_layout.specs.declared.errors.LayError.{LayError}
 use Rattle.dj_layout.specs.declared.errors.LayError.TheVariants as errors
-use Rattle.dj_layout.specs.Places.{starts_from, end_from}
-use Rattle.dj_layout.specs.Layouts.{placed, placed_bytes, IsLaidOut}
-use Rattle.dj_layout.specs.Faults.{Reaches, Refuses, IsRefused, Yields}
+use Rattle.dj_layout.specs.trusted.Places.{starts_from, end_from}
+use Rattle.dj_layout.specs.trusted.Layouts.{placed, placed_bytes, IsLaidOut}
+use Rattle.dj_layout.specs.trusted.Faults.{Reaches}
+use Rattle.dj_layout.specs.Faults.{Refuses, IsRefused, Yields}
 use Rattle.dj_layout.specs.Passes.{ArePlaces, AreBytes, IsPlaceFault, IsByteFault}
 use Rattle.dj_layout.proofs.Standing.{placed_from, text_from, first_is, stand_from, text_length}
 use Rattle.dj_layout.proofs.Once.{no_code_where_refused_is, one_fault_is}
@@ -70,7 +72,7 @@ laid_out labelled starts size bytes table formed places written rows =
       labels = record { starts = starts; cut = cut; targets = formed.targets; rows = table_is; ranges = formed.ranges };
     }
 
--- the same of what the passes lend one another
+-- the same for what the passes lend one another
 pub passes_lay_out : (labelled : Labelled) (instrs : List Instr) (starts : List ℕ) (size : ℕ) (bytes : List ℕ) (table : List CatchRow) (code' starts' : List ℕ) → IsWellFormed labelled → instrs ≡ labelled.code
     → ArePlaces instrs starts size → AreBytes starts instrs bytes → table ≡ rows_with starts size labelled → code' ≡ bytes → starts' ≡ starts → IsLaidOut labelled (record { code = code'; starts = starts'; table = table })
 passes_lay_out labelled instrs starts size bytes table code' starts' formed same places written rows code_is starts_is =

@@ -4,14 +4,15 @@ use Rattle.std.specs.List.{flat_map, AllByRecursion}
 use Rattle.std.proofs.lemmas.Bool.{cases_lt}
 use Rattle.dj_ops.specs.declared.instruction.Instr.{Instr}
 use Rattle.dj_ops.specs.declared.rows.CatchRow.{CatchRow}
-use Rattle.dj_labels.specs.Labels.{address_of, row_of}
+use Rattle.dj_labels.specs.trusted.Labels.{address_of, row_of}
 use Rattle.dj_labels.proofs.Lists.{each_at, each_before}
 use Rattle.dj_labels.proofs.Once.{one_labelling_is}
 use Rattle.dj_layout.specs.declared.laid.Laid.{Laid}
 use Rattle.dj_layout.specs.declared.errors.LayError.TheVariants as errors
-use Rattle.dj_layout.specs.Places.{starts_from, end_from}
-use Rattle.dj_layout.specs.Layouts.{placed, placed_bytes, most_bytes}
-use Rattle.dj_layout.specs.Faults.{IsFirstPast, IsFirstFar, Reaches}
+use Rattle.dj_layout.specs.trusted.Places.{starts_from, end_from}
+use Rattle.dj_layout.specs.trusted.Layouts.{placed, placed_bytes, most_bytes}
+use Rattle.dj_layout.specs.trusted.Faults.{Reaches}
+use Rattle.dj_layout.specs.Faults.{IsFirstPast, IsFirstFar}
 use Rattle.dj_layout.specs.Laws.{OneLayout, LabelsAgain, NoCodeWhereRefused, OneFault}
 use Rattle.dj_layout.proofs.Ends.{end_within, end_rises}
 use Rattle.dj_layout.proofs.Standing.{same_places, all_reach}

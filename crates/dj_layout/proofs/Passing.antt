@@ -11,17 +11,18 @@ use Rattle.std.proofs.lemmas.List.{take_all, flat_map_more}
 use Rattle.std.proofs.lemmas.List.Elements.{All-from_recursion}
 use Rattle.dj_ops.specs.declared.instruction.Instr.{Instr}
 use Rattle.dj_ops.specs.declared.instruction.Instr.TheVariants as instrs
-use Rattle.dj_ops.specs.Forms.{Form, ShortOffset, LongOffset, Reserved, form_of}
-use Rattle.dj_ops.specs.Instructions.{IsProper, IsOffset, IsFar, AreOffsets, offset, length_at}
+use Rattle.dj_ops.specs.trusted.Forms.{Form, ShortOffset, LongOffset, Reserved, form_of}
+use Rattle.dj_ops.specs.trusted.Instructions.{IsProper, IsOffset, IsFar, AreOffsets, offset, length_at}
 use Rattle.dj_ops.proofs.FormFacts.{short_form, long_form, opcode_below}
-use Rattle.dj_labels.specs.Targets.{targets_of, with_targets}
-use Rattle.dj_labels.specs.Labels.{IsNumber, HasNumbers, address_of}
+use Rattle.dj_labels.specs.trusted.Targets.{targets_of, with_targets}
+use Rattle.dj_labels.specs.trusted.Labels.{IsNumber, HasNumbers, address_of}
 use Rattle.dj_labels.proofs.Lists.{each_then, each_map, each_of_map, each_more}
 use Rattle.dj_layout.specs.declared.errors.LayError.{LayError}
 use Rattle.dj_layout.specs.declared.errors.LayError.TheVariants as errors
-use Rattle.dj_layout.specs.Places.{starts_from, end_from}
-use Rattle.dj_layout.specs.Layouts.{placed, placed_bytes, most_bytes}
-use Rattle.dj_layout.specs.Faults.{IsFirstPast, Reaches}
+use Rattle.dj_layout.specs.trusted.Places.{starts_from, end_from}
+use Rattle.dj_layout.specs.trusted.Layouts.{placed, placed_bytes, most_bytes}
+use Rattle.dj_layout.specs.trusted.Faults.{Reaches}
+use Rattle.dj_layout.specs.Faults.{IsFirstPast}
 use Rattle.dj_layout.specs.Passes.{ArePlaces, IsAddress, IsWritten, AreBytes, HasFirstFar, IsByteFault}
 use Rattle.dj_layout.proofs.Ends.{pair_with, same_length, end_more, end_within, starts_more, starts_length, start_at, number_below}
 
@@ -202,7 +203,7 @@ one_next k = omega arith
 pub taken_more : {A : Type 0} (xs : List A) (k : ℕ) (x : A) → slice_get xs k ≡ Some x → take (k + 1) xs ≡ take k xs ++ x ∷ []
 taken_more {A} xs k x at = subst (λ (n : ℕ). take n xs ≡ take k xs ++ x ∷ []) (one_next k) (taken_next xs k x at)
 
--- the bytes of the first so many, and that they reach their targets
+-- the bytes of the first n, and that they reach their targets
 pub record WrittenTo (starts : List ℕ) (instrs : List Instr) (k : ℕ) (bytes : List ℕ) : Type 0 where
   pub bytes_are : bytes ≡ flat_map placed_bytes (take k (placed starts instrs))
   pub reach : AllByRecursion Reaches (take k (placed starts instrs))

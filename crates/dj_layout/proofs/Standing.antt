@@ -3,14 +3,14 @@ use Rattle.std.proofs.Common.{◌≡◌, ℕ, ◌+◌, ℤ, List, [], ◌∷◌,
 use Rattle.std.specs.List.{flat_map, AllByRecursion}
 use Rattle.std.proofs.lemmas.List.{length-append}
 use Rattle.dj_ops.specs.declared.instruction.Instr.{Instr}
-use Rattle.dj_ops.specs.Instructions.{IsProper, AreOffsets, Stands, written, length_at}
+use Rattle.dj_ops.specs.trusted.Instructions.{IsProper, AreOffsets, Stands, written, length_at}
 use Rattle.dj_ops.proofs.Sizes.{written_stands, next_address}
-use Rattle.dj_labels.specs.Targets.{with_targets}
-use Rattle.dj_labels.specs.Labels.{first_of, StandUpTo}
+use Rattle.dj_labels.specs.trusted.Targets.{with_targets}
+use Rattle.dj_labels.specs.trusted.Labels.{first_of, StandUpTo}
 use Rattle.dj_labels.proofs.Proper.{proper_to}
-use Rattle.dj_layout.specs.Places.{starts_from, end_from}
-use Rattle.dj_layout.specs.Layouts.{placed_bytes}
-use Rattle.dj_layout.specs.Faults.{Reaches}
+use Rattle.dj_layout.specs.trusted.Places.{starts_from, end_from}
+use Rattle.dj_layout.specs.trusted.Layouts.{placed_bytes}
+use Rattle.dj_layout.specs.trusted.Faults.{Reaches}
 use Rattle.dj_layout.proofs.Ends.{same_length}
 
 -- the instructions from an address on, with their targets replaced

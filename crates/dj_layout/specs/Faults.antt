@@ -1,26 +1,22 @@
--- Labelled code that has no room, and where the first fault is.
+-- Labelled code that doesn't fit, and its first fault.
 use Rattle.std.specs.Prelude.{◌≡◌, ℕ, ◌+◌, ◌<◌, ◌≤◌, ◌⊎◌, ⊤, List, length, take, Result, IsErrOf}
 use Rattle.dj_ops.specs.declared.instruction.Instr.{Instr}
-use Rattle.dj_ops.specs.Instructions.{AreOffsets}
 use Rattle.dj_labels.specs.declared.labelled.Labelled.{Labelled}
 use Rattle.dj_labels.specs.Faults.{IsFirstWithout}
 use Rattle.dj_layout.specs.declared.laid.Laid.{Laid}
 use Rattle.dj_layout.specs.declared.errors.LayError.{LayError}
 use Rattle.dj_layout.specs.declared.errors.LayError.TheVariants as errors
-use Rattle.dj_layout.specs.Places.{starts_from, end_from}
-use Rattle.dj_layout.specs.Layouts.{placed, most_bytes}
+use Rattle.dj_layout.specs.trusted.Places.{starts_from, end_from}
+use Rattle.dj_layout.specs.trusted.Layouts.{placed, most_bytes}
+use Rattle.dj_layout.specs.trusted.Faults.{Reaches}
 
--- the instruction of this number is the first that ends past the most bytes that code has
+-- the instruction of this number is the first that ends after the most bytes that code may have
 pub record IsFirstPast (instrs : List Instr) (number : ℕ) : Type 0 where
   pub within : number < length instrs
   pub before : end_from 0 (take number instrs) ≤ most_bytes
   pub past : most_bytes < end_from 0 (take (number + 1) instrs)
 
--- the offsets of an instruction at its address fit their fields
-abbrev pub Reaches : ℕ × Instr → Type 0
-Reaches p = AreOffsets p.0 p.1
-
--- all end within the most bytes, and the jump of this number is the first whose target is too far away
+-- the code has at most the most bytes, and the jump of this number is the first whose target is too far away
 pub record IsFirstFar (instrs : List Instr) (number : ℕ) : Type 0 where
   pub short : end_from 0 instrs ≤ most_bytes
   pub jump : ℕ × Instr
@@ -33,11 +29,11 @@ Refuses labelled (errors.TooLong number) = IsFirstPast labelled.code number
 Refuses labelled (errors.Far number) = IsFirstFar labelled.code number
 Refuses labelled errors.Memory = ⊥
 
--- want of memory has no cause in the code
+-- the error has its cause in the code, except want of memory
 abbrev pub IsRefused : Labelled → LayError → Type 0
 IsRefused labelled errors.Memory = ⊤
 IsRefused labelled e = Refuses labelled e
 
--- this is the answer, unless memory ran out
+-- the result is this answer, unless memory ran out
 abbrev pub Yields : Result Laid LayError → Result Laid LayError → Type 0
 Yields result answer = (result ≡ answer) ⊎ IsErrOf result errors.Memory

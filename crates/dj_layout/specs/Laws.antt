@@ -2,10 +2,11 @@
 use Rattle.std.specs.Prelude.{◌≡◌, ℕ, ◌≤◌, ◌⊎◌, List, length}
 use Rattle.dj_ops.specs.declared.rows.CatchRow.{CatchRow}
 use Rattle.dj_labels.specs.declared.labelled.Labelled.{Labelled}
-use Rattle.dj_labels.specs.Labels.{IsWellFormed, IsLabelled}
+use Rattle.dj_labels.specs.trusted.Labels.{IsLabelled}
+use Rattle.dj_labels.specs.Labels.{IsWellFormed}
 use Rattle.dj_layout.specs.declared.laid.Laid.{Laid}
 use Rattle.dj_layout.specs.declared.errors.LayError.{LayError}
-use Rattle.dj_layout.specs.Layouts.{IsLaidOut, most_bytes}
+use Rattle.dj_layout.specs.trusted.Layouts.{IsLaidOut, most_bytes}
 use Rattle.dj_layout.specs.Faults.{Refuses}
 
 -- labelled code is laid out in one way at most

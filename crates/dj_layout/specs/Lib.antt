@@ -1,5 +1,4 @@
-pub mod Places
-pub mod Layouts
 pub mod Faults
 pub mod Laws
 pub mod Passes
+pub mod trusted

@@ -1,4 +1,4 @@
--- The code's own: what its passes hand on to one another.
+-- Used by the code alone: what its passes hand on to one another.
 use Rattle.std.specs.Prelude.{◌≡◌, ℕ, ◌≤◌, ⊤, ℤ, pos, ◌≤ℤ◌, List, ◌++◌, length, Result, Ok, Err}
 use Rattle.std.specs.List.{AllByRecursion, flat_map}
 use Rattle.dj_ops.specs.declared.instruction.Instr.{Instr}
@@ -6,9 +6,10 @@ use Rattle.dj_ops.specs.declared.instruction.Instr.TheVariants as instrs
 use Rattle.dj_labels.specs.Faults.{IsFirstWithout}
 use Rattle.dj_layout.specs.declared.errors.LayError.{LayError}
 use Rattle.dj_layout.specs.declared.errors.LayError.TheVariants as errors
-use Rattle.dj_layout.specs.Places.{starts_from, end_from}
-use Rattle.dj_layout.specs.Layouts.{placed, placed_bytes, most_bytes}
-use Rattle.dj_layout.specs.Faults.{IsFirstPast, Reaches}
+use Rattle.dj_layout.specs.trusted.Places.{starts_from, end_from}
+use Rattle.dj_layout.specs.trusted.Layouts.{placed, placed_bytes, most_bytes}
+use Rattle.dj_layout.specs.trusted.Faults.{Reaches}
+use Rattle.dj_layout.specs.Faults.{IsFirstPast}
 
 -- ---- places
 

@@ -2,11 +2,11 @@ ghost use Rattle.std.specs.Prelude.{◌≡◌, ℕ, ◌+◌, ◌<◌, ◌≤◌,
 ghost use Rattle.dj_ops.specs.declared.instruction.Instr.{Instr};
 ghost use Rattle.std.specs.List.{AllByRecursion};
 ghost use Rattle.std.specs.Int.{w16};
-ghost use Rattle.dj_ops.specs.Instructions.{IsProper, AreOffsets, offset, length_at};
-ghost use Rattle.dj_labels.specs.Targets.{targets_of, with_targets};
-ghost use Rattle.dj_labels.specs.Labels.{IsNumber, HasNumbers, address_of};
-ghost use Rattle.dj_layout.specs.Layouts.{placed, most_bytes};
-ghost use Rattle.dj_layout.specs.Places.{starts_from, end_from};
+ghost use Rattle.dj_ops.specs.trusted.Instructions.{IsProper, AreOffsets, offset, length_at};
+ghost use Rattle.dj_labels.specs.trusted.Targets.{targets_of, with_targets};
+ghost use Rattle.dj_labels.specs.trusted.Labels.{IsNumber, HasNumbers, address_of};
+ghost use Rattle.dj_layout.specs.trusted.Layouts.{placed, most_bytes};
+ghost use Rattle.dj_layout.specs.trusted.Places.{starts_from, end_from};
 ghost use Rattle.dj_layout.specs.Passes.{IsAddress, IsWritten, AreBytes, IsByteFault};
 
 use crate::errors::LayError;
@@ -38,11 +38,11 @@ fn pair_addresses(alloc: Global, starts: &[u32], numbers: &[(i32, i64)]) -> Resu
     requires { AllByRecursion (λ pair. IsNumber (length starts.now) pair.1) numbers.now }
     ensures { IfOk result (λ pairs. pairs ≡ map (λ pair. (pair.0, address_of starts.now pair.1)) numbers.now) }
 {
-    let mut pairs = Pairs::new(alloc);
+    let mut pairs = Vec::new(alloc);
     for pair in numbers {
         pairs.push((pair.0, address_of(starts, pair.1)))?;
     }
-    Ok(pairs)
+    Ok(Pairs::from_vec(pairs))
 }
 
 /// The instruction with the addresses of its targets.
@@ -91,7 +91,7 @@ fn is_near(at: u32, target: i64) -> bool
     -32768 <= offset && offset <= 32767
 }
 
-/// Whether an instruction at an address reaches its targets: all but the jumps with an offset of two bytes do.
+/// Whether an instruction at an address reaches its targets: all do, except jumps with an offset of two bytes whose target is too far away.
 fn reaches(instr: &Instr, at: u32) -> bool
     requires proper { IsProper instr.now }
     requires at { at ≤ most_bytes }
@@ -104,7 +104,7 @@ fn reaches(instr: &Instr, at: u32) -> bool
     }
 }
 
-/// Appends an instruction that stands at an address. Its number is told where it doesn't reach its targets.
+/// Appends an instruction at its address. Its number is reported where it doesn't reach its targets.
 fn write_placed(instr: &Instr, at: u32, number: u32, out: &mut Vec<u8>) -> Result<(), LayError>
     requires proper { IsProper instr.now }
     requires short { at + length_at at instr.now ≤ most_bytes }

@@ -33,7 +33,7 @@ impl From<OpError> for LayError {
 
     ghost from_gives = { λ _ e. e ≡ causes.Memory };
 
-    // What is proper and reaches its targets isn't written for want of memory alone.
+    // An instruction that is proper and reaches its targets fails to be written only for want of memory.
     fn from(_error: OpError) -> LayError {
         LayError::Memory
     }

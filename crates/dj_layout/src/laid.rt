@@ -1,5 +1,5 @@
 use dj_names::Bytes;
-use dj_ops::{Rows, Starts};
+use dj_ops::{CatchRows, Starts};
 
 /// Code that is laid out.
 #[derive(Debug, Drop)]
@@ -9,5 +9,5 @@ pub struct Laid {
     /// The address of each instruction.
     pub starts: Starts,
     /// The exception table.
-    pub table: Rows,
+    pub table: CatchRows,
 }

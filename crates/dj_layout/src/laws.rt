@@ -1,6 +1,6 @@
 ghost use Rattle.dj_layout.specs.Laws.{OneLayout, LabelsAgain, NoCodeWhereRefused, OneFault, LayoutOrFault};
 
-/// Labelled code is laid out in one way at most.
+/// Labelled code is laid out in at most one way.
 pub fn one_layout()
     ensures { OneLayout }
 {}
@@ -15,7 +15,7 @@ pub fn no_code_where_refused()
     ensures { NoCodeWhereRefused }
 {}
 
-/// There is one first fault at most.
+/// There is at most one first fault.
 pub fn one_fault()
     ensures { OneFault }
 {}

@@ -1,7 +1,7 @@
 ghost use Rattle.std.specs.Prelude.{◌≡◌, ◌+◌, ◌<◌, ◌≤◌, IfSome, IfNone, IfOk, IfErr};
 ghost use Rattle.std.specs.List.{AllByRecursion};
-ghost use Rattle.dj_ops.specs.Instructions.{IsProper, length_at};
-ghost use Rattle.dj_layout.specs.Layouts.{most_bytes};
+ghost use Rattle.dj_ops.specs.trusted.Instructions.{IsProper, length_at};
+ghost use Rattle.dj_layout.specs.trusted.Layouts.{most_bytes};
 ghost use Rattle.dj_layout.specs.Passes.{entry_count, ArePlaces, IsPlaceFault};
 
 use crate::errors::LayError;

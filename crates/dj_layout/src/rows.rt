@@ -1,10 +1,10 @@
 ghost use Rattle.std.specs.Prelude.{◌≡◌, ◌≤◌, [], ◌∷◌, ◌++◌, map, length, All, slice_index, IfOk};
 ghost use Rattle.std.specs.List.{AllByRecursion};
-ghost use Rattle.dj_labels.specs.Labels.{IsRange, row_of};
-ghost use Rattle.dj_layout.specs.Layouts.{most_bytes};
+ghost use Rattle.dj_labels.specs.trusted.Labels.{IsRange, row_of};
+ghost use Rattle.dj_layout.specs.trusted.Layouts.{most_bytes};
 
 use dj_labels::Protected;
-use dj_ops::{CatchRow, NoMemory, Rows};
+use dj_ops::{CatchRow, CatchRows, NoMemory};
 use std::alloc::Global;
 
 /// The address of a bound: that of an instruction, or the end of the code of this size.
@@ -44,13 +44,13 @@ pub fn rows_of(
     starts: &[u32],
     size: u32,
     ranges: &[Protected],
-) -> Result<Rows, NoMemory>
+) -> Result<CatchRows, NoMemory>
     requires ranges { AllByRecursion (IsRange (length starts.now)) ranges.now }
     requires starts { All (λ start. start ≤ most_bytes) starts.now }
     requires size { size ≤ most_bytes }
     ensures { IfOk result (λ rows. rows ≡ map (row_of (starts.now ++ size ∷ [])) ranges.now) }
 {
-    let mut rows = Rows::new(alloc);
+    let mut rows = CatchRows::new(alloc);
     for range in ranges {
         rows.push(row_of(starts, size, *range))?;
     }

@@ -4,10 +4,10 @@ use Rattle.std.specs.Option.{option_map}
 use Rattle.std.proofs.Common.{refl, ap, arith}
 use Rattle.dj_names.specs.declared.native.NativeId.{NativeId}
 use Rattle.dj_names.specs.declared.native.NativeId.TheVariants as natives
-use Rattle.dj_names.specs.Types.{Name, same_name}
-use Rattle.dj_names.specs.Library.{LibraryMethod, LibraryClass, Library, lang, clocks, deterministic_library, raw_library}
-use Rattle.dj_library.specs.Heads.{Head, head_of_library}
-use Rattle.dj_library.specs.Rows.{host_native}
+use Rattle.dj_names.specs.trusted.Types.{Name, same_name}
+use Rattle.dj_names.specs.trusted.Library.{LibraryMethod, LibraryClass, Library, lang, clocks, deterministic_library, raw_library}
+use Rattle.dj_library.specs.trusted.Heads.{Head, head_of_library}
+use Rattle.dj_library.specs.TableRows.{host_native}
 
 abbrev is_named : Name → LibraryClass → Bool
 is_named name c = same_name c.name name

@@ -6,15 +6,15 @@ use Rattle.dj_names.specs.declared.descriptor.Base.TheVariants as bases
 use Rattle.dj_names.specs.declared.descriptor.Ty.{Ty}
 use Rattle.dj_names.specs.declared.native.NativeId.{NativeId}
 use Rattle.dj_names.specs.declared.native.NativeId.TheVariants as natives
-use Rattle.dj_names.specs.Types.{class_type, base_type, base_array}
+use Rattle.dj_names.specs.trusted.Types.{class_type, base_type, base_array}
 use Rattle.dj_library.specs.declared.types.TypeRow.{TypeRow}
 use Rattle.dj_library.specs.declared.types.TypeRow.TheVariants as types
 use Rattle.dj_library.specs.declared.methods.Which.TheVariants as which
 use Rattle.dj_library.specs.declared.methods.MethodRow.{MethodRow}
 use Rattle.dj_library.specs.declared.methods.MethodRow.TheVariants as rows
 use Rattle.dj_library.specs.declared.classes.LibraryHead.{LibraryHead}
-use Rattle.dj_library.specs.Heads.{Head}
-use Rattle.dj_library.specs.Rows.{type_of_row, method_of_row, host_native, native_in, method_in, rows_of_hosts, class_in, head_view}
+use Rattle.dj_library.specs.trusted.Heads.{Head}
+use Rattle.dj_library.specs.TableRows.{type_of_row, method_of_row, host_native, native_in, method_in, rows_of_hosts, class_in, head_view}
 
 types_of_rows : (name : Bor (List ℕ)) → map type_of_row (types.Base bases.Int ∷ types.Array bases.Char ∷ types.Class name ∷ []) ≡ base_type bases.Int ∷ base_array bases.Char ∷ class_type name.now ∷ []
 types_of_rows name = refl

@@ -1,2 +1,2 @@
-pub mod Rows
-pub mod Heads
+pub mod TableRows
+pub mod trusted

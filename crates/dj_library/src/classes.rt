@@ -1,6 +1,6 @@
 ghost use Rattle.std.specs.Prelude.{◌≡◌, IfOk, map, option_map};
 ghost use Rattle.dj_natives.specs.Views.{library_class_view, library_view};
-ghost use Rattle.dj_library.specs.Rows.{name_of_row, class_in};
+ghost use Rattle.dj_library.specs.TableRows.{name_of_row, class_in};
 
 use crate::errors::LibraryError;
 use crate::methods::{MethodRow, Which, methods_of};
@@ -8,7 +8,7 @@ use dj_names::Name;
 use dj_natives::{LibClass, Library, Names};
 use std::alloc::Global;
 
-/// A class of the libraries, and what it stands under.
+/// A class of the libraries, with its superclass and interfaces.
 #[derive(Clone, Copy)]
 pub struct LibraryHead {
     /// The whole name, with slashes.

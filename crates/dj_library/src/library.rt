@@ -1,8 +1,8 @@
 ghost use Rattle.std.specs.Prelude.{◌≡◌, IfOk, map};
-ghost use Rattle.dj_names.specs.Library.{deterministic_library, raw_library};
+ghost use Rattle.dj_names.specs.trusted.Library.{deterministic_library, raw_library};
 ghost use Rattle.dj_natives.specs.Views.{library_view};
-ghost use Rattle.dj_library.specs.Heads.{head_of_library};
-ghost use Rattle.dj_library.specs.Rows.{class_in, head_view};
+ghost use Rattle.dj_library.specs.trusted.Heads.{head_of_library};
+ghost use Rattle.dj_library.specs.TableRows.{class_in, head_view};
 
 use crate::classes::{LibraryHead, classes_of};
 use crate::errors::LibraryError;

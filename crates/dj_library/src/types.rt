@@ -1,5 +1,5 @@
 ghost use Rattle.std.specs.Prelude.{◌≡◌, IfOk, map, option_map};
-ghost use Rattle.dj_library.specs.Rows.{type_of_row};
+ghost use Rattle.dj_library.specs.TableRows.{type_of_row};
 
 use crate::errors::LibraryError;
 use dj_names::{Base, Name, Of, Ty, Tys};

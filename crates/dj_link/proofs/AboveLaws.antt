@@ -3,9 +3,9 @@ use Rattle.std.proofs.Common.{◌≡◌, ℕ, zero, suc, ◌<◌, ◌≤◌, ◌
 use Rattle.std.specs.Option.{option_map}
 use Rattle.std.proofs.lemmas.Bool.{false≢true}
 use Rattle.std.proofs.lemmas.Option.{none-some}
-use Rattle.dj_names.specs.Types.{Name, same_name}
-use Rattle.dj_model.specs.Program.{Program, class_at, superclass_of, Class}
-use Rattle.dj_model.specs.Linking.{most_classes, chain_of, chain, is_among}
+use Rattle.dj_names.specs.trusted.Types.{Name, same_name}
+use Rattle.dj_model.specs.trusted.Program.{Program, class_at, superclass_of, Class}
+use Rattle.dj_model.specs.trusted.Linking.{most_classes, chain_of, chain, is_among}
 use Rattle.dj_model.proofs.MappedNames.{either}
 use Rattle.dj_classes.specs.Tables.{class_number, name_at}
 use Rattle.dj_linking.specs.Linked.{class_name}

@@ -4,7 +4,7 @@ use Rattle.std.specs.Option.{option_map}
 use Rattle.std.proofs.lemmas.List.{take_more, take_all, map-append}
 use Rattle.std.proofs.lemmas.Option.{slice_get_within, get_or_from_slice_get, slice_get-map}
 use Rattle.dj_pool.proofs.Decides.{tests_decide}
-use Rattle.dj_class.specs.ClassFile.{MemberInfo, ClassFile}
+use Rattle.dj_class.specs.trusted.ClassFile.{MemberInfo, ClassFile}
 use Rattle.dj_class.proofs.ClassLaws.{one_class_file}
 use Rattle.dj_report.specs.declared.report.Violation.{Violation}
 use Rattle.dj_report.specs.declared.report.PathFile.{PathFile}
@@ -12,15 +12,15 @@ use Rattle.dj_report.specs.Lines.{Adds, Gains, IsLineAmong}
 use Rattle.dj_report.proofs.Sorted.{contains_none}
 use Rattle.dj_report.proofs.Adding.{adds_same, among_map}
 use Rattle.dj_rules.specs.Views.{path_file_view}
-use Rattle.dj_model.specs.Program.{Program}
+use Rattle.dj_model.specs.trusted.Program.{Program}
 use Rattle.dj_check.specs.declared.judged.JudgedText.{JudgedText}
 use Rattle.dj_check.specs.declared.marks.Mark.{Mark}
 use Rattle.dj_check.specs.Judged.{AreTexts}
-use Rattle.dj_check.specs.Malformed.{IsGood}
+use Rattle.dj_check.specs.trusted.Malformed.{IsGood}
 use Rattle.dj_check.specs.Marks.{AreMarksOf, IsMarkLine}
-use Rattle.dj_check.specs.Rules.{IsMemberLine}
+use Rattle.dj_check.specs.trusted.Rules.{IsMemberLine}
 use Rattle.dj_check.proofs.FileLaws.{member_lines}
-use Rattle.dj_link.specs.Lines.{MethodLinkViolates, IsFileLinkLine, IsLinkLine}
+use Rattle.dj_link.specs.trusted.Lines.{MethodLinkViolates, IsFileLinkLine, IsLinkLine}
 use Rattle.dj_link.specs.Known.{is_unmakeable, AreUnmakeable}
 
 -- the marks of methods, as lines

@@ -3,17 +3,17 @@ use Rattle.std.proofs.Common.{◌≡◌, ◌≢◌, ℕ, ◌⊎◌, Bool, true, 
 use Rattle.std.specs.Option.{option_map}
 use Rattle.std.proofs.lemmas.Bool.Decides.{Decides-like, Decides-at, Decides-and, Decides-or, Decides-not, Decides-eqb}
 use Rattle.dj_names.specs.declared.descriptor.Ty.{Ty}
-use Rattle.dj_names.specs.Types.{Name}
+use Rattle.dj_names.specs.trusted.Types.{Name}
 use Rattle.dj_ops.specs.declared.instruction.Instr.{Instr}
 use Rattle.dj_ops.specs.declared.instruction.Instr.TheVariants as instrs
-use Rattle.dj_pool.specs.Pool.{Constant, Method, InterfaceMethod, constant_at, both}
-use Rattle.dj_model.specs.Types.{Member, constructor_name, initialiser_name}
-use Rattle.dj_model.specs.Program.{Program, class_at, is_interface}
-use Rattle.dj_check.specs.Classes.{names_at}
-use Rattle.dj_check.specs.Instructions.{index_of, NamesSuch}
-use Rattle.dj_link.specs.Named.{named_type, class_of_type, member_of, named_member, NamesNoClass, NamesNoMember, MakesSuch}
-use Rattle.dj_link.specs.Foreign.{IsForeignConstant, NamesUnmakeable, IsForeign}
-use Rattle.dj_link.specs.Unlinked.{is_class, takes, HasWrongTag, asks_static, differ, IsOtherwiseStatic, is_special, IsMisusedConstructor, IsInitialiser, is_own_or_above, IsFarSpecial, IsUnlinkedMember, is_interface_type, HasWrongKind, NamesAbstract, IsTooDeep, IsUnlinkedType, IsUnlinkedConstant, IsUnlinked, IsUnlinkedCatch}
+use Rattle.dj_pool.specs.trusted.Pool.{Constant, Method, InterfaceMethod, constant_at, both}
+use Rattle.dj_model.specs.trusted.Types.{Member, constructor_name, initialiser_name}
+use Rattle.dj_model.specs.trusted.Program.{Program, class_at, is_interface}
+use Rattle.dj_check.specs.trusted.Classes.{names_at}
+use Rattle.dj_check.specs.trusted.Instructions.{index_of, NamesSuch}
+use Rattle.dj_link.specs.trusted.Named.{named_type, class_of_type, member_of, named_member, NamesNoClass, NamesNoMember, MakesSuch}
+use Rattle.dj_link.specs.trusted.Foreign.{IsForeignConstant, NamesUnmakeable, IsForeign}
+use Rattle.dj_link.specs.trusted.Unlinked.{is_class, takes, HasWrongTag, asks_static, differ, IsOtherwiseStatic, is_special, IsMisusedConstructor, IsInitialiser, is_own_or_above, IsFarSpecial, IsUnlinkedMember, is_interface_type, HasWrongKind, NamesAbstract, IsTooDeep, IsUnlinkedType, IsUnlinkedConstant, IsUnlinked, IsUnlinkedCatch}
 use Rattle.dj_link.specs.Judged.{tag_of, judged_class, judged_member, judged, kept_at}
 use Rattle.dj_link.specs.declared.known.Known.{Known}
 use Rattle.dj_link.specs.Known.{lacks_class, lacks_member, is_foreign_named, is_unmakeable_class, is_interface_class, is_abstract_class, makes, makes_array, takes_tag, is_class_tag, is_own_or_above_class, is_far_special, is_misused_member, is_unlinked_member, has_wrong_kind, is_unlinked_class, is_unlinked_named, is_foreign_by, is_foreign, is_unlinked_by, is_unlinked_at, is_unlinked, is_foreign_catch_by, is_foreign_catch, is_unlinked_catch_by, is_unlinked_catch, IsKnown}

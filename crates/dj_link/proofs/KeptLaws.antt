@@ -5,9 +5,9 @@ use Rattle.std.specs.Option.{option_map}
 use Rattle.std.proofs.lemmas.Option.{slice_get-map, slice_get-get_or}
 use Rattle.std.proofs.lemmas.List.{take_more, take_all, map-append, length-replicate}
 use Rattle.dj_pool.specs.declared.pool.Entry.{Entry}
-use Rattle.dj_pool.specs.Pool.{Constant, text_at, IsLinked, IsPool}
+use Rattle.dj_pool.specs.trusted.Pool.{Constant, text_at, IsLinked, IsPool}
 use Rattle.dj_pool.specs.Views.{constant_of}
-use Rattle.dj_model.specs.Program.{Program}
+use Rattle.dj_model.specs.trusted.Program.{Program}
 use Rattle.dj_link.specs.Judged.{judged, AreJudged}
 use Rattle.dj_directory.specs.Numberings.{Numbering}
 use Rattle.dj_link.specs.Constants.{text_class, AreSeen, AreNumbersSeen}

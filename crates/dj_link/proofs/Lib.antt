@@ -9,7 +9,7 @@ pub mod Judging
 pub mod PassLaws
 pub mod AboveLaws
 pub mod FileLaws
-mod Rows
+mod RuleNumbers
 mod RowFacts
 mod LineFacts
 pub mod NameNumbers

@@ -1,16 +1,16 @@
 -- Lines of the rules 17 and 18 by plain values: where they stand, and what silences them.
 use Rattle.std.proofs.Common.{◌≡◌, ℕ, ◌⊎◌, List, [], ◌∷◌, length, refl, ap, inl, inr, arith, codes, Contains}
 use Rattle.dj_ops.specs.declared.instruction.Instr.TheVariants as instrs
-use Rattle.dj_pool.specs.Pool.{Constant, Utf8, Class}
+use Rattle.dj_pool.specs.trusted.Pool.{Constant, Utf8, Class}
 use Rattle.dj_labels.specs.declared.labelled.Protected.{Protected}
 use Rattle.dj_labels.specs.declared.labelled.Labelled.{Labelled}
 use Rattle.dj_report.proofs.Sorted.{contains_none, contains_cases}
-use Rattle.dj_names.specs.Types.{Name}
-use Rattle.dj_model.specs.Program.{Program}
-use Rattle.dj_declared.specs.Files.{type_in}
-use Rattle.dj_check.specs.Methods.{CatchesError}
-use Rattle.dj_link.specs.Lines.{IsFirstOf, LinkViolates, HandlerLinkViolates}
-use Rattle.dj_link.proofs.Rows.{catch_told}
+use Rattle.dj_names.specs.trusted.Types.{Name}
+use Rattle.dj_model.specs.trusted.Program.{Program}
+use Rattle.dj_declared.specs.trusted.Files.{type_in}
+use Rattle.dj_check.specs.trusted.Methods.{CatchesError}
+use Rattle.dj_link.specs.trusted.Lines.{IsFirstOf, LinkViolates, HandlerLinkViolates}
+use Rattle.dj_link.proofs.RuleNumbers.{catch_told}
 
 -- ---- what silences
 
@@ -27,7 +27,7 @@ no_other Foreign Unlinked rule (inr other) = inr other.2
 pool : List Constant
 pool = Utf8 (codes "E") ∷ Class 1 ∷ []
 
--- ldc of a class is told by rule 10 alone
+-- ldc of a class is reported by rule 10 alone
 reflected : (program : Program) (own : Name) (rule : ℕ) → LinkViolates program own pool (instrs.Literal 18 2) rule → ⊥
 unfolding pool
 reflected program own rule v = v.0 10 (inr (inl (inl (refl, tt), refl)))

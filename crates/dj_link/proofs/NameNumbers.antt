@@ -1,7 +1,7 @@
 -- Names of members, with their numbers where there is a directory.
 use Rattle.std.proofs.Common.{◌≡◌, ℕ, List, Option, Some, None, ap, ◌∙◌, Bor}
 use Rattle.std.specs.Prelude.{IfSome, option_and_then}
-use Rattle.dj_pool.specs.Pool.{Constant, text_at}
+use Rattle.dj_pool.specs.trusted.Pool.{Constant, text_at}
 use Rattle.dj_declared.specs.Members.{IsDescriptor}
 use Rattle.dj_directory.specs.Numberings.{Numbering, number_of}
 use Rattle.dj_link.specs.declared.name_numbers.MemberName.{MemberName}

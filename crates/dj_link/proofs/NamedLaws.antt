@@ -1,18 +1,18 @@
--- What is kept of a constant tells what the rules ask of it.
+-- What is kept of a constant answers what the rules ask of it.
 use Rattle.std.proofs.Common.{◌≡◌, ◌≢◌, ℕ, ◌≤◌, Bool, true, false, not, ◌&&◌, ◌||◌, List, Option, Some, None, refl, sym, ap, subst, arith, Decides, unwrap_or, IsTrue, IsFalse, IsSomeAnd, nat_eq}
 use Rattle.std.specs.Option.{option_map}
 use Rattle.std.specs.Cmp.Lexicographic.{same_text}
 use Rattle.std.proofs.lemmas.Bool.Decides.{Decides-like, Decides-at, Decides-and, Decides-or, Decides-not, Decides-eqb}
 use Rattle.std.proofs.lemmas.Cmp.{nat_list_eq_equiv}
 use Rattle.dj_names.specs.declared.descriptor.Ty.{Ty}
-use Rattle.dj_names.specs.Types.{Name, same_name}
-use Rattle.dj_pool.specs.Pool.{Constant}
-use Rattle.dj_model.specs.Types.{Member, constructor_name}
-use Rattle.dj_model.specs.Program.{Program, Class, class_at, flags_of, is_interface, is_abstract}
-use Rattle.dj_declared.specs.Members.{has_method_named}
-use Rattle.dj_link.specs.Named.{named_type, class_of_type, named_member, is_static_found, NamesNoClass, NamesNoMember}
-use Rattle.dj_link.specs.Foreign.{IsOfLibrary, IsForeignConstant, IsUnmakeable, NamesUnmakeable}
-use Rattle.dj_link.specs.Unlinked.{IsAbstractClass, IsAbstractType, NamesAbstract}
+use Rattle.dj_names.specs.trusted.Types.{Name, same_name}
+use Rattle.dj_pool.specs.trusted.Pool.{Constant}
+use Rattle.dj_model.specs.trusted.Types.{Member, constructor_name}
+use Rattle.dj_model.specs.trusted.Program.{Program, Class, class_at, flags_of, is_interface, is_abstract}
+use Rattle.dj_declared.specs.trusted.Members.{has_method_named}
+use Rattle.dj_link.specs.trusted.Named.{named_type, class_of_type, named_member, is_static_found, NamesNoClass, NamesNoMember}
+use Rattle.dj_link.specs.trusted.Foreign.{IsOfLibrary, IsForeignConstant, IsUnmakeable, NamesUnmakeable}
+use Rattle.dj_link.specs.trusted.Unlinked.{IsAbstractClass, IsAbstractType, NamesAbstract}
 use Rattle.dj_link.specs.Judged.{is_of_library, judged_class, judged_member, judged}
 use Rattle.dj_link.specs.Known.{lacks_class, lacks_member, is_library_class, is_foreign_named, is_unmakeable, AreUnmakeable, is_unmakeable_class, is_abstract_flags, is_abstract_class, is_marked, flags_at}
 use Rattle.dj_classes.specs.Tables.{class_number}
@@ -75,7 +75,7 @@ found_unmakeable (Some c) = (
   λ has. (unmakeable_decides c).1 (subst IsUnmakeable (sym (same_class c has.0 has.1)) has.2),
 )
 
--- the same of a type
+-- the same for a type
 abbrev TypeUnmakeable : Program → Ty → Type 0
 TypeUnmakeable program ty = (ty.dims ≡ 0) × (IsOfLibrary (class_of_type ty) × HasSuch (class_at program (class_of_type ty)))
 

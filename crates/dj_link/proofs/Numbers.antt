@@ -3,9 +3,9 @@ use Rattle.std.proofs.Common.{◌≡◌, ◌≢◌, ℕ, suc, Bool, true, false,
 use Rattle.std.specs.Option.{option_map}
 use Rattle.std.specs.Cmp.Lexicographic.{same_text}
 use Rattle.std.proofs.lemmas.Bool.Decides.{Decides-like}
-use Rattle.dj_names.specs.Types.{Name, same_name}
-use Rattle.dj_model.specs.Program.{Program, Class, class_at, flags_of}
-use Rattle.dj_model.specs.Linking.{chain, is_among}
+use Rattle.dj_names.specs.trusted.Types.{Name, same_name}
+use Rattle.dj_model.specs.trusted.Program.{Program, Class, class_at, flags_of}
+use Rattle.dj_model.specs.trusted.Linking.{chain, is_among}
 use Rattle.dj_classes.specs.Tables.{class_number, name_at}
 use Rattle.dj_link.specs.Known.{is_marked, flags_at, is_unmakeable, AreUnmakeable, AreAbove, is_above}
 use Rattle.dj_link.specs.declared.above.OwnClass.{OwnClass}
@@ -58,7 +58,7 @@ named_at_number (c ∷ program) name = named_or c program name (class_number pro
 pub number_named : (program : Program) (name : Name) (k : ℕ) → class_number program name ≡ Some k → name_at program k ≡ Some name
 number_named program name k e = subst (IsNamedAt program name) e (named_at_number program name)
 
--- ---- what is told of a class of a number
+-- ---- what is known of a class of a number
 
 pub none_decides : {T : Type 0} (o : Option T) → Decides (is_none o) (o ≡ None)
 none_decides None = (λ e. refl, λ e. refl)

@@ -3,25 +3,25 @@ use Rattle.std.proofs.Common.{◌≡◌, ℕ, ◌+◌, ◌⊎◌, ◌↔◌, Boo
 use Rattle.std.proofs.lemmas.Bool.{cases_lt, false_from_ne_true}
 use Rattle.std.proofs.lemmas.Option.{slice_get_within}
 use Rattle.std.specs.Prelude.{option_and_then}
-use Rattle.dj_names.specs.Types.{Name}
+use Rattle.dj_names.specs.trusted.Types.{Name}
 use Rattle.dj_ops.specs.declared.instruction.Instr.{Instr}
-use Rattle.dj_pool.specs.Pool.{Constant}
-use Rattle.dj_class.specs.ClassFile.{MemberInfo, ClassFile}
+use Rattle.dj_pool.specs.trusted.Pool.{Constant}
+use Rattle.dj_class.specs.trusted.ClassFile.{MemberInfo, ClassFile}
 use Rattle.dj_labels.specs.declared.labelled.Protected.{Protected}
 use Rattle.dj_labels.specs.declared.labelled.Labelled.{Labelled}
 use Rattle.dj_report.specs.Lines.{Gains}
 use Rattle.dj_report.proofs.Adding.{adds_same, adds_nothing, adds_both, not_both}
-use Rattle.dj_rules.specs.Violations.{this_name}
+use Rattle.dj_rules.specs.trusted.Violations.{this_name}
 use Rattle.dj_check.specs.declared.code.WholeCode.{WholeCode}
 use Rattle.dj_check.specs.declared.marks.Place.{Place}
 use Rattle.dj_check.specs.declared.marks.Mark.{Mark}
-use Rattle.dj_check.specs.Attributes.{codes_of}
-use Rattle.dj_check.specs.Instructions.{index_of}
-use Rattle.dj_check.specs.Methods.{InstrViolates, CatchesError}
+use Rattle.dj_check.specs.trusted.Attributes.{codes_of}
+use Rattle.dj_check.specs.trusted.Instructions.{index_of}
+use Rattle.dj_check.specs.trusted.Methods.{InstrViolates, CatchesError}
 use Rattle.dj_check.specs.Passes.{IsWholeMethod}
 use Rattle.dj_check.specs.Marks.{mark_at, place_of, MarksAt, MarksOf}
 use Rattle.dj_check.proofs.MethodLaws.{one_labelled, labelled_own, no_code_of}
-use Rattle.dj_link.specs.Lines.{IsUntold, IsFirstOf, LinkViolates, CatchViolates, CodeLinkViolates, MethodLinkViolates}
+use Rattle.dj_link.specs.trusted.Lines.{IsUntold, IsFirstOf, LinkViolates, CatchViolates, CodeLinkViolates, MethodLinkViolates}
 use Rattle.dj_link.specs.declared.known.Known.{Known}
 use Rattle.dj_link.specs.Judged.{kept_at}
 use Rattle.dj_link.specs.Known.{is_foreign, is_foreign_by, is_unlinked, is_unlinked_at, is_foreign_catch, is_unlinked_catch, IsKnown, IsRuled, KnownInstr, KnownCatch, KnownBelow, KnownRange, KnownCode}

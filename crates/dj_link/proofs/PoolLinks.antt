@@ -2,9 +2,9 @@
 use Rattle.std.proofs.Common.{◌≡◌, ℕ, zero, suc, Bool, true, false, cond, List, [], ◌∷◌, Option, Some, None, IsSomeAnd, slice_get, option_and_then, refl, sym, subst}
 use Rattle.std.specs.List.{AllByRecursion}
 use Rattle.dj_names.specs.declared.descriptor.Desc.TheVariants as descs
-use Rattle.dj_names.specs.Descriptors.{Describes, IsFieldDescriptor, IsMethodDescriptor}
-use Rattle.dj_pool.specs.Pool.{Constant, Class, Field, Method, InterfaceMethod, Hole, takes_two, indexed, constant_at, text_at, class_text_of, names_of, both, IsClassText, NamesText, IsLinked, IsConstant, IsPool}
-use Rattle.dj_check.specs.Classes.{class_text_index, names_at}
+use Rattle.dj_names.specs.trusted.Descriptors.{Describes, IsFieldDescriptor, IsMethodDescriptor}
+use Rattle.dj_pool.specs.trusted.Pool.{Constant, Class, Field, Method, InterfaceMethod, Hole, takes_two, indexed, constant_at, text_at, class_text_of, names_of, both, IsClassText, NamesText, IsLinked, IsConstant, IsPool}
+use Rattle.dj_check.specs.trusted.Classes.{class_text_index, names_at}
 use Rattle.dj_declared.specs.Members.{IsDescriptor}
 use Rattle.dj_link.proofs.ClassTexts.{desc_in_is}
 

@@ -1,18 +1,18 @@
 -- The rules 17 and 18 of instructions and handlers of a class D below C, by plain values: the number of the rule, or 0 where neither is violated.
 use Rattle.std.proofs.Common.{◌≡◌, ℕ, List, [], ◌∷◌, ◌++◌, map, replicate, Some, None, codes, pos, refl}
-use Rattle.dj_names.specs.Types.{Name}
-use Rattle.dj_names.specs.Library.{int}
-use Rattle.dj_names.specs.NameReading.{reads_class_name}
-use Rattle.dj_names.specs.DescReading.{dims_read, name_read, class_read, of_read, type_read, params_read, field_read, return_read, method_read, desc_read}
+use Rattle.dj_names.specs.trusted.Types.{Name}
+use Rattle.dj_names.specs.trusted.Library.{int}
+use Rattle.dj_names.specs.trusted.NameReading.{reads_class_name}
+use Rattle.dj_names.specs.trusted.DescReading.{dims_read, name_read, class_read, of_read, type_read, params_read, field_read, return_read, method_read, desc_read}
 use Rattle.dj_ops.specs.declared.instruction.Instr.{Instr}
 use Rattle.dj_ops.specs.declared.instruction.Instr.TheVariants as instrs
-use Rattle.dj_pool.specs.Pool.{Constant, Utf8, Integer, Float, Long, Double, Class, Text, Field, Method, InterfaceMethod, NameAndType, Handle, MethodType, Dynamic, Hole}
-use Rattle.dj_model.specs.Program as programs
-use Rattle.dj_model.specs.Program.{Program, Abstract}
-use Rattle.dj_model.specs.Linking.{most_classes, chain_of, interfaces_from, interfaces_above, field_order, resolve_method, resolve_field}
-use Rattle.dj_model.specs.Rows.{code, method_with, plain_constructor, field_with, class_with}
-use Rattle.dj_declared.specs.Files.{desc_in, type_in}
-use Rattle.dj_link.proofs.Rows.{instr_rule, catch_rule}
+use Rattle.dj_pool.specs.trusted.Pool.{Constant, Utf8, Integer, Float, Long, Double, Class, Text, Field, Method, InterfaceMethod, NameAndType, Handle, MethodType, Dynamic, Hole}
+use Rattle.dj_model.specs.trusted.Program as programs
+use Rattle.dj_model.specs.trusted.Program.{Program, Abstract}
+use Rattle.dj_model.specs.trusted.Linking.{most_classes, chain_of, interfaces_from, interfaces_above, field_order, resolve_method, resolve_field}
+use Rattle.dj_model.specs.SmallRuns.{code, method_with, plain_constructor, field_with, class_with}
+use Rattle.dj_declared.specs.trusted.Files.{desc_in, type_in}
+use Rattle.dj_link.proofs.RuleNumbers.{instr_rule, catch_rule}
 
 -- ---- a program
 

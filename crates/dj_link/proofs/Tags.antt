@@ -1,9 +1,9 @@
--- The tag that is kept of a constant tells what an instruction takes.
+-- The tag that is kept of a constant decides which instructions take it.
 use Rattle.std.proofs.Common.{◌≡◌, ◌&&◌, ◌||◌, refl, nat_le, nat_eq, if◌then◌else◌}
 use Rattle.dj_ops.specs.declared.instruction.Instr.{Instr}
 use Rattle.dj_ops.specs.declared.instruction.Instr.TheVariants as instrs
-use Rattle.dj_pool.specs.Pool.{Constant, Field}
-use Rattle.dj_link.specs.Unlinked.{is_short_literal, is_long_literal, is_field, is_method, is_interface_method, is_class, is_dynamic, takes}
+use Rattle.dj_pool.specs.trusted.Pool.{Constant, Field}
+use Rattle.dj_link.specs.trusted.Unlinked.{is_short_literal, is_long_literal, is_field, is_method, is_interface_method, is_class, is_dynamic, takes}
 use Rattle.dj_link.specs.Judged.{tag_of}
 use Rattle.dj_link.specs.Known.{is_short_tag, is_long_tag, is_field_tag, is_method_tag, is_interface_tag, is_class_tag, is_dynamic_tag, takes_tag}
 

@@ -1,14 +1,14 @@
--- The code's own: what is kept of a constant, so that it is looked at once.
+-- Used by the code alone: what is kept of a constant, so that it is looked at once.
 use Rattle.std.specs.Prelude.{◌≡◌, ℕ, Bool, ◌||◌, List, Option, codes, nat_eq, slice_get, option_and_then}
 use Rattle.std.specs.Option.{option_map}
 use Rattle.std.specs.List.{starts_with}
 use Rattle.dj_names.specs.declared.descriptor.Ty.{Ty}
-use Rattle.dj_names.specs.Types.{Name, same_name}
-use Rattle.dj_pool.specs.Pool.{Constant, Integer, Float, Long, Double, Class, Text, Field, Method, InterfaceMethod, Handle, MethodType, Dynamic, constant_at}
-use Rattle.dj_model.specs.Types.{Member, constructor_name, initialiser_name}
-use Rattle.dj_model.specs.Program.{Program}
+use Rattle.dj_names.specs.trusted.Types.{Name, same_name}
+use Rattle.dj_pool.specs.trusted.Pool.{Constant, Integer, Float, Long, Double, Class, Text, Field, Method, InterfaceMethod, Handle, MethodType, Dynamic, constant_at}
+use Rattle.dj_model.specs.trusted.Types.{Member, constructor_name, initialiser_name}
+use Rattle.dj_model.specs.trusted.Program.{Program}
 use Rattle.dj_classes.specs.Tables.{class_number}
-use Rattle.dj_link.specs.Named.{named_type, class_of_type, named_member, is_static_found}
+use Rattle.dj_link.specs.trusted.Named.{named_type, class_of_type, named_member, is_static_found}
 use Rattle.dj_link.specs.declared.named.Tag.{Tag}
 use Rattle.dj_link.specs.declared.named.Tag.TheVariants as tags
 use Rattle.dj_link.specs.declared.named.NamedClass.{NamedClass}

@@ -1,21 +1,21 @@
--- The code's own: what the rules ask of what is kept of constants, and of the classes of the set by their numbers.
+-- Used by the code alone: the rules 17 and 18 by what is kept of constants, and of the classes of the set by their numbers.
 use Rattle.std.specs.Prelude.{◌≡◌, ℕ, ◌<◌, ◌⊎◌, Bool, true, false, not, ◌&&◌, ◌||◌, List, length, Option, Some, None, nat_eq, nat_le, if◌then◌else◌, is_none, slice_get, option_and_then, unwrap_or, Contains, IsTrue, IsFalse}
 use Rattle.std.specs.Option.{option_map}
-use Rattle.dj_names.specs.Types.{Name}
+use Rattle.dj_names.specs.trusted.Types.{Name}
 use Rattle.dj_ops.specs.declared.instruction.Instr.{Instr}
 use Rattle.dj_ops.specs.declared.instruction.Instr.TheVariants as instrs
-use Rattle.dj_pool.specs.Pool.{Constant}
+use Rattle.dj_pool.specs.trusted.Pool.{Constant}
 use Rattle.dj_labels.specs.declared.labelled.Protected.{Protected}
 use Rattle.dj_labels.specs.declared.labelled.Labelled.{Labelled}
-use Rattle.dj_model.specs.Types.{constructor_name}
-use Rattle.dj_model.specs.Program.{Program, Class, flags_of, is_interface, is_abstract}
-use Rattle.dj_model.specs.Linking.{chain, is_among}
-use Rattle.dj_declared.specs.Members.{has_method_named}
+use Rattle.dj_model.specs.trusted.Types.{constructor_name}
+use Rattle.dj_model.specs.trusted.Program.{Program, Class, flags_of, is_interface, is_abstract}
+use Rattle.dj_model.specs.trusted.Linking.{chain, is_among}
+use Rattle.dj_declared.specs.trusted.Members.{has_method_named}
 use Rattle.dj_classes.specs.Tables.{name_at}
-use Rattle.dj_check.specs.Instructions.{index_of}
-use Rattle.dj_check.specs.Methods.{CatchesError}
-use Rattle.dj_link.specs.Unlinked.{differ, asks_static, is_special}
-use Rattle.dj_link.specs.Lines.{IsUntold, IsFirstOf}
+use Rattle.dj_check.specs.trusted.Instructions.{index_of}
+use Rattle.dj_check.specs.trusted.Methods.{CatchesError}
+use Rattle.dj_link.specs.trusted.Unlinked.{differ, asks_static, is_special}
+use Rattle.dj_link.specs.trusted.Lines.{IsUntold, IsFirstOf}
 use Rattle.dj_link.specs.Judged.{AreJudged, kept_at}
 use Rattle.dj_link.specs.declared.above.OwnClass.{OwnClass}
 use Rattle.dj_link.specs.declared.named.Tag.{Tag}
@@ -32,7 +32,7 @@ abbrev pub is_marked : List Bool → Option ℕ → Bool
 is_marked marks None = false
 is_marked marks (Some class) = unwrap_or (slice_get marks class) false
 
--- the flags of the class of a number, none where there is no class
+-- the flags of the class of a number; 0 where there is no class
 abbrev pub flags_at : Program → Option ℕ → ℕ
 flags_at program number = flags_of (option_and_then (slice_get program) number)
 
@@ -44,17 +44,17 @@ is_unmakeable c = not (has_method_named c.methods constructor_name) || is_interf
 abbrev pub AreUnmakeable : Program → List Bool → Type 0
 AreUnmakeable program marks = (class : ℕ) → slice_get marks class ≡ option_map is_unmakeable (slice_get program class)
 
--- of two classes that are there, whether the second is the first or one of its superclasses
+-- whether the second class is the first or one of its superclasses, where both are there
 abbrev pub is_named_above : Program → Option Name → Option Name → Bool
 is_named_above program None other = false
 is_named_above program (Some own) None = false
 is_named_above program (Some own) (Some name) = is_among (chain program own) name
 
--- whether the class of a number is the own one or one of its superclasses
+-- whether the class of a number is the method's own class or one of its superclasses
 abbrev pub is_above : OwnClass → Option ℕ → Bool
 is_above own number = is_named_above own.linker.now.program (option_and_then (name_at own.linker.now.program) own.number) (option_and_then (name_at own.linker.now.program) number)
 
--- the own class is that of this name
+-- the kept class is that of this name
 abbrev pub AreAbove : Program → Name → OwnClass → Type 0
 AreAbove program name own = (class : ℕ) (other : Name) → name_at program class ≡ Some other → is_above own (Some class) ≡ is_among (chain program name) other
 
@@ -72,7 +72,7 @@ abbrev pub is_library_class : Option NamedClass → Bool
 is_library_class None = false
 is_library_class (Some class) = class.of_library
 
--- rule 17, of a constant
+-- rule 17, for a constant
 abbrev pub is_foreign_named : NamedConstant → Bool
 is_foreign_named n = is_library_class n.class && (lacks_class n.class || lacks_member n.member)
 
@@ -91,7 +91,7 @@ abbrev pub is_abstract_class : Program → Option NamedClass → Bool
 is_abstract_class program None = false
 is_abstract_class program (Some class) = not (nat_eq class.dims 0) || is_abstract_flags (flags_at program class.number)
 
--- ---- what an instruction asks
+-- ---- what an instruction requires
 
 -- new
 abbrev pub makes : Instr → Bool
@@ -148,7 +148,7 @@ takes_tag (instrs.Class op index) tag = is_class_tag tag
 takes_tag (instrs.Multi index dims) tag = is_class_tag tag
 takes_tag instr tag = false
 
--- ---- rule 18, of an instruction and its constant
+-- ---- rule 18, for an instruction and its constant
 
 abbrev pub is_own_or_above_class : OwnClass → NamedClass → Bool
 is_own_or_above_class own class = nat_eq class.dims 0 && is_above own class.number
@@ -192,7 +192,7 @@ is_foreign_by known instr (Some n) = is_foreign_named n || (makes instr && is_un
 abbrev pub is_foreign : Known → Instr → Bool
 is_foreign known instr = is_foreign_by known instr (named_by known.kept.now instr)
 
--- whether an instruction that names this constant names one that isn't there or that it doesn't take, or asks what isn't so
+-- whether rule 18 is violated by an instruction that names this constant
 abbrev pub is_unlinked_by : Known → Instr → Option NamedConstant → Bool
 is_unlinked_by known instr None = true
 is_unlinked_by known instr (Some n) = not (takes_tag instr n.tag) || is_unlinked_named known instr n
@@ -218,7 +218,7 @@ is_unlinked_catch_by (Some n) = not (is_class_tag n.tag) || lacks_class n.class
 abbrev pub is_unlinked_catch : Known → ℕ → Bool
 is_unlinked_catch known index = not (nat_eq index 0) && is_unlinked_catch_by (kept_at known.kept.now index)
 
--- what is known is right, in a class file of this class and with this pool
+-- what is kept is right, in a class file of this class and with this pool
 pub record IsKnown (own : Name) (pool : List Constant) (known : Known) : Type 0 where
   pub constants : AreJudged known.table.now pool known.kept.now
   pub above : AreAbove known.table.now own known.own
@@ -226,7 +226,7 @@ pub record IsKnown (own : Name) (pool : List Constant) (known : Known) : Type 0 
 
 -- ---- lines
 
--- rule 17 or rule 18, where it isn't told by another rule
+-- rule 17 or rule 18, unless another rule is reported in its place
 abbrev pub IsRuled : Bool → Bool → Bool → ℕ → Type 0
 IsRuled told foreign unlinked rule = IsFalse told × IsFirstOf (IsTrue foreign) (IsTrue unlinked) rule
 
@@ -236,7 +236,7 @@ KnownInstr known pool instr rule = IsUntold pool instr × IsFirstOf (IsTrue (is_
 abbrev pub KnownCatch : Known → List Constant → ℕ → ℕ → Type 0
 KnownCatch known pool index rule = (CatchesError pool index → ⊥) × IsFirstOf (IsTrue (is_foreign_catch known index)) (IsTrue (is_unlinked_catch known index)) rule
 
--- one of the first instructions, so many
+-- one of the first instructions, this many
 pub record KnownBelow (count : ℕ) (known : Known) (pool : List Constant) (code : List Instr) (number : Option ℕ) (rule : ℕ) : Type 0 where
   pub at : ℕ
   pub below : at < count

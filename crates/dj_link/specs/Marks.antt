@@ -1,24 +1,24 @@
--- The code's own: marks of the rules 17 and 18, before lines are made of them.
+-- Used by the code alone: marks of the rules 17 and 18, before lines are made of them.
 use Rattle.std.specs.Prelude.{◌≡◌, ℕ, List, Option, Some, slice_get, Contains}
 use Rattle.dj_ops.specs.declared.instruction.Instr.{Instr}
-use Rattle.dj_pool.specs.Pool.{Constant}
-use Rattle.dj_class.specs.ClassFile.{MemberInfo, ClassFile}
+use Rattle.dj_pool.specs.trusted.Pool.{Constant}
+use Rattle.dj_class.specs.trusted.ClassFile.{MemberInfo, ClassFile}
 use Rattle.dj_labels.specs.declared.labelled.Protected.{Protected}
 use Rattle.dj_check.specs.declared.marks.Mark.{Mark}
 use Rattle.dj_check.specs.Marks.{MarksOf}
-use Rattle.dj_check.specs.Methods.{MethodViolates}
-use Rattle.dj_link.specs.Lines.{IsUntold}
+use Rattle.dj_check.specs.trusted.Methods.{MethodViolates}
+use Rattle.dj_link.specs.trusted.Lines.{IsUntold}
 use Rattle.dj_link.specs.declared.known.Known.{Known}
 use Rattle.dj_link.specs.Known.{KnownRange}
 
--- none of the rules 9 to 15 is violated by an instruction of the code
+-- no instruction of the code violates one of the rules 9 to 15
 abbrev pub AreUntold : List Constant → List Instr → Type 0
 AreUntold pool code = (number : ℕ) (instr : Instr) → slice_get code number ≡ Some instr → IsUntold pool instr
 
--- none of the rules 9 to 16 is violated by the method
+-- the method violates none of the rules 9 to 16
 abbrev pub IsUntoldMethod : ClassFile → MemberInfo → Type 0
 IsUntoldMethod c m = (number : Option ℕ) (rule : ℕ) → MethodViolates c m number rule → ⊥
 
--- marks of the handlers of a method of these names
+-- marks of the handlers of a method with these names
 abbrev pub AreRangeMarks : ℕ × ℕ → Known → List Constant → List Protected → Mark → Type 0
 AreRangeMarks names known pool ranges mark = (range : Protected) × Contains ranges range × MarksOf names (KnownRange known pool range) mark

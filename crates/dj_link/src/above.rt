@@ -4,7 +4,7 @@ ghost use Rattle.dj_link.specs.Known.{AreAbove, is_above, is_named_above};
 
 use dj_linking::Linker;
 
-/// The class of a file, of which it is asked what stands above it.
+/// The class of a file, with what is needed to find out what is above it.
 #[derive(Clone, Copy)]
 pub struct OwnClass<'a> {
     /// The classes.
@@ -13,7 +13,7 @@ pub struct OwnClass<'a> {
     pub number: Option<u32>,
 }
 
-// Whether the class of a number is that of the other one or one of its superclasses, where both are there.
+// Whether the second class is the first or one of its superclasses, where both are there.
 fn is_numbered_above(linker: &Linker, own: u32, class: u32) -> bool
     ensures { result ≡ is_named_above linker.now.program (name_at linker.now.program own) (name_at linker.now.program class) }
 {

@@ -1,6 +1,6 @@
 ghost use Rattle.std.specs.Prelude.{◌≡◌};
-ghost use Rattle.dj_check.specs.Instructions.{index_of};
-ghost use Rattle.dj_link.specs.Unlinked.{differ, asks_static, is_special};
+ghost use Rattle.dj_check.specs.trusted.Instructions.{index_of};
+ghost use Rattle.dj_link.specs.trusted.Unlinked.{differ, asks_static, is_special};
 ghost use Rattle.dj_link.specs.Known.{makes, makes_array, is_short_tag, takes_member_tag, takes_literal_tag, takes_tag, is_misused_member};
 
 use crate::named::{NamedMember, Tag};
@@ -51,7 +51,7 @@ pub fn is_special(instr: &Instr) -> bool
     }
 }
 
-// Whether the instruction asks for a static member; none where it names none.
+// Whether the instruction requires a static member; none where it names no member.
 fn asks_static(instr: &Instr) -> Option<bool>
     ensures { result ≡ asks_static instr.now }
 {
@@ -72,7 +72,7 @@ fn differ(a: Option<bool>, b: Option<bool>) -> bool
     }
 }
 
-/// Whether the member is static otherwise than the instruction asks, or one that the instruction may not name.
+/// Whether the member is static where the instruction requires that it isn't, or the reverse, or is one that the instruction may not name.
 pub fn is_misused_member(instr: &Instr, member: NamedMember) -> bool
     ensures { result ≡ is_misused_member instr.now member }
 {

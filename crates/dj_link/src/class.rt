@@ -1,13 +1,13 @@
 ghost use Rattle.std.specs.Prelude.{◌≡◌, [], ◌<◌, ◌^◌, length, OnOk, unwrap_or};
-ghost use Rattle.dj_class.specs.ClassFile.{IsValid};
+ghost use Rattle.dj_class.specs.trusted.ClassFile.{IsValid};
 ghost use Rattle.dj_class.specs.Views.{class_of};
 ghost use Rattle.dj_report.specs.Lines.{Adds};
 ghost use Rattle.dj_rules.specs.Reads.{IsViewOf};
 ghost use Rattle.dj_rules.specs.Views.{path_file_view};
-ghost use Rattle.dj_rules.specs.Violations.{this_name};
-ghost use Rattle.dj_check.specs.Malformed.{IsFaulty, IsRefused};
-ghost use Rattle.dj_check.specs.Rules.{IsMemberLine};
-ghost use Rattle.dj_link.specs.Lines.{MethodLinkViolates, IsFileLinkLine};
+ghost use Rattle.dj_rules.specs.trusted.Violations.{this_name};
+ghost use Rattle.dj_check.specs.trusted.Malformed.{IsFaulty, IsRefused};
+ghost use Rattle.dj_check.specs.trusted.Rules.{IsMemberLine};
+ghost use Rattle.dj_link.specs.trusted.Lines.{MethodLinkViolates, IsFileLinkLine};
 ghost use Rattle.dj_link.specs.Known.{AreUnmakeable};
 ghost use Rattle.dj_link.specs.Constants.{IsDirectoryOf};
 
@@ -89,7 +89,7 @@ fn add_view_lines(
     }
 }
 
-/// Appends all lines of a file, in order among themselves. So all lines are in order already if the files are.
+/// Appends all lines of a file, sorted among themselves. So all lines are in order where the files are.
 pub fn add_file_lines(
     alloc: Global,
     found: &mut Vec<Violation>,

@@ -1,20 +1,20 @@
 ghost use Rattle.std.specs.Prelude.{◌≡◌, ◌≤◌, [], length};
 ghost use Rattle.dj_names.specs.declared.descriptor.Of.{Of};
-ghost use Rattle.dj_names.specs.Descriptors.{of_text};
-ghost use Rattle.dj_pool.specs.Pool.{IsClassText};
-ghost use Rattle.dj_model.specs.Types.{object_name};
-ghost use Rattle.dj_model.specs.Linking.{class_or_object};
-ghost use Rattle.dj_declared.specs.Files.{type_in};
-ghost use Rattle.dj_link.specs.Named.{class_of_type};
+ghost use Rattle.dj_names.specs.trusted.Descriptors.{of_text};
+ghost use Rattle.dj_pool.specs.trusted.Pool.{IsClassText};
+ghost use Rattle.dj_model.specs.trusted.Types.{object_name};
+ghost use Rattle.dj_model.specs.trusted.Linking.{class_or_object};
+ghost use Rattle.dj_declared.specs.trusted.Files.{type_in};
+ghost use Rattle.dj_link.specs.trusted.Named.{class_of_type};
 ghost use Rattle.dj_link.specs.Judged.{is_of_library};
 ghost use Rattle.dj_link.specs.Constants.{brackets};
 
-/// The class for which the text of a class constant stands.
+/// The class that the text of a class constant names.
 #[derive(Clone, Copy)]
 pub struct ClassText<'a> {
-    /// The dimensions, 0 of what is no array.
+    /// The dimensions; 0 where it is no array.
     pub dims: u8,
-    /// The name of the class that counts: of an array that of its elements, and Object where these are of a base type.
+    /// The name of the class that is looked up: an array's is that of its elements, and Object where these are of a base type.
     pub class: &'a [u8],
 }
 
@@ -25,7 +25,7 @@ pub fn object_name() -> &'static [u8]
     b"java/lang/Object"
 }
 
-// The brackets at the front.
+// How many brackets the text begins with.
 fn brackets(text: &[u8]) -> u8
     requires { brackets text.now ≤ 255 }
     ensures count { result ≡ brackets text.now }
@@ -41,7 +41,7 @@ fn brackets(text: &[u8]) -> u8
     dims
 }
 
-// The class of an element, whose descriptor stands after the brackets.
+// The class of an element, whose descriptor comes after the brackets.
 fn element_class(text: &[u8]) -> &[u8]
     ensures { (of : Of) → text.now ≡ of_text of → result.now ≡ class_or_object [] of }
 {
@@ -51,7 +51,7 @@ fn element_class(text: &[u8]) -> &[u8]
     }
 }
 
-/// The class for which the text of a class constant stands. A class's name isn't looked at beyond its first byte.
+/// The class that the text of a class constant names. Only the first byte of a class's name is looked at.
 pub fn class_text(text: &[u8]) -> ClassText<'_>
     requires { IsClassText text.now }
     ensures dims { result.dims ≡ (type_in text.now).dims }

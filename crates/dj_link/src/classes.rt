@@ -1,6 +1,6 @@
 ghost use Rattle.std.specs.Prelude.{◌≡◌, ◌<◌, length, slice_get, Some, IfOk};
 ghost use Rattle.std.specs.Option.{option_map};
-ghost use Rattle.dj_model.specs.Program.{is_interface, is_abstract};
+ghost use Rattle.dj_model.specs.trusted.Program.{is_interface, is_abstract};
 ghost use Rattle.dj_link.specs.Known.{is_marked, flags_at, is_unmakeable, AreUnmakeable};
 
 use crate::error::LinkError;
@@ -31,7 +31,7 @@ pub fn is_marked(marks: &[bool], class: Option<u32>) -> bool
     }
 }
 
-/// The flags of the class of a number, none where there is no class.
+/// The flags of the class of a number; 0 where there is no class.
 pub fn flags_at(table: &ClassTable, class: Option<u32>) -> u16
     ensures { result ≡ flags_at table.now class }
 {
@@ -49,7 +49,7 @@ fn is_unmakeable(table: &ClassTable, class: u32) -> bool
     !table.has_method(class, b"<init>") || is_interface(table.flags_of(class))
 }
 
-/// Of all classes by their numbers, whether no object of a class can be made. The methods of each class are looked through once.
+/// For each class, by its number, whether no object of it can be made. The methods of each class are looked at once.
 pub fn unmakeable_classes(alloc: Global, table: &ClassTable) -> Result<Vec<bool>, LinkError>
     ensures { IfOk result (λ marks. AreUnmakeable table.now marks.items) }
 {

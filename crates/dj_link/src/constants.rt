@@ -1,11 +1,11 @@
 ghost use Rattle.std.specs.Prelude.{◌≡◌, ◌<◌, [], length, Some, nat_eq, if◌then◌else◌, IfOk, IfSome};
 ghost use Rattle.std.specs.Option.{option_map};
-ghost use Rattle.dj_pool.specs.Pool.{IsPool, IsClassText, IsLinked, NamesText, text_at};
+ghost use Rattle.dj_pool.specs.trusted.Pool.{IsPool, IsClassText, IsLinked, NamesText, text_at};
 ghost use Rattle.dj_pool.specs.Views.{constant_of};
-ghost use Rattle.dj_model.specs.Types.{object_name};
+ghost use Rattle.dj_model.specs.trusted.Types.{object_name};
 ghost use Rattle.dj_classes.specs.Tables.{class_number};
-ghost use Rattle.dj_check.specs.Classes.{class_text_index};
-ghost use Rattle.dj_link.specs.Named.{named_type, named_member};
+ghost use Rattle.dj_check.specs.trusted.Classes.{class_text_index};
+ghost use Rattle.dj_link.specs.trusted.Named.{named_type, named_member};
 ghost use Rattle.dj_link.specs.Judged.{tag_of, judged_class, judged_member, judged, AreJudged};
 ghost use Rattle.dj_link.specs.Constants.{text_class, static_in, AreSeen, AreNumbersSeenBy, IsDirectoryOf, IsNumbered};
 
@@ -57,7 +57,7 @@ fn class_text_index(pool: &Pool<'_>, entry: Entry<'_>) -> Option<u16>
     }
 }
 
-// The class for which a text stands.
+// The class that a text names.
 fn judge_class(linker: &Linker, text: &[u8]) -> NamedClass
     requires { IsClassText text.now }
     ensures { result ≡ text_class linker.now.program text.now }
@@ -70,7 +70,7 @@ fn judge_class(linker: &Linker, text: &[u8]) -> NamedClass
     }
 }
 
-// The class for which the text of an index stands: seen before, or from now on.
+// The class that the text at an index names: the one that was kept, or else it is found out and kept.
 fn see_class(
     linker: &Linker,
     pool: &Pool<'_>,
@@ -114,7 +114,7 @@ fn class_of(
 
 // ---- members
 
-// The number of the class in which members of a class are looked for: those of an array are Object's.
+// The number of the class in which members of a class are looked up; those of an array are Object's.
 fn member_class(object: Option<u32>, class: NamedClass) -> Option<u32>
     ensures { result ≡ if nat_eq class.dims 0 then class.number else object }
 {
@@ -201,7 +201,7 @@ fn judge_constant(
     }
 }
 
-/// What each constant of a pool names, by its index. Each text is looked at once.
+/// What each constant of a pool names, by its index. Each text is looked up once.
 pub fn judge_constants(
     alloc: Global,
     linker: &Linker,

@@ -1,8 +1,9 @@
 ghost use Rattle.std.specs.Prelude.{◌≡◌, ◌<◌, ◌^◌, [], length, map, All, IfOk, OnOk};
-ghost use Rattle.dj_report.specs.Lines.{Adds, AreExactly};
+ghost use Rattle.dj_report.specs.trusted.Lines.{AreExactly};
+ghost use Rattle.dj_report.specs.Lines.{Adds};
 ghost use Rattle.dj_rules.specs.Views.{path_file_view};
-ghost use Rattle.dj_check.specs.Malformed.{IsRefused};
-ghost use Rattle.dj_link.specs.Lines.{IsLinkLine};
+ghost use Rattle.dj_check.specs.trusted.Malformed.{IsRefused};
+ghost use Rattle.dj_link.specs.trusted.Lines.{IsLinkLine};
 ghost use Rattle.dj_link.specs.Constants.{IsDirectoryOf};
 
 use crate::class::add_file_lines;
@@ -13,7 +14,7 @@ use dj_linking::Linker;
 use dj_report::{PathFile, Violation, Violations, in_order};
 use std::alloc::Global;
 
-// Appends all lines of the rules 17 and 18. No file violates rule 1. The directory, where there is one, is that of the linked classes.
+// Appends all lines of the rules 17 and 18, of files that don't violate rule 1. The directory, where there is one, is that of the linked classes.
 fn add_lines_by(
     alloc: Global,
     found: &mut Vec<Violation>,
@@ -34,7 +35,7 @@ fn add_lines_by(
     Ok(())
 }
 
-/// Appends all lines of the rules 17 and 18. No file violates rule 1.
+/// Appends all lines of the rules 17 and 18, of files that don't violate rule 1.
 pub fn add_link_lines(
     alloc: Global,
     found: &mut Vec<Violation>,
@@ -53,7 +54,7 @@ pub fn add_link_lines(
     }
 }
 
-/// All violations of the rules 17 and 18, in order, each once. No file violates rule 1.
+/// All violations of the rules 17 and 18 by files that don't violate rule 1, in order, each once.
 pub fn links(
     alloc: Global,
     linker: &Linker,

@@ -22,7 +22,7 @@ fn named_by(kept: &[Option<NamedConstant>], instr: &Instr) -> Option<NamedConsta
     }
 }
 
-/// Whether an instruction is of the rule WHITELIST.
+/// Whether an instruction violates the rule WHITELIST.
 pub fn is_foreign(known: &Known<'_>, instr: &Instr) -> bool
     ensures { result ≡ is_foreign known.now instr.now }
 {
@@ -42,14 +42,14 @@ fn is_own_or_above_class(own: OwnClass<'_>, class: NamedClass) -> bool
     class.dims == 0 && is_above(own, class.number)
 }
 
-// Whether it is invokespecial of another method than a constructor that is neither in the own class nor in a superclass.
+// Whether it is invokespecial of a method that is no constructor, of a class that is neither the file's own nor one of its superclasses.
 fn is_far_special(own: OwnClass<'_>, instr: &Instr, class: NamedClass, member: NamedMember) -> bool
     ensures { result ≡ is_far_special own.entry instr.now class member }
 {
     is_special(instr) && !member.is_constructor && !is_own_or_above_class(own, class)
 }
 
-// Whether the member isn't what the instruction asks.
+// Whether the member isn't what the instruction requires.
 fn is_unlinked_member(
     own: OwnClass<'_>,
     instr: &Instr,
@@ -66,7 +66,7 @@ fn is_unlinked_member(
     }
 }
 
-// Whether it is a method of an interface that is named as one of a class, or the reverse.
+// Whether a method of an interface is named as one of a class, or the reverse.
 fn has_wrong_kind(table: &ClassTable, tag: Tag, class: NamedClass) -> bool
     ensures { result ≡ has_wrong_kind table.now tag class }
 {
@@ -77,7 +77,7 @@ fn has_wrong_kind(table: &ClassTable, tag: Tag, class: NamedClass) -> bool
     }
 }
 
-// Whether the class isn't what the constant or the instruction asks.
+// Whether the class isn't what the constant or the instruction requires.
 fn is_unlinked_class(table: &ClassTable, instr: &Instr, tag: Tag, class: Option<NamedClass>) -> bool
     ensures { result ≡ is_unlinked_class table.now instr.now tag class }
 {
@@ -89,7 +89,7 @@ fn is_unlinked_class(table: &ClassTable, instr: &Instr, tag: Tag, class: Option<
     }
 }
 
-// Whether what a constant names isn't there, or isn't what the instruction asks.
+// Whether what a constant names isn't there, or isn't what the instruction requires.
 fn is_unlinked_named(known: &Known<'_>, instr: &Instr, named: NamedConstant) -> bool
     ensures { result ≡ is_unlinked_named known.now instr.now named }
 {
@@ -100,7 +100,7 @@ fn is_unlinked_named(known: &Known<'_>, instr: &Instr, named: NamedConstant) -> 
         || (makes(instr) && is_abstract_class(known.table, named.class))
 }
 
-// Whether an instruction that names a constant of which this is kept is of the rule UNRESOLVED.
+// Whether an instruction that names this constant violates the rule UNRESOLVED.
 fn is_unlinked_by(known: &Known<'_>, instr: &Instr, named: Option<NamedConstant>) -> bool
     ensures { result ≡ is_unlinked_by known.now instr.now named }
 {
@@ -110,7 +110,7 @@ fn is_unlinked_by(known: &Known<'_>, instr: &Instr, named: Option<NamedConstant>
     }
 }
 
-/// Whether an instruction is of the rule UNRESOLVED.
+/// Whether an instruction violates the rule UNRESOLVED.
 pub fn is_unlinked(known: &Known<'_>, instr: &Instr) -> bool
     ensures { result ≡ is_unlinked known.now instr.now }
 {
@@ -120,7 +120,7 @@ pub fn is_unlinked(known: &Known<'_>, instr: &Instr) -> bool
     }
 }
 
-/// Whether a handler that catches the class of an index is of the rule WHITELIST.
+/// Whether a handler that catches the class at an index violates the rule WHITELIST.
 pub fn is_foreign_catch(known: &Known<'_>, index: u16) -> bool
     ensures { result ≡ is_foreign_catch known.now index }
 {
@@ -130,7 +130,7 @@ pub fn is_foreign_catch(known: &Known<'_>, index: u16) -> bool
     }
 }
 
-// Whether a handler's type of which this is kept names no class constant, or a class that isn't there.
+// Whether this constant of a handler's type is no class constant, or names a class that isn't there.
 fn is_unlinked_catch_by(named: Option<NamedConstant>) -> bool
     ensures { result ≡ is_unlinked_catch_by named }
 {
@@ -140,7 +140,7 @@ fn is_unlinked_catch_by(named: Option<NamedConstant>) -> bool
     }
 }
 
-/// Whether a handler that catches the class of an index is of the rule UNRESOLVED.
+/// Whether a handler that catches the class at an index violates the rule UNRESOLVED.
 pub fn is_unlinked_catch(known: &Known<'_>, index: u16) -> bool
     ensures { result ≡ is_unlinked_catch known.now index }
 {

@@ -6,7 +6,7 @@ use crate::classes::{flags_at, is_abstract, is_interface, is_marked};
 use crate::named::{NamedClass, NamedConstant, NamedMember};
 use dj_linking::ClassTable;
 
-/// What is kept of the constant of an index.
+/// What is kept of the constant at an index.
 pub fn kept_at(kept: &[Option<NamedConstant>], index: u16) -> Option<NamedConstant>
     ensures { result ≡ kept_at kept.now index }
 {
@@ -46,14 +46,14 @@ fn is_library_class(class: Option<NamedClass>) -> bool
     }
 }
 
-/// Whether the constant is of the rule WHITELIST.
+/// Whether the constant violates the rule WHITELIST.
 pub fn is_foreign_named(named: NamedConstant) -> bool
     ensures { result ≡ is_foreign_named named }
 {
     is_library_class(named.class) && (lacks_class(named.class) || lacks_member(named.member))
 }
 
-/// Whether it is a class of the library's packages of which no object can be made.
+/// Whether it is a class in the library's packages of which no object can be made.
 pub fn is_unmakeable_class(unmakeable: &[bool], class: Option<NamedClass>) -> bool
     ensures { result ≡ is_unmakeable_class unmakeable.now class }
 {

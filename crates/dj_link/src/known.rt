@@ -7,7 +7,7 @@ use dj_linking::ClassTable;
 pub struct Known<'a> {
     /// The classes.
     pub table: &'a ClassTable,
-    /// By their numbers, whether no object of a class can be made.
+    /// For each class, by its number, whether no object of it can be made.
     pub unmakeable: &'a [bool],
     /// The file's class.
     pub own: OwnClass<'a>,

@@ -1,4 +1,4 @@
-//! The rules 17 and 18 on a set of class files: what instructions and handlers name is there, and is what they ask.
+//! The rules 17 and 18 on a set of class files: what instructions and handlers name is there, and is what they require.
 #![tactic(auto)]
 
 mod above;

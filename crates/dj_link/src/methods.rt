@@ -1,15 +1,15 @@
 ghost use Rattle.std.specs.Prelude.{IsTrue, OnOk};
 ghost use Rattle.std.specs.List.{AllByRecursion};
-ghost use Rattle.dj_class.specs.ClassFile.{IsAttribute, IsValid};
+ghost use Rattle.dj_class.specs.trusted.ClassFile.{IsAttribute, IsValid};
 ghost use Rattle.dj_class.specs.Members.{member_of};
 ghost use Rattle.dj_class.specs.Views.{class_of};
 ghost use Rattle.dj_report.specs.Lines.{Gains};
-ghost use Rattle.dj_rules.specs.Violations.{this_name};
+ghost use Rattle.dj_rules.specs.trusted.Violations.{this_name};
 ghost use Rattle.dj_check.specs.Judged.{AreTexts};
-ghost use Rattle.dj_check.specs.Malformed.{IsFaultyMethod, HasFaultyMethod};
+ghost use Rattle.dj_check.specs.trusted.Malformed.{IsFaultyMethod, HasFaultyMethod};
 ghost use Rattle.dj_check.specs.Marks.{names_in, MarksOf, AreMarksOf};
 ghost use Rattle.dj_check.specs.Passes.{IsWholeMethod};
-ghost use Rattle.dj_link.specs.Lines.{MethodLinkViolates};
+ghost use Rattle.dj_link.specs.trusted.Lines.{MethodLinkViolates};
 ghost use Rattle.dj_link.specs.Known.{IsKnown};
 ghost use Rattle.dj_link.specs.Marks.{IsUntoldMethod};
 
@@ -20,7 +20,7 @@ use dj_check::{JudgedText, Mark, MethodCode, WholeCode, code_of_method, names_of
 use dj_class::{ClassView, MemberView};
 use std::alloc::Global;
 
-/// Appends the marks of a method with code. It may be known that it violates none of the rules 9 to 16.
+/// Appends the marks of a method with code. The caller may know that it violates none of the rules 9 to 16.
 pub fn add_whole_marks(
     marks: &mut Vec<Mark>,
     view: &ClassView<'_>,
@@ -72,7 +72,7 @@ fn add_method_mark(
     }
 }
 
-/// Appends the marks of all methods of a class file without faulty ones.
+/// Appends the marks of all methods of a class file that has no faulty method.
 pub fn add_method_marks(
     alloc: Global,
     marks: &mut Vec<Mark>,

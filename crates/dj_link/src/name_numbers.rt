@@ -1,9 +1,9 @@
 //! The numbers of the texts by which constants name members. Each text is looked up once.
 ghost use Rattle.std.specs.Prelude.{◌≡◌, List, IfSome, IfOk, option_and_then};
 ghost use Rattle.std.specs.Option.{option_map};
-ghost use Rattle.dj_pool.specs.Pool.{Constant, both, text_at, IsLinked};
+ghost use Rattle.dj_pool.specs.trusted.Pool.{Constant, both, text_at, IsLinked};
 ghost use Rattle.dj_pool.specs.Views.{constant_of};
-ghost use Rattle.dj_check.specs.Classes.{names_at};
+ghost use Rattle.dj_check.specs.trusted.Classes.{names_at};
 ghost use Rattle.dj_directory.specs.Numberings.{Numbering};
 ghost use Rattle.dj_link.specs.Constants.{number_at, AreNumbersSeen, AreNumbersSeenBy, IsNumbered};
 
@@ -11,7 +11,7 @@ use dj_directory::Directory;
 use dj_pool::{Entry, Pool};
 use std::alloc::{AllocError, Global};
 
-/// The name and the descriptor of a member, and their numbers, where they have some.
+/// The name and the descriptor of a member, and their numbers, where they have numbers.
 #[derive(Clone, Copy)]
 pub struct MemberName<'a> {
     pub name: &'a [u8],
@@ -20,7 +20,7 @@ pub struct MemberName<'a> {
     pub desc_number: Option<u32>,
 }
 
-// The number of the text of an index, where there is a text that has one.
+// The number of the text at an index, where there is a text that has a number.
 fn number_at(directory: &Directory<'_>, pool: &Pool<'_>, index: u16) -> Option<u32>
     ensures { result ≡ number_at directory.now pool.now index }
 {
@@ -30,7 +30,7 @@ fn number_at(directory: &Directory<'_>, pool: &Pool<'_>, index: u16) -> Option<u
     }
 }
 
-// The same: seen before, or from now on.
+// The same: the number that was kept, or else it is found out and kept.
 fn see_number(
     directory: &Directory<'_>,
     pool: &Pool<'_>,
@@ -69,7 +69,7 @@ fn name_indexes(pool: &Pool<'_>, entry: Entry<'_>) -> Option<(u16, u16)>
     }
 }
 
-// The numbers of the texts of two indexes, where there is a directory.
+// The numbers of the texts at two indexes, where there is a directory.
 fn see_numbers(
     directory: Option<&Directory<'_>>,
     pool: &Pool<'_>,
@@ -116,7 +116,7 @@ pub fn member_name<'p>(
     })
 }
 
-// No number is seen yet, of so many texts.
+// No number is kept yet, for this many texts.
 #[tactic(auto, using(crate::proofs::KeptLaws::no_numbers))]
 fn none_seen(alloc: Global, count: usize) -> Result<Vec<Option<Option<u32>>>, AllocError>
     ensures { IfOk result (λ seen. (directory : Numbering) (pool : List Constant) → AreNumbersSeen directory pool seen.items) }
@@ -124,7 +124,7 @@ fn none_seen(alloc: Global, count: usize) -> Result<Vec<Option<Option<u32>>>, Al
     vec![in alloc; None; count]
 }
 
-/// No number is seen yet, of so many texts, where there is a directory.
+/// No number is kept yet, for this many texts, where there is a directory.
 pub fn unseen_numbers(
     alloc: Global,
     directory: Option<&Directory<'_>>,

@@ -1,4 +1,4 @@
-/// What kind of constant it is, as far as an instruction asks (JVMS table 4.4-B).
+/// The kind of a constant, as far as instructions distinguish it (JVMS table 4.4-B).
 #[derive(Clone, Copy, Debug, PartialEq, Eq)]
 pub enum Tag {
     /// An int, a float or a string, a method handle or a method's type.
@@ -10,16 +10,16 @@ pub enum Tag {
     Method,
     InterfaceMethod,
     Dynamic,
-    /// Any other, which no instruction takes.
+    /// Any other constant, which no instruction takes.
     Other,
 }
 
 /// The class that a constant names.
 #[derive(Clone, Copy, Debug, PartialEq, Eq)]
 pub struct NamedClass {
-    /// The dimensions, 0 of what is no array.
+    /// The dimensions; 0 where it is no array.
     pub dims: u8,
-    /// The number of the class that counts: of an array that of its elements, and Object where these are of a base type; none
+    /// The number of the class that is looked up: an array's is that of its elements, and Object where these are of a base type; none
     /// where there is no such class.
     pub number: Option<u32>,
     /// Whether the name of that class is in the library's packages.

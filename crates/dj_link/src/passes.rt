@@ -2,9 +2,9 @@ ghost use Rattle.std.specs.Prelude.{ℕ, ◌↔◌, ◌<◌, ◌^◌, length, Is
 ghost use Rattle.dj_report.specs.Lines.{Gains};
 ghost use Rattle.dj_check.specs.Judged.{AreTexts};
 ghost use Rattle.dj_check.specs.Marks.{MarksAt, MarksOf};
-ghost use Rattle.dj_check.specs.Methods.{InstrViolates};
+ghost use Rattle.dj_check.specs.trusted.Methods.{InstrViolates};
 ghost use Rattle.dj_link.specs.Known.{IsRuled, KnownInstr, KnownBelow, KnownRange, KnownCode};
-ghost use Rattle.dj_link.specs.Lines.{IsUntold};
+ghost use Rattle.dj_link.specs.trusted.Lines.{IsUntold};
 ghost use Rattle.dj_link.specs.Marks.{AreRangeMarks, AreUntold};
 
 use crate::asks::index_of;
@@ -21,7 +21,7 @@ const WHITELIST: u8 = 17;
 
 const UNRESOLVED: u8 = 18;
 
-// Appends the mark of the first of the two rules that is violated, if no other rule is.
+// Appends the mark of the first of the two rules that is violated, unless a mark of another rule hides it.
 fn add_rule_mark(
     marks: &mut Vec<Mark>,
     place: Place,
@@ -40,7 +40,7 @@ fn add_rule_mark(
     Ok(add_mark_if(marks, place, UNRESOLVED, unlinked)?)
 }
 
-// Whether one of the rules 9 to 15 is violated by the instruction. It isn't looked at where it is known to violate none.
+// Whether the instruction violates one of the rules 9 to 15. Where the caller knows that it doesn't, it isn't looked at.
 fn is_told(pool: &Pool<'_>, texts: &[JudgedText], instr: &Instr, untold: bool) -> bool
     requires texts { AreTexts pool.now texts.now }
     requires untold { IsTrue untold → IsUntold pool.now instr.now }
@@ -52,7 +52,7 @@ fn is_told(pool: &Pool<'_>, texts: &[JudgedText], instr: &Instr, untold: bool) -
     violates_instr(pool, texts, instr)
 }
 
-// Appends the mark of an instruction at its place, one that names a constant.
+// Appends the mark of an instruction at its place, where it names a constant.
 fn add_named_mark(
     marks: &mut Vec<Mark>,
     place: Place,
@@ -72,7 +72,7 @@ fn add_named_mark(
     add_rule_mark(marks, place, told, foreign, unlinked)
 }
 
-// Appends the mark of an instruction at its place. One that names no constant, as most, has none.
+// Appends the mark of an instruction at its place. Most instructions name no constant and have none.
 fn add_instr_mark(
     marks: &mut Vec<Mark>,
     place: Place,
@@ -92,7 +92,7 @@ fn add_instr_mark(
     }
 }
 
-// Appends the marks of all instructions of a method of these names.
+// Appends the marks of all instructions of a method with these names.
 fn add_instr_marks(
     marks: &mut Vec<Mark>,
     names: (u16, u16),
@@ -139,7 +139,7 @@ fn add_handler_mark(
     add_rule_mark(marks, place, told, foreign, unlinked)
 }
 
-// Appends the marks of all handlers of a method of these names.
+// Appends the marks of all handlers of a method with these names.
 fn add_handler_marks(
     marks: &mut Vec<Mark>,
     names: (u16, u16),
@@ -155,7 +155,7 @@ fn add_handler_marks(
     Ok(())
 }
 
-/// Appends the marks of labelled code of a method of these names. It may be known that no instruction of it violates one of the rules 9 to 15.
+/// Appends the marks of labelled code of a method with these names. The caller may know that no instruction violates one of the rules 9 to 15.
 pub fn add_code_marks(
     marks: &mut Vec<Mark>,
     names: (u16, u16),

@@ -1,11 +1,11 @@
 ghost use Rattle.std.specs.Prelude.{◌≡◌, ◌<◌, Some, length};
 ghost use Rattle.std.specs.Option.{option_map};
 ghost use Rattle.dj_pool.specs.Views.{constant_of};
-ghost use Rattle.dj_model.specs.Program.{is_static};
+ghost use Rattle.dj_model.specs.trusted.Program.{is_static};
 ghost use Rattle.dj_classes.specs.Tables.{method_there, field_there};
 ghost use Rattle.dj_linking.specs.Linked.{resolved_field, resolved_method};
 ghost use Rattle.dj_linking.specs.Numbered.{AreNumbersOf};
-ghost use Rattle.dj_link.specs.Named.{is_static_field, is_static_method};
+ghost use Rattle.dj_link.specs.trusted.Named.{is_static_field, is_static_method};
 ghost use Rattle.dj_link.specs.Constants.{static_at, IsDirectoryOf, IsNumbered};
 
 use crate::name_numbers::MemberName;
@@ -23,7 +23,7 @@ pub fn is_static(flags: u16) -> bool
     flags & STATIC != 0
 }
 
-// The field of the name, by its numbers.
+// The field of this name and descriptor, by their numbers.
 fn field_numbered(
     linker: &Linker,
     directory: &Directory<'_>,
@@ -44,7 +44,7 @@ fn field_numbered(
     )
 }
 
-// The field of the name.
+// The field of this name and descriptor.
 fn field_named(
     linker: &Linker,
     directory: Option<&Directory<'_>>,
@@ -62,7 +62,7 @@ fn field_named(
     }
 }
 
-// The method of the name, by its numbers.
+// The method of this name and descriptor, by their numbers.
 fn method_numbered(
     linker: &Linker,
     directory: &Directory<'_>,
@@ -83,7 +83,7 @@ fn method_numbered(
     )
 }
 
-// The method of the name.
+// The method of this name and descriptor.
 fn method_named(
     linker: &Linker,
     directory: Option<&Directory<'_>>,
@@ -101,7 +101,7 @@ fn method_named(
     }
 }
 
-// Whether the field of the name resolves to a static one.
+// Whether the field to which this resolves is static.
 fn is_static_field(
     linker: &Linker,
     directory: Option<&Directory<'_>>,
@@ -118,7 +118,7 @@ fn is_static_field(
     Some(is_static(flags))
 }
 
-// Whether the method of the name resolves to a static one.
+// Whether the method to which this resolves is static.
 fn is_static_method(
     linker: &Linker,
     directory: Option<&Directory<'_>>,

@@ -5,12 +5,12 @@ use Rattle.std.specs.Option.{option_map}
 use Rattle.std.proofs.lemmas.Bool.{cases_lt, false≢true}
 use Rattle.std.proofs.lemmas.Option.{same_Some, none-some}
 use Rattle.dj_names.specs.declared.descriptor.Desc.{Desc}
-use Rattle.dj_names.specs.Descriptors.{Describes}
-use Rattle.dj_names.specs.Types.{Name}
-use Rattle.dj_model.specs.Program.{Program, Class, Method, method_in}
-use Rattle.dj_model.specs.Linking.{method_or, most_classes, or_else, FoundMethod}
+use Rattle.dj_names.specs.trusted.Descriptors.{Describes}
+use Rattle.dj_names.specs.trusted.Types.{Name}
+use Rattle.dj_model.specs.trusted.Program.{Program, Class, Method, method_in}
+use Rattle.dj_model.specs.trusted.Linking.{method_or, most_classes, or_else, FoundMethod}
 use Rattle.dj_model.proofs.MappedNames.{either}
-use Rattle.dj_declared.specs.Files.{desc_in}
+use Rattle.dj_declared.specs.trusted.Files.{desc_in}
 use Rattle.dj_declared.specs.Members.{method_name, method_place}
 use Rattle.dj_declared.proofs.DescTests.{desc_in_is}
 use Rattle.dj_classes.specs.Tables.{methods_of, methods_at, method_of_class, method_there, super_number}
@@ -117,7 +117,7 @@ module _ (program : Program) (order ranks : List ℕ) (bits : List (List ℕ)) (
         (λ z there. not_found program test name desc z (λ place first. declare.all z place (up_within most_classes program (Some class) lt z there) first (λ row contained same.
         false≢true (sym (none contained.0 row contained.1 contained.2) ∙ ap (has (numbers_up most_classes program (Some class))) same ∙ there))))
 
-  -- the marks of methods tell the nearest class, which is the class or one above it
+  -- the marks of methods give the nearest class, which is the class or one above it
   module _ (test : Method → Bool) (name : Name) (desc : Desc) (near : Option ℕ) (is : IsNearestFirst program test name desc class near) where
     -- the class starts in the spans of those above it
     in_spans : (n k z : ℕ) → k < length program → is.start k ≤ is.start class → is.start class < is.stop k → has (numbers_up n program (Some k)) z ≡ true → (is.start z ≤ is.start class) × (is.start class < is.stop z)
@@ -178,7 +178,7 @@ module _ (program : Program) (order ranks : List ℕ) (bits : List (List ℕ)) (
       ∙ ap (option_map Some) (sym (ap (first_some (method_found program test found.method.name found.method.desc)) (all_levels levels le)
       ∙ first_marked test found.method.name found.method.desc near (is found.method (at_method resolved found there)) up (λ none. none-some (method_there program place) (sym (at_near ∙ ap (option_map Some) none)))))
 
--- ---- what is told of a class
+-- ---- what is answered for a class
 
 pub own_told : (program : Program) (test : Method → Bool) (resolved : Place) (class member : ℕ) → DeclaresLike program test resolved.class resolved.member class member
     → TellsOwn program test resolved class (Some (record { class = class; member = member }))
@@ -209,7 +209,7 @@ enough_classes = let more = one_more_level in omega (arith, more)
 pub none_up : (program : Program) (test : Method → Bool) (resolved : Place) (levels : ℕ) → TellsFirst program test resolved levels None None
 none_up program test resolved levels found there = sym (ap (λ (ks : List ℕ). option_map Some (first_some (method_found program test found.method.name found.method.desc) ks)) (no_numbers_up levels program))
 
--- what is told of a class that is there
+-- what is answered for a class that is there
 pub first_of_some : (program : Program) (test : Method → Bool) (resolved : Place) (levels class : ℕ) (o : Option ℕ) (place : Option Place) → o ≡ Some class → TellsFirst program test resolved levels (Some class) place
     → TellsFirst program test resolved levels o place
 first_of_some program test resolved levels class o place is told = subst (λ (k : Option ℕ). TellsFirst program test resolved levels k place) (sym is) told
@@ -218,7 +218,7 @@ pub first_of_none : (program : Program) (test : Method → Bool) (resolved : Pla
 first_of_none program test resolved levels o place is none =
     subst (λ (k : Option ℕ). TellsFirst program test resolved levels k place) (sym is) (subst (λ (p : Option Place). TellsFirst program test resolved levels None p) (sym none) (none_up program test resolved levels))
 
--- what is told by texts
+-- what is answered by texts
 pub told_named : (program : Program) (test : Method → Bool) (resolved : Place) (found : FoundMethod) → method_there program resolved ≡ Some found → (name desc : Name) (classes : List ℕ) (t : Option (Option FoundMethod))
     → Some name ≡ option_map method_name (slice_get (methods_at program resolved.class) resolved.member) → IfSome (slice_get (methods_at program resolved.class) resolved.member) (λ m. Describes desc m.desc)
     → t ≡ option_map Some (first_some (method_found program test name (desc_in desc)) classes) → t ≡ option_map Some (first_some (method_found program test found.method.name found.method.desc) classes)

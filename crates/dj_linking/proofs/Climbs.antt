@@ -2,9 +2,9 @@
 use Rattle.std.proofs.Common.{◌≡◌, ℕ, suc, ◌+◌, ◌-◌, ◌<◌, ◌≤◌, true, false, length, Option, Some, None, IfSome, slice_get, bit_and, refl, sym, ◌∙◌, ap, subst, arith}
 use Rattle.std.specs.Option.{option_map}
 use Rattle.dj_names.specs.declared.descriptor.Desc.{Desc}
-use Rattle.dj_names.specs.Types.{Name}
-use Rattle.dj_model.specs.Program.{Program, method_in, is_static}
-use Rattle.dj_model.specs.Linking.{most_classes, or_else, is_not_static}
+use Rattle.dj_names.specs.trusted.Types.{Name}
+use Rattle.dj_model.specs.trusted.Program.{Program, method_in, is_static}
+use Rattle.dj_model.specs.trusted.Linking.{most_classes, or_else, is_not_static}
 use Rattle.dj_declared.specs.Members.{method_flags}
 use Rattle.dj_classes.specs.Tables.{super_number, methods_at}
 use Rattle.dj_linking.specs.Numbers.{numbers_up, first_some, method_found, TellsMethod, most_above}
@@ -52,7 +52,7 @@ climbed_out f program levels first i next climbed le =
     let none : levels - i ≡ 0 = omega (arith, le) in
     ap (option_map Some) (sym (climbed.same ∙ ap (λ (n : ℕ). first_some f (numbers_up n program next)) none))
 
--- ---- so many levels
+-- ---- this many levels
 
 pub most_above_is : most_above ≡ 4294967295
 unfolding most_above

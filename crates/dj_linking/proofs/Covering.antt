@@ -1,63 +1,80 @@
--- Members that many classes declare: what marks tell of them.
+-- Members that many classes declare: what marks say of them.
 use Rattle.std.proofs.Common.{◌≡◌, ℕ, ◌+◌, ◌<◌, ◌≤◌, Bool, true, false, List, [], ◌∷◌, Contains, length, if◌then◌else◌, get_or, Option, Some, None, IfSome, refl, sym, ◌∙◌, ap, subst, inl, inr, arith, slice_get}
+use Rattle.std.specs.Prelude.{is_some, ltb}
 use Rattle.std.specs.Borrow.{Bor}
 use Rattle.std.specs.Global.{Vec}
 use Rattle.std.specs.Option.{option_map}
-use Rattle.std.proofs.lemmas.Bool.{cases_lt, and_parts, false≢true}
+use Rattle.std.proofs.lemmas.Bool.{and_parts, false≢true, lt-ltb}
 use Rattle.std.proofs.lemmas.List.{get_or_default}
 use Rattle.std.proofs.lemmas.Option.{none-some, same_Some, slice_get-map}
 use Rattle.dj_names.specs.declared.descriptor.Desc.{Desc}
-use Rattle.dj_names.specs.Types.{Name, same_desc, same_name}
-use Rattle.dj_model.specs.Program.{Program, Method, Field, field_in, is_named, method_in}
-use Rattle.dj_model.specs.Linking.{any_method, is_plain, most_classes, FoundMethod}
+use Rattle.dj_names.specs.trusted.Types.{Name, same_desc, same_name}
+use Rattle.dj_model.specs.trusted.Program.{Program, Method, Field, field_in, is_named, method_in}
+use Rattle.dj_model.specs.trusted.Linking.{any_method, is_plain, most_classes, FoundMethod}
 use Rattle.dj_model.proofs.MappedNames.{either}
-use Rattle.dj_declared.specs.Files.{desc_in}
+use Rattle.dj_declared.specs.trusted.Files.{desc_in}
 use Rattle.dj_declared.specs.Members.{IsDescriptor, field_place, method_place}
 use Rattle.dj_declared.proofs.DescTests.{desc_in_is, is_descriptor, same_desc_is, same_name_is}
-use Rattle.dj_classes.specs.Tables.{fields_at, methods_at}
+use Rattle.dj_classes.specs.Tables.{fields_at, method_there, methods_at}
 use Rattle.dj_directory.specs.declared.rows.MemberRow.{MemberRow}
-use Rattle.dj_directory.specs.Rows.{IsRow, Named, field_named, fields_named, method_named, methods_named}
+use Rattle.dj_directory.specs.DirectoryRows.{IsRow, Named, field_named, fields_named, method_named, methods_named}
 use Rattle.dj_directory.specs.Numberings.{DeclareFields, DeclareMethods, Numbering, number_of}
 use Rattle.dj_linking.specs.declared.shared.MarkedMember.{MarkedMember}
-use Rattle.dj_linking.specs.Bits.{IsTop, in_bits, in_both}
-use Rattle.dj_linking.specs.Marked.{IsCovered, is_plain_at}
+use Rattle.dj_linking.specs.Bits.{AreBits, IsTop, in_bits, in_both}
+use Rattle.dj_linking.specs.Marked.{AddsMarks, AreMarks}
 use Rattle.dj_linking.specs.Nearest.{IsNearestMarked}
 use Rattle.dj_linking.specs.Numbered.{AreTexts}
 use Rattle.dj_linking.specs.Numbers.{field_found, first_some, has, method_found, numbers_up}
 use Rattle.dj_linking.specs.Ranked.{AreRanks, HasRow, rank_in}
-use Rattle.dj_linking.specs.Shared.{HasTexts, IsFieldMarked, IsFieldNumbered, IsMethodNumbered, IsPlainMarked, IsRankCovered, IsRankMarked}
+use Rattle.dj_linking.specs.Shared.{AreRankMarks, HasTexts, IsFieldMarked, IsFieldNumbered, IsMethodNumbered, IsPlainMarked, IsRankMarked, declares_method}
 use Rattle.dj_linking.proofs.Chained.{up_within}
-use Rattle.dj_linking.proofs.Marking.{fields_covered, methods_covered}
+use Rattle.dj_linking.proofs.Marking.{told_some}
 use Rattle.dj_linking.proofs.Nearing.{first_near, no_method, none_found}
-use Rattle.dj_linking.proofs.Numbered.{field_found_at, method_found_at}
+use Rattle.dj_linking.proofs.Numbered.{field_found_at, method_found_at, method_told}
 use Rattle.dj_linking.proofs.Ranking.{all_have, has_mapped, mapped_has}
 use Rattle.dj_linking.proofs.Tops.{both, first_of, second_if, second_of}
 
 -- ---- the ranks of classes as marks
 
--- the ranks of the classes of the first rows, so many, where there are bits for them
-abbrev pub AreRanksMarked : List ℕ → List MemberRow → ℕ → ℕ → List ℕ → Type 0
-AreRanksMarked ranks rows bound count marks = (k : ℕ) (row : MemberRow) → k < count → get_or rows k row ≡ row → rank_in ranks row.class < bound → in_bits marks (rank_in ranks row.class) ≡ true
+-- nothing is found for a class below the bound whose rank has a bit that isn't set
+abbrev pub IsRankCovered : {A : Type 0} → (ℕ → Option A) → List ℕ → ℕ → List ℕ → Type 0
+IsRankCovered f ranks bound marks = (k : ℕ) → k < bound → rank_in ranks k < bound → in_bits marks (rank_in ranks k) ≡ false → f k ≡ None
 
-pub one_more_rank : (ranks : List ℕ) (rows : List MemberRow) (bound i : ℕ) (row : MemberRow) (marks more : List ℕ) → i < length rows → get_or rows i row ≡ row → AreRanksMarked ranks rows bound i marks
-    → ((z : ℕ) → in_bits marks z ≡ true → in_bits more z ≡ true) → (rank_in ranks row.class < bound → in_bits more (rank_in ranks row.class) ≡ true) → AreRanksMarked ranks rows bound (i + 1) more
-one_more_rank ranks rows bound i row marks more within own before kept here k other lt at few = elim (cases_lt k i) [
-  | inl less ↦ kept (rank_in ranks other.class) (before k other less at few)
-  | inr after ↦
-      (let last : k ≡ i = omega (arith, lt, after) in
-      let same : row ≡ other = sym own ∙ get_or_default rows i row other within ∙ ap (λ (j : ℕ). get_or rows j other) (sym last) ∙ at in
-      subst (λ (r : MemberRow). in_bits more (rank_in ranks r.class) ≡ true) same (here (subst (λ (r : MemberRow). rank_in ranks r.class < bound) (sym same) few)))
-]
-
-pub all_ranks : (ranks : List ℕ) (rows : List MemberRow) (bound i : ℕ) (marks : List ℕ) → length rows ≤ i → AreRanksMarked ranks rows bound i marks → (row : MemberRow) → Contains rows row → rank_in ranks row.class < bound
-    → in_bits marks (rank_in ranks row.class) ≡ true
-all_ranks ranks rows bound i marks past are row there few = are there.0 row (let lt = there.1 in omega (arith, lt, past)) there.2 few
+pub rank_covers : (program : Program) (ranks : List ℕ) (name : Name) (desc : Desc) (marks : List ℕ) → AreRankMarks (declares_method program name desc) ranks (length program) marks
+    → IsRankCovered (method_found program any_method name desc) ranks (length program) marks
+rank_covers program ranks name desc marks are k lt low unset = go (method_found program any_method name desc k) refl where
+  go : (o : Option FoundMethod) → method_found program any_method name desc k ≡ o → method_found program any_method name desc k ≡ None
+  go None is = is
+  go (Some x) is = absurd (false≢true (sym unset ∙ are.marked k lt low (ap is_some is)))
 
 ranks_covered : (program : Program) (ranks : List ℕ) (name : Name) (desc : Desc) (rows : List MemberRow) (bound : ℕ) (marks : List ℕ) → DeclareMethods program name desc rows → length program ≤ bound
     → ((row : MemberRow) → Contains rows row → rank_in ranks row.class < bound → in_bits marks (rank_in ranks row.class) ≡ true) → IsRankCovered (method_found program any_method name desc) ranks (length program) marks
 ranks_covered program ranks name desc rows bound marks declare few marked class lt low unset =
     no_method program name desc class (declare.all class lt (λ row there same.
     false≢true (sym unset ∙ ap (λ (k : ℕ). in_bits marks (rank_in ranks k)) (sym same) ∙ marked row there (let e = ap (rank_in ranks) same in omega (arith, e, low, few)))))
+
+pub ranks_marked : (program : Program) (ranks : List ℕ) (name : Name) (desc : Desc) (rows : List MemberRow) (bound : ℕ) (old marks : List ℕ) → DeclareMethods program name desc rows
+    → ((row : MemberRow) → Contains rows row → row.class < length program) → length program ≤ bound → AreBits [] old
+    → AddsMarks (λ row. ltb (rank_in ranks row.class) bound) (λ row. rank_in ranks row.class) rows old marks → AreRankMarks (declares_method program name desc) ranks (length program) marks
+ranks_marked program ranks name desc rows bound old marks declare there few clear adds = record {
+  marked = λ class lt low declared. elim (either (in_bits marks (rank_in ranks class))) [
+    | inl set ↦ set
+    | inr unset ↦ absurd (false≢true (sym (ap is_some (ranks_covered program ranks name desc rows bound marks declare few (λ row within less. adds.marked row within (lt-ltb (rank_in ranks row.class) bound less)) class lt low unset)) ∙ declared))
+  ];
+  only = λ rank set. elim (adds.only rank set) [
+    | inl before ↦ absurd (false≢true (sym (clear rank) ∙ before))
+    | inr found ↦ record {
+      class = found.row.class;
+      there = there found.row found.within;
+      rank_is = found.number_is;
+      declared = declared_by found.row found.within (method_place (methods_at program found.row.class) name desc) refl;
+    }
+  ];
+} where
+  declared_by : (row : MemberRow) → Contains rows row → (o : Option ℕ) → method_place (methods_at program row.class) name desc ≡ o → declares_method program name desc row.class ≡ true
+  declared_by row within None none = absurd (declare.each row within none)
+  declared_by row within (Some member) is =
+      told_some (method_found program any_method name desc row.class) (method_there program (record { class = row.class; member = member })) (method_told program row.class name desc member (sym is))
 
 -- ---- the numbers of the texts of a member
 
@@ -139,43 +156,37 @@ field_of_row directory row lt is = record {
 -- ---- the marks of one member
 
 module _ (directory : Numbering) (class member name desc : ℕ) (words : Vec ℕ) (marks : List ℕ) (is : words.items ≡ marks) where
-  pub plain_marked : (rows : List MemberRow) → IsMethodNumbered directory class member name desc
-      → ((n d : List ℕ) → number_of directory n ≡ Some name → number_of directory d ≡ Some desc → IsDescriptor d → DeclareMethods directory.program n (desc_in d) rows)
-      → ((row : MemberRow) → Contains rows row → is_plain_at directory.program row.class row.place ≡ true → in_bits marks row.class ≡ true)
+  pub plain_marked : IsMethodNumbered directory class member name desc
+      → ((n d : List ℕ) → AreTexts directory name desc n d → AreMarks (method_found directory.program is_plain n (desc_in d)) (length directory.program) marks)
       → IsPlainMarked directory.program (record { name = name; desc = desc; class = class; member = member; words = words })
-  plain_marked rows numbered declare marked = record {
+  plain_marked numbered are = record {
     there = numbered.there;
-    covered = λ n e placed. (let texts : HasTexts directory name desc n e = numbered.named n e placed in
-        subst (λ (ws : List ℕ). IsCovered (method_found directory.program is_plain n e) (length directory.program) ws) (sym is)
-        (subst (λ (k : Desc). IsCovered (method_found directory.program is_plain n k) (length directory.program) marks) texts.spelled
-        (methods_covered directory.program n (desc_in texts.text) rows marks (declare n texts.text texts.are.name_is texts.are.desc_is texts.are.described) marked)));
+    marks_are = λ n e placed. (let texts : HasTexts directory name desc n e = numbered.named n e placed in
+        subst (λ (ws : List ℕ). AreMarks (method_found directory.program is_plain n e) (length directory.program) ws) (sym is)
+        (subst (λ (k : Desc). AreMarks (method_found directory.program is_plain n k) (length directory.program) marks) texts.spelled (are n texts.text texts.are)));
   }
 
-  pub rank_marked : (ranks : List ℕ) (rows : List MemberRow) (bound : ℕ) → length directory.program ≤ bound → IsMethodNumbered directory class member name desc
-      → ((n d : List ℕ) → number_of directory n ≡ Some name → number_of directory d ≡ Some desc → IsDescriptor d → DeclareMethods directory.program n (desc_in d) rows)
-      → ((row : MemberRow) → Contains rows row → rank_in ranks row.class < bound → in_bits marks (rank_in ranks row.class) ≡ true)
+  pub rank_marked : (ranks : List ℕ) → IsMethodNumbered directory class member name desc
+      → ((n d : List ℕ) → AreTexts directory name desc n d → AreRankMarks (declares_method directory.program n (desc_in d)) ranks (length directory.program) marks)
       → IsRankMarked directory.program ranks (record { name = name; desc = desc; class = class; member = member; words = words })
-  rank_marked ranks rows bound few numbered declare marked = record {
+  rank_marked ranks numbered are = record {
     there = numbered.there;
-    covered = λ n e placed. (let texts : HasTexts directory name desc n e = numbered.named n e placed in
-        subst (λ (ws : List ℕ). IsRankCovered (method_found directory.program any_method n e) ranks (length directory.program) ws) (sym is)
-        (subst (λ (k : Desc). IsRankCovered (method_found directory.program any_method n k) ranks (length directory.program) marks) texts.spelled
-        (ranks_covered directory.program ranks n (desc_in texts.text) rows bound marks (declare n texts.text texts.are.name_is texts.are.desc_is texts.are.described) few marked)));
+    marks_are = λ n e placed. (let texts : HasTexts directory name desc n e = numbered.named n e placed in
+        subst (λ (ws : List ℕ). AreRankMarks (declares_method directory.program n e) ranks (length directory.program) ws) (sym is)
+        (subst (λ (k : Desc). AreRankMarks (declares_method directory.program n k) ranks (length directory.program) marks) texts.spelled (are n texts.text texts.are)));
   }
 
-  pub field_marked : (rows : List MemberRow) → IsFieldNumbered directory class member name desc
-      → ((n d : List ℕ) → number_of directory n ≡ Some name → number_of directory d ≡ Some desc → IsDescriptor d → DeclareFields directory.program n (desc_in d) rows)
-      → ((row : MemberRow) → Contains rows row → in_bits marks row.class ≡ true)
+  pub field_marked : IsFieldNumbered directory class member name desc
+      → ((n d : List ℕ) → AreTexts directory name desc n d → AreMarks (field_found directory.program n (desc_in d)) (length directory.program) marks)
       → IsFieldMarked directory.program (record { name = name; desc = desc; class = class; member = member; words = words })
-  field_marked rows numbered declare marked = record {
+  field_marked numbered are = record {
     there = numbered.there;
-    covered = λ n e placed. (let texts : HasTexts directory name desc n e = numbered.named n e placed in
-        subst (λ (ws : List ℕ). IsCovered (field_found directory.program n e) (length directory.program) ws) (sym is)
-        (subst (λ (k : Desc). IsCovered (field_found directory.program n k) (length directory.program) marks) texts.spelled
-        (fields_covered directory.program n (desc_in texts.text) rows marks (declare n texts.text texts.are.name_is texts.are.desc_is texts.are.described) marked)));
+    marks_are = λ n e placed. (let texts : HasTexts directory name desc n e = numbered.named n e placed in
+        subst (λ (ws : List ℕ). AreMarks (field_found directory.program n e) (length directory.program) ws) (sym is)
+        (subst (λ (k : Desc). AreMarks (field_found directory.program n k) (length directory.program) marks) texts.spelled (are n texts.text texts.are)));
   }
 
--- ---- what is told of a member that is looked up
+-- ---- what is answered for a member that is looked up
 
 module _ (directory : Numbering) (marked : MarkedMember) (name desc : ℕ) where
   abbrev pub OwnMethod : Type 0
@@ -185,22 +196,22 @@ module _ (directory : Numbering) (marked : MarkedMember) (name desc : ℕ) where
   OwnField = (n d : List ℕ) → AreTexts directory name desc n d → field_place (fields_at directory.program marked.class) n (desc_in d) ≡ Some marked.member
 
   pub plain_told : (result : Option (Bor (List ℕ))) → IsPlainMarked directory.program marked → IfSome result (λ words. words.now ≡ marked.words.items) → IfSome result (λ _. OwnMethod)
-      → (n d : List ℕ) → AreTexts directory name desc n d → IfSome result (λ words. IsCovered (method_found directory.program is_plain n (desc_in d)) (length directory.program) words.now)
+      → (n d : List ℕ) → AreTexts directory name desc n d → IfSome result (λ words. AreMarks (method_found directory.program is_plain n (desc_in d)) (length directory.program) words.now)
   plain_told None are is own n d h = tt
   plain_told (Some words) are is own n d h =
-      subst (λ (ws : List ℕ). IsCovered (method_found directory.program is_plain n (desc_in d)) (length directory.program) ws) (sym is) (are.covered n (desc_in d) (own n d h))
+      subst (λ (ws : List ℕ). AreMarks (method_found directory.program is_plain n (desc_in d)) (length directory.program) ws) (sym is) (are.marks_are n (desc_in d) (own n d h))
 
   pub rank_told : (ranks : List ℕ) (result : Option (Bor (List ℕ))) → IsRankMarked directory.program ranks marked → IfSome result (λ words. words.now ≡ marked.words.items) → IfSome result (λ _. OwnMethod)
-      → (n d : List ℕ) → AreTexts directory name desc n d → IfSome result (λ words. IsRankCovered (method_found directory.program any_method n (desc_in d)) ranks (length directory.program) words.now)
+      → (n d : List ℕ) → AreTexts directory name desc n d → IfSome result (λ words. AreRankMarks (declares_method directory.program n (desc_in d)) ranks (length directory.program) words.now)
   rank_told ranks None are is own n d h = tt
   rank_told ranks (Some words) are is own n d h =
-      subst (λ (ws : List ℕ). IsRankCovered (method_found directory.program any_method n (desc_in d)) ranks (length directory.program) ws) (sym is) (are.covered n (desc_in d) (own n d h))
+      subst (λ (ws : List ℕ). AreRankMarks (declares_method directory.program n (desc_in d)) ranks (length directory.program) ws) (sym is) (are.marks_are n (desc_in d) (own n d h))
 
   pub field_told : (result : Option (Bor (List ℕ))) → IsFieldMarked directory.program marked → IfSome result (λ words. words.now ≡ marked.words.items) → IfSome result (λ _. OwnField)
-      → (n d : List ℕ) → AreTexts directory name desc n d → IfSome result (λ words. IsCovered (field_found directory.program n (desc_in d)) (length directory.program) words.now)
+      → (n d : List ℕ) → AreTexts directory name desc n d → IfSome result (λ words. AreMarks (field_found directory.program n (desc_in d)) (length directory.program) words.now)
   field_told None are is own n d h = tt
   field_told (Some words) are is own n d h =
-      subst (λ (ws : List ℕ). IsCovered (field_found directory.program n (desc_in d)) (length directory.program) ws) (sym is) (are.covered n (desc_in d) (own n d h))
+      subst (λ (ws : List ℕ). AreMarks (field_found directory.program n (desc_in d)) (length directory.program) ws) (sym is) (are.marks_are n (desc_in d) (own n d h))
 
 -- ---- the nearest class
 

@@ -7,9 +7,9 @@ use Rattle.std.proofs.lemmas.Bool.{false≢true, eq-eqb, eqb-true}
 use Rattle.std.proofs.lemmas.Bool.Decides.{nat_tests}
 use Rattle.std.proofs.lemmas.Nat.Bits.{and_pow, bit_at-lt}
 use Rattle.dj_names.specs.declared.descriptor.Desc.{Desc}
-use Rattle.dj_names.specs.Types.{Name}
-use Rattle.dj_model.specs.Program.{Program, Class, Method, method_in, superclass_of, flags_of, is_private, is_static, is_interface}
-use Rattle.dj_model.specs.Linking.{most_classes, or_else, is_plain}
+use Rattle.dj_names.specs.trusted.Types.{Name}
+use Rattle.dj_model.specs.trusted.Program.{Program, Class, Method, method_in, superclass_of, flags_of, is_private, is_static, is_interface}
+use Rattle.dj_model.specs.trusted.Linking.{most_classes, or_else, is_plain}
 use Rattle.dj_model.proofs.MappedNames.{either}
 use Rattle.dj_declared.specs.Members.{method_flags}
 use Rattle.dj_classes.specs.Tables.{class_number, super_number, methods_of, methods_at, flags_in}
@@ -19,7 +19,7 @@ use Rattle.dj_linking.proofs.Levels.{most_is}
 use Rattle.dj_linking.proofs.Searches.{or_else_none}
 use Rattle.dj_linking.proofs.Walks.{Missing, There, looked, no_numbers_up}
 
--- ---- what is told
+-- ---- what is answered
 
 pub told_first : {A : Type 0} (t a b : Option A) → Some t ≡ option_map Some a → Some t ≡ option_map Some (or_else a b)
 told_first t None b told = absurd (none-some t (sym told))

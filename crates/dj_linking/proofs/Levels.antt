@@ -1,9 +1,9 @@
--- Interfaces above a class, by numbers: so many levels are enough where the listed ones are known.
+-- Interfaces above a class, by numbers: this many levels are enough where the listed ones are known.
 use Rattle.std.proofs.Common.{◌≡◌, ℕ, zero, suc, ◌+◌, ◌-◌, ◌^◌, ◌<◌, ◌≤◌, true, List, [], ◌∷◌, refl, sym, ◌∙◌, ap, subst, inl, inr, arith}
 use Rattle.std.specs.List.{flat_map}
 use Rattle.std.proofs.lemmas.Bool.{false≢true}
-use Rattle.dj_model.specs.Program.{Program}
-use Rattle.dj_model.specs.Linking.{most_classes}
+use Rattle.dj_model.specs.trusted.Program.{Program}
+use Rattle.dj_model.specs.trusted.Linking.{most_classes}
 use Rattle.dj_classes.specs.Tables.{interface_numbers}
 use Rattle.dj_linking.specs.Numbers.{has, with_all, numbers_from, numbers_above, IsEnough}
 use Rattle.dj_linking.proofs.Lists.{has_here, has_more, has_cases, flat_has, has_flat, flat_alike, all_keeps, all_has, all_cases, all_there}

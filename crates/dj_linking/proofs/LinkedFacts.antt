@@ -5,15 +5,15 @@ use Rattle.std.specs.Option.{option_map}
 use Rattle.std.proofs.lemmas.Bool.{false≢true}
 use Rattle.std.proofs.lemmas.Option.{none-some}
 use Rattle.dj_names.specs.declared.descriptor.Ty.{Ty}
-use Rattle.dj_names.specs.Types.{Name, same_name, same_type, class_type}
-use Rattle.dj_names.specs.Library.{int}
-use Rattle.dj_names.specs.DescReading.{dims_read, name_read, class_read, of_read, type_read, params_read, field_read, return_read, method_read, desc_read}
-use Rattle.dj_names.specs.NameReading.{reads_class_name}
-use Rattle.dj_model.specs.Types.{Member}
-use Rattle.dj_model.specs.Program.{Program, Class, Method}
-use Rattle.dj_model.specs.Linking.{most_classes, chain_of, interfaces_from, interfaces_above, field_order, resolve_method, resolve_field, FoundMethod, FoundField}
-use Rattle.dj_model.specs.Rows.{class_with, field_with, method_with, code}
-use Rattle.dj_declared.specs.Files.{desc_in}
+use Rattle.dj_names.specs.trusted.Types.{Name, same_name, same_type, class_type}
+use Rattle.dj_names.specs.trusted.Library.{int}
+use Rattle.dj_names.specs.trusted.DescReading.{dims_read, name_read, class_read, of_read, type_read, params_read, field_read, return_read, method_read, desc_read}
+use Rattle.dj_names.specs.trusted.NameReading.{reads_class_name}
+use Rattle.dj_model.specs.trusted.Types.{Member}
+use Rattle.dj_model.specs.trusted.Program.{Program, Class, Method}
+use Rattle.dj_model.specs.trusted.Linking.{most_classes, chain_of, interfaces_from, interfaces_above, field_order, resolve_method, resolve_field, FoundMethod, FoundField}
+use Rattle.dj_model.specs.SmallRuns.{class_with, field_with, method_with, code}
+use Rattle.dj_declared.specs.trusted.Files.{desc_in}
 use Rattle.dj_linking.specs.declared.linker.BaseNames.TheVariants as bases
 use Rattle.dj_linking.specs.Linked.{Linked, prefix_of, member_of, resolved_method, resolved_field, class_name}
 

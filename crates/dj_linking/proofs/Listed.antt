@@ -3,9 +3,9 @@ use Rattle.std.proofs.Common.{◌≡◌, ℕ, ◌<◌, Bool, true, false, List, 
 use Rattle.std.specs.List.{filter, flat_map}
 use Rattle.std.proofs.lemmas.Bool.{false≢true}
 use Rattle.dj_names.specs.declared.descriptor.Desc.{Desc}
-use Rattle.dj_names.specs.Types.{Name}
-use Rattle.dj_model.specs.Program.{Program, Class, Field, field_in, fields_of}
-use Rattle.dj_model.specs.Linking.{most_classes, or_else, field_or, FoundField}
+use Rattle.dj_names.specs.trusted.Types.{Name}
+use Rattle.dj_model.specs.trusted.Program.{Program, Class, Field, field_in, fields_of}
+use Rattle.dj_model.specs.trusted.Linking.{most_classes, or_else, field_or, FoundField}
 use Rattle.dj_model.proofs.MappedNames.{either}
 use Rattle.dj_classes.specs.Tables.{super_number}
 use Rattle.dj_linking.specs.Numbers.{has, AreBelow, field_found, field_in_class, first_some, most_above, numbers_above, numbers_up, once_above}

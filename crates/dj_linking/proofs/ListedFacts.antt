@@ -5,11 +5,11 @@ use Rattle.std.proofs.lemmas.Bool.{false≢true, true≢false}
 use Rattle.std.proofs.lemmas.Bool.Decides.{nat_tests}
 use Rattle.std.proofs.lemmas.Option.{none-some, same_Some}
 use Rattle.dj_names.specs.declared.descriptor.Desc.TheVariants as described_as
-use Rattle.dj_names.specs.Types.{Name}
-use Rattle.dj_names.specs.Library.{int}
-use Rattle.dj_model.specs.Program.{Program, Class, Field, Method}
-use Rattle.dj_model.specs.Linking.{most_classes, any_method, FoundMethod, FoundField}
-use Rattle.dj_model.specs.Rows.{class_with, field_with, method_with, code}
+use Rattle.dj_names.specs.trusted.Types.{Name}
+use Rattle.dj_names.specs.trusted.Library.{int}
+use Rattle.dj_model.specs.trusted.Program.{Program, Class, Field, Method}
+use Rattle.dj_model.specs.trusted.Linking.{most_classes, any_method, FoundMethod, FoundField}
+use Rattle.dj_model.specs.SmallRuns.{class_with, field_with, method_with, code}
 use Rattle.dj_classes.specs.declared.place.Place.{Place}
 use Rattle.dj_linking.specs.Bits.{in_bits, AreBits, words_for, HaveBits, HaveRows}
 use Rattle.dj_linking.specs.Chained.{AreRows, has_field, field_row, once_up, known_count, AreChained, row_at}

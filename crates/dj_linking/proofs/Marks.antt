@@ -4,9 +4,9 @@ use Rattle.std.proofs.lemmas.Bool.{false≢true, eqb-false}
 use Rattle.std.specs.Global.{Vec}
 use Rattle.std.proofs.lemmas.List.{take_more, get_or-map, length-map, map-set}
 use Rattle.std.proofs.Math.ListN.{length-set, length-replicate}
-use Rattle.dj_model.specs.Program.{Program, interfaces_of}
-use Rattle.dj_names.specs.Types.{Name}
-use Rattle.dj_model.specs.Linking.{most_classes}
+use Rattle.dj_model.specs.trusted.Program.{Program, interfaces_of}
+use Rattle.dj_names.specs.trusted.Types.{Name}
+use Rattle.dj_model.specs.trusted.Linking.{most_classes}
 use Rattle.dj_model.proofs.MappedNames.{either}
 use Rattle.dj_classes.specs.Tables.{class_numbers, interface_numbers}
 use Rattle.dj_linking.specs.Numbers.{has, with_new, with_all, AreBelow, numbers_from, numbers_above, once_above, lists_of, AreAbove, AreInside}

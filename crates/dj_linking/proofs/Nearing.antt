@@ -5,9 +5,9 @@ use Rattle.std.proofs.lemmas.Bool.{cases_lt, false≢true, ltb-true, ltb-false}
 use Rattle.std.proofs.lemmas.List.{get_or_default}
 use Rattle.std.proofs.lemmas.Option.{none-some}
 use Rattle.dj_names.specs.declared.descriptor.Desc.{Desc}
-use Rattle.dj_names.specs.Types.{Name}
-use Rattle.dj_model.specs.Program.{Program}
-use Rattle.dj_model.specs.Linking.{any_method, most_classes, or_else, FoundMethod}
+use Rattle.dj_names.specs.trusted.Types.{Name}
+use Rattle.dj_model.specs.trusted.Program.{Program}
+use Rattle.dj_model.specs.trusted.Linking.{any_method, most_classes, or_else, FoundMethod}
 use Rattle.dj_model.proofs.MappedNames.{either}
 use Rattle.dj_declared.specs.Members.{method_place}
 use Rattle.dj_classes.specs.Tables.{methods_at, method_there, super_number}

@@ -1,12 +1,12 @@
--- Members by their places, as a directory tells them.
+-- Members by their places, as a directory gives them.
 use Rattle.std.proofs.Common.{◌≡◌, ℕ, ◌+◌, Bool, true, false, cond, List, [], ◌∷◌, Option, Some, None, slice_get, refl, sym, ap, ◌∙◌, add-one, if◌then◌else◌}
 use Rattle.std.specs.Prelude.{option_and_then}
 use Rattle.std.specs.Option.{option_map}
 use Rattle.std.proofs.lemmas.Option.{same_Some, none-some}
 use Rattle.dj_names.specs.declared.descriptor.Desc.{Desc}
-use Rattle.dj_names.specs.Types.{Name}
-use Rattle.dj_model.specs.Program.{Program, Class, Method, Field, fields_of, flags_of, method_in, field_in, is_interface, is_named}
-use Rattle.dj_model.specs.Linking.{any_method, is_plain, method_or, field_or, most_classes, option_list}
+use Rattle.dj_names.specs.trusted.Types.{Name}
+use Rattle.dj_model.specs.trusted.Program.{Program, Class, Method, Field, fields_of, flags_of, method_in, field_in, is_interface, is_named}
+use Rattle.dj_model.specs.trusted.Linking.{any_method, is_plain, method_or, field_or, most_classes, option_list}
 use Rattle.dj_declared.specs.Members.{method_place, field_place}
 use Rattle.dj_classes.specs.Tables.{methods_of, methods_at, fields_at, method_of_class, field_of_class}
 use Rattle.dj_classes.specs.declared.place.Place.{Place}
@@ -87,7 +87,7 @@ pub no_field_told : (program : Program) (class : ℕ) (name : Name) (desc : Desc
 no_field_told program class name desc is =
     no_field_in_class (slice_get program class) name desc (told_none (field_in (fields_at program class) name desc) (field_found_at program class name desc None is))
 
--- ---- what searches tell, by the program
+-- ---- what searches answer, by the program
 
 abbrev pub FirstTells : Option ℕ → ℕ → Name → Desc → Option Place → Program → Type 0
 FirstTells object class name desc place program = TellsMethod program place (first_some (method_found program any_method name desc)

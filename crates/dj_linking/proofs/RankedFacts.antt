@@ -3,10 +3,10 @@ use Rattle.std.proofs.Common.{◌≡◌, ℕ, zero, suc, ◌+◌, ◌-◌, ◌<�
 use Rattle.std.specs.Cmp.Lexicographic.{bytes_decides}
 use Rattle.std.proofs.lemmas.Bool.{false≢true, true≢false}
 use Rattle.std.proofs.lemmas.Option.{none-some, same_Some}
-use Rattle.dj_names.specs.Types.{Name, same_name}
-use Rattle.dj_model.specs.Program.{Program, Method}
-use Rattle.dj_model.specs.Linking.{most_classes, is_plain, FoundMethod}
-use Rattle.dj_model.specs.Rows.{class_with, method_with, code}
+use Rattle.dj_names.specs.trusted.Types.{Name, same_name}
+use Rattle.dj_model.specs.trusted.Program.{Program, Method}
+use Rattle.dj_model.specs.trusted.Linking.{most_classes, is_plain, FoundMethod}
+use Rattle.dj_model.specs.SmallRuns.{class_with, method_with, code}
 use Rattle.dj_classes.specs.Tables.{super_number}
 use Rattle.dj_classes.specs.declared.place.Place.{Place}
 use Rattle.dj_directory.specs.declared.rows.MemberRow.{MemberRow}
@@ -65,7 +65,7 @@ no_class some = absurd (omega (arith, some))
 bits_a : AreBits (0 ∷ []) (1 ∷ [])
 bits_a = bits_more [] (0 ∷ []) (0 ∷ []) (1 ∷ []) 0 (bits_none (0 ∷ []) 1 refl) (λ z. bit_put (0 ∷ []) 0 z (omega arith)) refl
 
-bits_b : AreBits (2 ∷ 0 ∷ []) (5 ∷ [])
+pub bits_b : AreBits (2 ∷ 0 ∷ []) (5 ∷ [])
 bits_b =
     let own = bits_more [] (2 ∷ []) (0 ∷ []) (4 ∷ []) 2 (bits_none (0 ∷ []) 1 refl) (λ z. bit_put (0 ∷ []) 2 z (omega arith)) refl in
     bits_more (2 ∷ []) (2 ∷ 0 ∷ []) (4 ∷ []) (5 ∷ []) 0 own (λ z. bit_put (4 ∷ []) 0 z (omega arith)) refl

@@ -5,8 +5,8 @@ use Rattle.std.proofs.lemmas.Bool.{false≢true, eqb-false}
 use Rattle.std.proofs.lemmas.Option.{same_Some, none-some}
 use Rattle.std.proofs.lemmas.List.{length-map, map-set}
 use Rattle.std.proofs.Math.ListN.{length-set, length-replicate}
-use Rattle.dj_model.specs.Program.{Program}
-use Rattle.dj_model.specs.Linking.{most_classes}
+use Rattle.dj_model.specs.trusted.Program.{Program}
+use Rattle.dj_model.specs.trusted.Linking.{most_classes}
 use Rattle.dj_model.proofs.MappedNames.{either, alike}
 use Rattle.dj_classes.specs.Tables.{super_number}
 use Rattle.dj_linking.specs.Bits.{AreBits, in_bits, words_for}

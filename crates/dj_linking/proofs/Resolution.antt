@@ -4,12 +4,12 @@ use Rattle.std.specs.Prelude.{unwrap_or}
 use Rattle.std.specs.List.{flat_map}
 use Rattle.std.specs.Option.{option_map}
 use Rattle.std.proofs.lemmas.Option.{same_Some, none-some}
-use Rattle.dj_names.specs.Types.{Name}
-use Rattle.dj_model.specs.Types.{Prefix, object_name}
-use Rattle.dj_model.specs.Program.{Program, Class, class_at, is_interface, flags_of}
-use Rattle.dj_model.specs.Linking.{most_classes, option_list, chain, interfaces_above, first_method, field_order, FoundMethod, FoundField, any_method, is_plain, method_chain, or_else, resolve_method, resolve_field}
+use Rattle.dj_names.specs.trusted.Types.{Name}
+use Rattle.dj_model.specs.trusted.Types.{Prefix, object_name}
+use Rattle.dj_model.specs.trusted.Program.{Program, Class, class_at, is_interface, flags_of}
+use Rattle.dj_model.specs.trusted.Linking.{most_classes, option_list, chain, interfaces_above, first_method, field_order, FoundMethod, FoundField, any_method, is_plain, method_chain, or_else, resolve_method, resolve_field}
 use Rattle.dj_model.proofs.MappedNames.{either}
-use Rattle.dj_declared.specs.Files.{desc_in}
+use Rattle.dj_declared.specs.trusted.Files.{desc_in}
 use Rattle.dj_classes.specs.Tables.{class_number, class_numbers, name_at}
 use Rattle.dj_linking.specs.Linked.{Linked, resolved_method, resolved_field}
 use Rattle.dj_linking.specs.Numbers.{numbers_above, numbers_up, first_some, method_found, field_found}

@@ -8,12 +8,12 @@ use Rattle.std.proofs.lemmas.Nat.Bits.{and_pow, bit_at-lt}
 use Rattle.std.proofs.lemmas.Option.{same_Some, none-some}
 use Rattle.dj_names.specs.declared.descriptor.Desc.{Desc}
 use Rattle.dj_names.specs.declared.descriptor.Ty.{Ty}
-use Rattle.dj_names.specs.Descriptors.{Describes}
-use Rattle.dj_names.specs.Types.{Name}
-use Rattle.dj_model.specs.Types.{Prefix}
-use Rattle.dj_model.specs.Program.{Program, Class, Method, is_private}
-use Rattle.dj_model.specs.Linking.{most_classes, chain, member_class, is_plain, has_body, with_body, select, FoundMethod}
-use Rattle.dj_declared.specs.Files.{desc_in}
+use Rattle.dj_names.specs.trusted.Descriptors.{Describes}
+use Rattle.dj_names.specs.trusted.Types.{Name}
+use Rattle.dj_model.specs.trusted.Types.{Prefix}
+use Rattle.dj_model.specs.trusted.Program.{Program, Class, Method, is_private}
+use Rattle.dj_model.specs.trusted.Linking.{most_classes, chain, member_class, is_plain, has_body, with_body, select, FoundMethod}
+use Rattle.dj_declared.specs.trusted.Files.{desc_in}
 use Rattle.dj_declared.specs.Members.{IsDescriptor, method_flags, method_name, method_has_body}
 use Rattle.dj_declared.proofs.DescTests.{desc_in_is, is_descriptor}
 use Rattle.dj_classes.specs.Tables.{class_number, methods_of, methods_at, method_of_class, method_there}
@@ -123,7 +123,7 @@ pub taken_above : (program : Program) (found : FoundMethod) (class : Option ℕ)
     → t ≡ option_map Some (first_some (method_found program is_plain found.method.name found.method.desc) (numbers_up most_classes program class)) → t ≡ option_map Some (taken_numbers program found class)
 taken_above program found class t other told = rw other told
 
--- a place that was told is that of a method
+-- a place that was found is that of a method
 pub told_there : (program : Program) (place : Place) (o : Option FoundMethod) → TellsMethod program (Some place) o → (found : FoundMethod) × (o ≡ Some found) × (method_there program place ≡ Some found)
 told_there program place None told = absurd (none-some (method_there program place) (sym told))
 told_there program place (Some found) told = (found, refl, same_Some (method_there program place) (Some found) told)
@@ -137,7 +137,7 @@ with_body_by : (program : Program) (place : Place) (found : FoundMethod) (b : Bo
 with_body_by program place found true there is = rw is (ap Some there)
 with_body_by program place found false there is = rw is refl
 
--- the place is told where its method has a body
+-- the place is given where its method has a body
 pub told_with_body : (program : Program) (place : Place) (o : Option FoundMethod) (b : Bool) → TellsMethod program (Some place) o → Some b ≡ option_map method_has_body (slice_get (methods_at program place.class) place.member)
     → TellsMethod program (if b then Some place else None) (with_body o)
 told_with_body program place o b told body =

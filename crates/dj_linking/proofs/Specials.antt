@@ -4,10 +4,10 @@ use Rattle.std.specs.Prelude.{option_and_then}
 use Rattle.std.specs.Option.{option_map}
 use Rattle.std.proofs.lemmas.Option.{same_Some, none-some}
 use Rattle.dj_names.specs.declared.descriptor.Desc.{Desc}
-use Rattle.dj_names.specs.Types.{Name, same_name}
-use Rattle.dj_model.specs.Types.{constructor_name}
-use Rattle.dj_model.specs.Program.{Program, Class, Method, class_at, superclass_of}
-use Rattle.dj_model.specs.Linking.{chain, chain_of, superclasses, first_method, is_not_static, is_among, FoundMethod, special_method}
+use Rattle.dj_names.specs.trusted.Types.{Name, same_name}
+use Rattle.dj_model.specs.trusted.Types.{constructor_name}
+use Rattle.dj_model.specs.trusted.Program.{Program, Class, Method, class_at, superclass_of}
+use Rattle.dj_model.specs.trusted.Linking.{chain, chain_of, superclasses, first_method, is_not_static, is_among, FoundMethod, special_method}
 use Rattle.dj_model.proofs.MappedNames.{either}
 use Rattle.dj_classes.specs.Tables.{class_number, class_numbers, super_number, method_there, method_of_class, name_at}
 use Rattle.dj_classes.specs.declared.place.Place.{Place}

@@ -5,9 +5,9 @@ use Rattle.std.specs.Option.{option_map}
 use Rattle.std.specs.Cmp.Lexicographic.{bytes_decides}
 use Rattle.std.proofs.lemmas.Bool.{false≢true}
 use Rattle.std.proofs.lemmas.Option.{same_Some, none-some}
-use Rattle.dj_names.specs.Types.{Name, same_name}
-use Rattle.dj_model.specs.Program.{Program, Class}
-use Rattle.dj_model.specs.Linking.{most_classes, chain, interfaces_above, is_among, is_subclass}
+use Rattle.dj_names.specs.trusted.Types.{Name, same_name}
+use Rattle.dj_model.specs.trusted.Program.{Program, Class}
+use Rattle.dj_model.specs.trusted.Linking.{most_classes, chain, interfaces_above, is_among, is_subclass}
 use Rattle.dj_model.proofs.MappedNames.{either, alike}
 use Rattle.dj_classes.specs.Tables.{class_number, class_numbers}
 use Rattle.dj_linking.specs.Linked.{class_name}

@@ -90,7 +90,7 @@ none_in words others at back past before z place = before z place (omega (arith,
 
 -- ---- downward through the words
 
--- none of those in the last words, so many
+-- none of those in the last words, this many
 abbrev pub NonePast : List ℕ → List ℕ → ℕ → Type 0
 NonePast words others back = (z : ℕ) → length words ≤ z / 64 + back → in_both words others z ≡ false
 

@@ -3,11 +3,11 @@ use Rattle.std.proofs.Common.{◌≡◌, ◌<◌, ℕ, Bool, true, false, List, 
 use Rattle.std.specs.Prelude.{if◌then◌else◌}
 use Rattle.std.specs.Option.{option_map}
 use Rattle.dj_names.specs.declared.descriptor.Desc.{Desc}
-use Rattle.dj_names.specs.Types.{Name}
-use Rattle.dj_model.specs.Program.{Class, Method, Field, method_in, field_in, is_named, is_interface, fields_of, flags_of}
-use Rattle.dj_model.specs.Types.{object_name}
-use Rattle.dj_model.specs.Linking.{any_method, is_plain, most_classes, option_list, or_else, method_or, field_or}
-use Rattle.dj_declared.specs.Files.{desc_in}
+use Rattle.dj_names.specs.trusted.Types.{Name}
+use Rattle.dj_model.specs.trusted.Program.{Class, Method, Field, method_in, field_in, is_named, is_interface, fields_of, flags_of}
+use Rattle.dj_model.specs.trusted.Types.{object_name}
+use Rattle.dj_model.specs.trusted.Linking.{any_method, is_plain, most_classes, option_list, or_else, method_or, field_or}
+use Rattle.dj_declared.specs.trusted.Files.{desc_in}
 use Rattle.dj_declared.specs.Members.{method_place, field_place}
 use Rattle.dj_classes.specs.Tables.{class_number, methods_at, methods_of, fields_at}
 use Rattle.dj_linking.specs.Linked.{Linked, resolved_method, resolved_field}

@@ -11,7 +11,7 @@ in_bits words z = nat_eq (bit_at (get_or words (z / 64) 0) (z % 64)) 1
 abbrev pub AreBits : List ℕ → List ℕ → Type 0
 AreBits list words = (z : ℕ) → in_bits words z ≡ has list z
 
--- so many words have room for the numbers below the bound
+-- this many words have room for the numbers below the bound
 abbrev pub words_for : ℕ → ℕ
 words_for bound = bound / 64 + 1
 

@@ -1,7 +1,7 @@
 -- The method that a call takes, like the one to which its operand resolves.
 use Rattle.std.specs.Prelude.{◌≡◌, ℕ, ◌≤◌, Bool, Option, Some}
-use Rattle.dj_model.specs.Program.{Program, Method}
-use Rattle.dj_model.specs.Linking.{FoundMethod}
+use Rattle.dj_model.specs.trusted.Program.{Program, Method}
+use Rattle.dj_model.specs.trusted.Linking.{FoundMethod}
 use Rattle.dj_classes.specs.Tables.{method_there}
 use Rattle.dj_classes.specs.declared.place.Place.{Place}
 use Rattle.dj_linking.specs.Numbers.{TellsMethod, first_some, method_found, most_above, numbers_up}

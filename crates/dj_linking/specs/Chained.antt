@@ -1,8 +1,8 @@
 -- Lists of what stands above a class and its superclasses: one list a class, which classes may share.
 use Rattle.std.specs.Prelude.{◌≡◌, ℕ, ◌+◌, ◌<◌, Bool, List, [], ◌∷◌, length, Option, Some, None, is_some, slice_get, get_or}
 use Rattle.std.specs.List.{filter, flat_map}
-use Rattle.dj_model.specs.Program.{Program}
-use Rattle.dj_model.specs.Linking.{most_classes}
+use Rattle.dj_model.specs.trusted.Program.{Program}
+use Rattle.dj_model.specs.trusted.Linking.{most_classes}
 use Rattle.dj_classes.specs.Tables.{fields_at}
 use Rattle.dj_linking.specs.declared.chains.Chains.{Chains}
 use Rattle.dj_linking.specs.Numbers.{first_places, lists_of, numbers_up, once_above}

@@ -1,10 +1,11 @@
 -- Programs under whose names the library's classes stand, and what resolution finds in them by numbers and by texts.
 use Rattle.std.specs.Prelude.{ℕ, List, [], Option, unwrap_or}
-use Rattle.dj_names.specs.Types.{Name, class_type, sandbox_prefix}
-use Rattle.dj_model.specs.Types.{Member, Prefix}
-use Rattle.dj_model.specs.Program.{Program}
-use Rattle.dj_model.specs.Linking.{FoundMethod, FoundField, resolve_method, resolve_field}
-use Rattle.dj_declared.specs.Files.{desc_in}
+use Rattle.dj_names.specs.trusted.Types.{Name, class_type}
+use Rattle.dj_names.specs.Types.{sandbox_prefix}
+use Rattle.dj_model.specs.trusted.Types.{Member, Prefix}
+use Rattle.dj_model.specs.trusted.Program.{Program}
+use Rattle.dj_model.specs.trusted.Linking.{FoundMethod, FoundField, resolve_method, resolve_field}
+use Rattle.dj_declared.specs.trusted.Files.{desc_in}
 use Rattle.dj_classes.specs.Tables.{name_at}
 use Rattle.dj_linking.specs.declared.linker.BaseNames.{BaseNames}
 use Rattle.dj_linking.specs.declared.linker.BaseNames.TheVariants as bases

@@ -11,7 +11,7 @@ abbrev pub IsNear : List ℕ → List ℕ → MemberRow → Option Near → Type
 IsNear above ranks row None = has above row.class ≡ false
 IsNear above ranks row (Some near) = (has above row.class ≡ true) × ((near.class ≡ row.class) × (near.rank ≡ rank_in ranks row.class) × (near.member ≡ row.place))
 
--- of the classes above, the class of one of the first rows, so many, of which none has a higher rank
+-- of the classes above, the class of one of the first n rows, of which none has a higher rank
 pub record HasNearest (above ranks : List ℕ) (rows : List MemberRow) (count : ℕ) (near : Near) : Type 0 where
   pub at : ℕ
   pub row : MemberRow

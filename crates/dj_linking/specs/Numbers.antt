@@ -4,9 +4,9 @@ use Rattle.std.specs.List.{flat_map}
 use Rattle.std.specs.Option.{option_map}
 use Rattle.std.specs.Global.{Vec}
 use Rattle.dj_names.specs.declared.descriptor.Desc.{Desc}
-use Rattle.dj_names.specs.Types.{Name}
-use Rattle.dj_model.specs.Program.{Program, Class, Method, method_in, field_in}
-use Rattle.dj_model.specs.Linking.{most_classes, FoundMethod, FoundField, method_or, field_or, or_else}
+use Rattle.dj_names.specs.trusted.Types.{Name}
+use Rattle.dj_model.specs.trusted.Program.{Program, Class, Method, method_in, field_in}
+use Rattle.dj_model.specs.trusted.Linking.{most_classes, FoundMethod, FoundField, method_or, field_or, or_else}
 use Rattle.dj_classes.specs.Tables.{super_number, interface_numbers, method_there, field_there}
 use Rattle.dj_classes.specs.declared.place.Place.{Place}
 
@@ -30,7 +30,7 @@ first_places xs = with_all [] xs
 
 -- ---- classes above a class
 
--- interfaces with theirs, so many levels at most
+-- interfaces with theirs, at most this many levels
 unfoldable pub numbers_from : ℕ → Program → List ℕ → List ℕ
 numbers_from zero program classes = []
 numbers_from (suc n) program classes = flat_map (λ k. k ∷ numbers_from n program (interface_numbers program k)) classes
@@ -43,13 +43,13 @@ numbers_above program class = numbers_from most_classes program (interface_numbe
 abbrev pub once_above : Program → ℕ → List ℕ
 once_above program class = first_places (numbers_above program class)
 
--- a class and its superclasses upward, so many at most
+-- a class and its superclasses upward, at most this many
 unfoldable pub numbers_up : ℕ → Program → Option ℕ → List ℕ
 numbers_up zero program class = []
 numbers_up (suc n) program None = []
 numbers_up (suc n) program (Some k) = k ∷ numbers_up n program (super_number program k)
 
--- so many levels are above a class at most
+-- this many levels are above a class at most
 unfoldable pub most_above : ℕ
 most_above = 2 ^ 32 - 1
 
@@ -109,7 +109,7 @@ field_in_class name desc (Some c) = field_or c.name (field_in c.fields name desc
 abbrev pub field_found : Program → Name → Desc → ℕ → Option FoundField
 field_found program name desc class = field_in_class name desc (slice_get program class)
 
--- the place tells what was found
+-- the place says what was found
 abbrev pub TellsMethod : Program → Option Place → Option FoundMethod → Type 0
 TellsMethod program place found = option_map (method_there program) place ≡ option_map Some found
 

@@ -1,7 +1,7 @@
 -- Classes by ranks, each above that of its superclass, and the superclasses of a class as bits at their ranks.
 use Rattle.std.specs.Prelude.{◌≡◌, ℕ, ◌+◌, ◌<◌, ◌^◌, List, [], map, length, Some, get_or}
-use Rattle.dj_model.specs.Program.{Program}
-use Rattle.dj_model.specs.Linking.{most_classes}
+use Rattle.dj_model.specs.trusted.Program.{Program}
+use Rattle.dj_model.specs.trusted.Linking.{most_classes}
 use Rattle.dj_classes.specs.Tables.{super_number}
 use Rattle.dj_linking.specs.declared.ranked.Ranks.{Ranks}
 use Rattle.dj_linking.specs.Bits.{AreBits, words_for}

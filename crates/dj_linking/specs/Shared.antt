@@ -1,10 +1,10 @@
 -- Members that many classes declare, and marks of these classes.
-use Rattle.std.specs.Prelude.{◌≡◌, ℕ, ◌<◌, false, List, All, Option, Some, None, length}
+use Rattle.std.specs.Prelude.{◌≡◌, ℕ, ◌<◌, Bool, true, List, All, Option, Some, None, is_some, length}
 use Rattle.dj_names.specs.declared.descriptor.Desc.{Desc}
-use Rattle.dj_names.specs.Types.{Name}
-use Rattle.dj_model.specs.Program.{Program}
-use Rattle.dj_model.specs.Linking.{any_method, is_plain}
-use Rattle.dj_declared.specs.Files.{desc_in}
+use Rattle.dj_names.specs.trusted.Types.{Name}
+use Rattle.dj_model.specs.trusted.Program.{Program}
+use Rattle.dj_model.specs.trusted.Linking.{any_method, is_plain}
+use Rattle.dj_declared.specs.trusted.Files.{desc_in}
 use Rattle.dj_declared.specs.Members.{field_place, method_place}
 use Rattle.dj_classes.specs.Tables.{fields_at, methods_at}
 use Rattle.dj_directory.specs.Numberings.{Numbering}
@@ -14,31 +14,42 @@ use Rattle.dj_linking.specs.declared.shared.MarkedMember.{MarkedMember}
 use Rattle.dj_linking.specs.declared.shared.Shared.{Shared}
 use Rattle.dj_linking.specs.Bits.{in_bits}
 use Rattle.dj_linking.specs.Chained.{AreFieldChains, AreMethodChains}
-use Rattle.dj_linking.specs.Marked.{IsCovered}
+use Rattle.dj_linking.specs.Marked.{AreMarks}
 use Rattle.dj_linking.specs.Numbered.{AreTexts}
 use Rattle.dj_linking.specs.Numbers.{AreAbove, field_found, method_found}
 use Rattle.dj_linking.specs.Ranked.{AreRanksOf, rank_in}
 
--- ---- what marks tell
+-- ---- what marks say
 
--- nothing is found for a class below the bound whose rank has a bit that isn't set
-abbrev pub IsRankCovered : {A : Type 0} → (ℕ → Option A) → List ℕ → ℕ → List ℕ → Type 0
-IsRankCovered f ranks bound marks = (k : ℕ) → k < bound → rank_in ranks k < bound → in_bits marks (rank_in ranks k) ≡ false → f k ≡ None
+-- a class that declares the member has this rank
+pub record IsOfRank (declares : ℕ → Bool) (ranks : List ℕ) (bound rank : ℕ) : Type 0 where
+  pub class : ℕ
+  pub there : class < bound
+  pub rank_is : rank_in ranks class ≡ rank
+  pub declared : declares class ≡ true
 
--- of the methods like the one at a place, these marks cover those that are neither private nor static
+-- of the ranks that have a bit, the bits are set of those of the classes that declare the member, and no others
+pub record AreRankMarks (declares : ℕ → Bool) (ranks : List ℕ) (bound : ℕ) (marks : List ℕ) : Type 0 where
+  pub marked : (k : ℕ) → k < bound → rank_in ranks k < bound → declares k ≡ true → in_bits marks (rank_in ranks k) ≡ true
+  pub only : (rank : ℕ) → in_bits marks rank ≡ true → IsOfRank declares ranks bound rank
+
+abbrev pub declares_method : Program → Name → Desc → ℕ → Bool
+declares_method program name desc class = is_some (method_found program any_method name desc class)
+
+-- of the methods like the one at a place, these are the marks of those that are neither private nor static
 pub record IsPlainMarked (program : Program) (marked : MarkedMember) : Type 0 where
   pub there : marked.class < length program
-  pub covered : (name : Name) (desc : Desc) → method_place (methods_at program marked.class) name desc ≡ Some marked.member → IsCovered (method_found program is_plain name desc) (length program) marked.words.items
+  pub marks_are : (name : Name) (desc : Desc) → method_place (methods_at program marked.class) name desc ≡ Some marked.member → AreMarks (method_found program is_plain name desc) (length program) marked.words.items
 
--- these marks cover all methods like the one at a place, by the ranks of their classes
+-- these are the marks of all methods like the one at a place, by the ranks of their classes
 pub record IsRankMarked (program : Program) (ranks : List ℕ) (marked : MarkedMember) : Type 0 where
   pub there : marked.class < length program
-  pub covered : (name : Name) (desc : Desc) → method_place (methods_at program marked.class) name desc ≡ Some marked.member → IsRankCovered (method_found program any_method name desc) ranks (length program) marked.words.items
+  pub marks_are : (name : Name) (desc : Desc) → method_place (methods_at program marked.class) name desc ≡ Some marked.member → AreRankMarks (declares_method program name desc) ranks (length program) marked.words.items
 
--- these marks cover all fields like the one at a place
+-- these are the marks of all fields like the one at a place
 pub record IsFieldMarked (program : Program) (marked : MarkedMember) : Type 0 where
   pub there : marked.class < length program
-  pub covered : (name : Name) (desc : Desc) → field_place (fields_at program marked.class) name desc ≡ Some marked.member → IsCovered (field_found program name desc) (length program) marked.words.items
+  pub marks_are : (name : Name) (desc : Desc) → field_place (fields_at program marked.class) name desc ≡ Some marked.member → AreMarks (field_found program name desc) (length program) marked.words.items
 
 -- ---- all of them
 
@@ -68,7 +79,7 @@ pub record HasTexts (directory : Numbering) (name_number desc_number : ℕ) (nam
 abbrev pub AreNumbersAt : (Name → Desc → Option ℕ) → Numbering → ℕ → ℕ → ℕ → Type 0
 AreNumbersAt place directory member name_number desc_number = (name : Name) (desc : Desc) → place name desc ≡ Some member → HasTexts directory name_number desc_number name desc
 
--- the same of a method or a field of a class that is there
+-- the same for a method or a field of a class that is there
 pub record IsMethodNumbered (directory : Numbering) (class member name_number desc_number : ℕ) : Type 0 where
   pub there : class < length directory.program
   pub named : AreNumbersAt (method_place (methods_at directory.program class)) directory member name_number desc_number

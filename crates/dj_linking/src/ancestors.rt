@@ -1,5 +1,5 @@
 ghost use Rattle.std.specs.Prelude.{◌≡◌, ◌<◌, ◌∷◌, length, Some, flat_map};
-ghost use Rattle.dj_model.specs.Linking.{most_classes};
+ghost use Rattle.dj_model.specs.trusted.Linking.{most_classes};
 ghost use Rattle.dj_linking.specs.Chained.{AreMethodChains};
 ghost use Rattle.dj_linking.specs.Numbers.{AreAbove, has, lists_of, numbers_above, numbers_up};
 ghost use Rattle.dj_linking.specs.Ranked.{AreRanksOf};

@@ -1,7 +1,7 @@
-//! Which method a call takes. Marks tell the nearest class that declares a method like the one to which the operand resolves, so no walk upward is needed, and no look at each class that declares one.
+//! Which method a call takes. Marks give the nearest class that declares a method like the one to which the operand resolves, so no walk upward is needed, and no look at each class that declares one.
 ghost use Rattle.std.specs.Prelude.{◌≡◌, ◌<◌, length, Some, IfSome, if◌then◌else◌};
-ghost use Rattle.dj_model.specs.Program.{is_private};
-ghost use Rattle.dj_model.specs.Linking.{FoundMethod, is_not_static, is_plain, most_classes, with_body};
+ghost use Rattle.dj_model.specs.trusted.Program.{is_private};
+ghost use Rattle.dj_model.specs.trusted.Linking.{FoundMethod, is_not_static, is_plain, most_classes, with_body};
 ghost use Rattle.dj_classes.specs.Tables.{methods_at, method_there, super_number};
 ghost use Rattle.dj_directory.specs.Calls.{IsCallTable, tests};
 ghost use Rattle.dj_linking.specs.Called.{TellsFirst, TellsOwn, TellsUp};
@@ -57,7 +57,7 @@ fn nearest_method(
     }))
 }
 
-// The same, by the marks of methods, where these tell it: however many classes declare one.
+// The same by the marks of methods, where there are marks: however many classes declare one.
 fn marked_method(
     table: &ClassTable,
     ranks: &Ranks,
@@ -81,7 +81,7 @@ fn marked_method(
     Some(Some(place))
 }
 
-// The first such method of a class and its superclasses, where bits tell it.
+// The first such method of a class and its superclasses, where there are bits.
 fn method_up(
     table: &ClassTable,
     ranks: &Ranks,

@@ -10,13 +10,13 @@ use dj_classes::ClassTable;
 // A text of more bytes is numbered.
 const LONG_TEXT: usize = 200;
 
-// So many classes, one above the other, are a long chain, and more interfaces are a long list.
+// This many classes, one above the other, are a long chain, and more interfaces are a long list.
 const LONG_CHAIN: usize = 64;
 
 // A search is long that takes the time of comparing more words than these.
 const LONG_SEARCH: usize = 2500;
 
-// Comparing two texts takes the time of so many words, and that of the words in the texts.
+// Comparing two texts takes the time of this many words, and that of the words in the texts.
 const WORDS_BESIDE: usize = 4;
 
 // The bytes of a word.
@@ -25,7 +25,7 @@ const WORD: usize = 8;
 // No count has more bits.
 const MOST_BITS: usize = 64;
 
-// How often so many texts can be halved until none is left.
+// How often this many texts can be halved until none is left.
 fn halvings(count: usize) -> usize
     ensures { result ≤ 64 }
 {
@@ -83,7 +83,7 @@ fn left_by_chain(table: &ClassTable, class: u32, comparisons: usize) -> Option<u
     None
 }
 
-// The same of a search in all classes of a list.
+// The same for a search in all classes of a list.
 fn left_by_list(table: &ClassTable, list: &[u32], comparisons: usize) -> Option<usize>
     requires { AreBelow (length table.now) list.now }
 {
@@ -97,7 +97,7 @@ fn left_by_list(table: &ClassTable, list: &[u32], comparisons: usize) -> Option<
     Some(left)
 }
 
-// The same of a search in a class, its superclasses, and the interfaces above them. Superclasses that go round are a long chain.
+// The same for a search in a class, its superclasses, and the interfaces above them. Superclasses that go round are a long chain.
 fn left_by_search(
     table: &ClassTable,
     methods: &Chains,

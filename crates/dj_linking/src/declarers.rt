@@ -1,11 +1,11 @@
 //! Classes that declare a member, as bits.
-ghost use Rattle.std.specs.Prelude.{◌≡◌, ℕ, ◌<◌, ◌≤◌, ◌*◌, true, Contains, length, Some, slice_get};
+ghost use Rattle.std.specs.Prelude.{◌≡◌, ℕ, ◌<◌, ◌≤◌, ◌*◌, ◌&&◌, true, ltb, nat_eq, Contains, length, Some, slice_get, if◌then◌else◌};
 ghost use Rattle.std.specs.Option.{option_map};
 ghost use Rattle.dj_declared.specs.Members.{method_flags};
 ghost use Rattle.dj_classes.specs.Tables.{methods_at};
 ghost use Rattle.dj_directory.specs.declared.rows.MemberRow.{MemberRow};
 ghost use Rattle.dj_linking.specs.Bits.{in_bits};
-ghost use Rattle.dj_linking.specs.Marked.{is_plain_at};
+ghost use Rattle.dj_linking.specs.Marked.{AddsMarks, is_plain_at};
 ghost use Rattle.dj_linking.specs.Ranked.{rank_in};
 
 use crate::find::{PRIVATE, STATIC};
@@ -34,8 +34,7 @@ fn is_plain_row(directory: &Directory<'_>, row: MemberRow) -> bool
 // Marks a class, where it is to be marked.
 fn mark_if(marks: &mut [u64], class: u32, marked: bool)
     requires { class < length marks.old * 64 }
-    ensures kept { (z : ℕ) → in_bits marks.old z ≡ true → in_bits marks.new z ≡ true }
-    ensures own { marked ≡ true → in_bits marks.new class ≡ true }
+    ensures bits { (z : ℕ) → in_bits marks.new z ≡ (if marked && nat_eq class z then true else in_bits marks.old z) }
     ensures count { length marks.new ≡ length marks.old }
 {
     if marked {
@@ -43,24 +42,24 @@ fn mark_if(marks: &mut [u64], class: u32, marked: bool)
     }
 }
 
-/// Marks the classes of the rows whose method is neither private nor static.
+/// Marks the classes of the rows whose method is neither private nor static, and no others.
 pub fn mark_plain(directory: &Directory<'_>, rows: &[MemberRow], marks: &mut [u64])
     requires there { (row : MemberRow) → Contains rows.now row → row.class < length directory.now.program }
     requires within { (row : MemberRow) → Contains rows.now row → row.place < length (methods_at directory.now.program row.class) }
     requires few { length directory.now.program ≤ length marks.old * 64 }
     ensures count { length marks.new ≡ length marks.old }
-    ensures marked { (row : MemberRow) → Contains rows.now row → is_plain_at directory.now.program row.class row.place ≡ true → in_bits marks.new row.class ≡ true }
+    ensures marks { AddsMarks (λ row. is_plain_at directory.now.program row.class row.place) (λ row. row.class) rows.now marks.old marks.new }
 {
     for row in rows {
         mark_if(marks, row.class, is_plain_row(directory, *row));
     }
 }
 
-/// Marks the classes of the rows.
+/// Marks the classes of the rows, and no others.
 pub fn mark_all(rows: &[MemberRow], marks: &mut [u64])
     requires { (row : MemberRow) → Contains rows.now row → row.class < length marks.old * 64 }
     ensures count { length marks.new ≡ length marks.old }
-    ensures marked { (row : MemberRow) → Contains rows.now row → in_bits marks.new row.class ≡ true }
+    ensures marks { AddsMarks (λ row. true) (λ row. row.class) rows.now marks.old marks.new }
 {
     for row in rows {
         mark_if(marks, row.class, true);
@@ -70,8 +69,7 @@ pub fn mark_all(rows: &[MemberRow], marks: &mut [u64])
 // Marks the rank of a class, where there is a bit for it.
 fn mark_rank(ranks: &[u32], marks: &mut [u64], class: u32)
     requires { class < length ranks.now }
-    ensures kept { (z : ℕ) → in_bits marks.old z ≡ true → in_bits marks.new z ≡ true }
-    ensures own { rank_in ranks.now class < length marks.old * 64 → in_bits marks.new (rank_in ranks.now class) ≡ true }
+    ensures bits { (z : ℕ) → in_bits marks.new z ≡ (if ltb (rank_in ranks.now class) (length marks.old * 64) && nat_eq (rank_in ranks.now class) z then true else in_bits marks.old z) }
     ensures count { length marks.new ≡ length marks.old }
 {
     let rank = ranks[class as usize];
@@ -80,10 +78,10 @@ fn mark_rank(ranks: &[u32], marks: &mut [u64], class: u32)
     }
 }
 
-/// Marks the ranks of the classes of the rows, where there are bits for them.
+/// Marks the ranks of the classes of the rows, where there are bits for them, and no others.
 pub fn mark_ranks(ranks: &[u32], rows: &[MemberRow], marks: &mut [u64])
     requires { (row : MemberRow) → Contains rows.now row → row.class < length ranks.now }
-    ensures marked { (row : MemberRow) → Contains rows.now row → rank_in ranks.now row.class < length marks.old * 64 → in_bits marks.new (rank_in ranks.now row.class) ≡ true }
+    ensures marks { AddsMarks (λ row. ltb (rank_in ranks.now row.class) (length marks.old * 64)) (λ row. rank_in ranks.now row.class) rows.now marks.old marks.new }
     ensures count { length marks.new ≡ length marks.old }
 {
     for row in rows {

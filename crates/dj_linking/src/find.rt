@@ -1,8 +1,8 @@
 ghost use Rattle.std.specs.Prelude.{◌<◌, length, Some, IfSome, slice_get, if◌then◌else◌, ◌∷◌};
-ghost use Rattle.dj_model.specs.Program.{is_interface, flags_of};
-ghost use Rattle.dj_model.specs.Linking.{any_method, is_plain, most_classes, option_list};
+ghost use Rattle.dj_model.specs.trusted.Program.{is_interface, flags_of};
+ghost use Rattle.dj_model.specs.trusted.Linking.{any_method, is_plain, most_classes, option_list};
 ghost use Rattle.dj_declared.specs.Members.{IsDescriptor};
-ghost use Rattle.dj_declared.specs.Files.{desc_in};
+ghost use Rattle.dj_declared.specs.trusted.Files.{desc_in};
 ghost use Rattle.dj_linking.specs.Chained.{AreFieldChains, AreMethodChains};
 ghost use Rattle.dj_linking.specs.Numbers.{AreAbove, AreBelow, TellsMethod, TellsField, first_some, method_found, field_found, lists_of, numbers_above, numbers_up};
 

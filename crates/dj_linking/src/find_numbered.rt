@@ -1,9 +1,9 @@
 //! Members found by the numbers of their names and descriptors.
 ghost use Rattle.std.specs.Prelude.{◌≡◌, ℕ, List, ◌<◌, ◌≤◌, true, false, length, Some, IfSome, MatchOption, slice_get, if◌then◌else◌, ◌∷◌};
 ghost use Rattle.std.specs.Option.{option_map};
-ghost use Rattle.dj_model.specs.Program.{is_interface, flags_of};
-ghost use Rattle.dj_model.specs.Linking.{any_method, is_plain, most_classes, option_list};
-ghost use Rattle.dj_declared.specs.Files.{desc_in};
+ghost use Rattle.dj_model.specs.trusted.Program.{is_interface, flags_of};
+ghost use Rattle.dj_model.specs.trusted.Linking.{any_method, is_plain, most_classes, option_list};
+ghost use Rattle.dj_declared.specs.trusted.Files.{desc_in};
 ghost use Rattle.dj_classes.specs.Tables.{flags_in, super_number};
 ghost use Rattle.dj_linking.specs.Bits.{in_bits};
 ghost use Rattle.dj_linking.specs.Chained.{AreFieldChains, AreMethodChains};
@@ -23,13 +23,13 @@ use crate::words::may_have_bit;
 use dj_classes::Place;
 use dj_directory::Directory;
 
-// So many classes are looked at one by one before all that declare a member are.
+// This many classes are looked at one by one before all that declare a member are.
 const SHORT_WALK: u32 = 8;
 
 // Words with a bit for each class, where there are as few as have rows.
 const MARK_WORDS: usize = 128;
 
-// ---- what a table tells of a class
+// ---- what a table says of a class
 
 // The access flags of a class (JVMS table 4.1-A).
 fn flags_of(directory: &Directory<'_>, class: u32) -> u16
@@ -318,8 +318,8 @@ fn method_up_by_class(directory: &Directory<'_>, class: u32, name: u32, desc: u3
     None
 }
 
-// What a short walk tells of the first method of a class and its superclasses: the method, or that there is none. Most walks end soon;
-// where this one doesn't, nothing is told.
+// What a short walk finds out of the first method of a class and its superclasses: the method, or that there is none. Most walks end soon;
+// where this one doesn't, it finds out nothing.
 fn method_near(directory: &Directory<'_>, class: u32, name: u32, desc: u32) -> Option<Option<Place>>
     requires { class < length directory.now.program }
     ensures { IfSome result (λ place. (n d : List ℕ) → AreTexts directory.now name desc n d → TellsMethod directory.now.program place (first_some (method_found directory.now.program any_method n (desc_in d)) (numbers_up most_classes directory.now.program (Some class)))) }
@@ -358,7 +358,7 @@ fn nearest_method(
     method_in(directory, near.class, name, desc)
 }
 
-// The same, where many classes declare it: their marks tell the nearest one.
+// The same, where many classes declare it: their marks give the nearest one.
 fn marked_method(
     directory: &Directory<'_>,
     ranks: &Ranks,

@@ -1,7 +1,7 @@
 //! The nearest class that declares a method. Ranks fall from a class to its superclass, so of those that declare it and stand above a class
 //! it is the one of the highest rank.
 ghost use Rattle.std.specs.Prelude.{◌≡◌, ◌<◌, length, Some, IfSome};
-ghost use Rattle.dj_model.specs.Linking.{most_classes};
+ghost use Rattle.dj_model.specs.trusted.Linking.{most_classes};
 ghost use Rattle.dj_linking.specs.Nearest.{IsNear, IsNearest, nearer};
 ghost use Rattle.dj_linking.specs.Numbers.{lists_of, numbers_up};
 ghost use Rattle.dj_linking.specs.Ranked.{AreRanksOf, HasRow};

@@ -1,6 +1,6 @@
-//! Classes by ranks: each has one above that of its superclass. So bits tell at once which superclasses a class has.
+//! Classes by ranks: each has one above that of its superclass. So bits show at once which superclasses a class has.
 ghost use Rattle.std.specs.Prelude.{◌≡◌, ℕ, ◌+◌, ◌<◌, ◌^◌, true, false, length, Some, IfOk, IfSome, MatchOption, OnOk};
-ghost use Rattle.dj_model.specs.Linking.{most_classes};
+ghost use Rattle.dj_model.specs.trusted.Linking.{most_classes};
 ghost use Rattle.dj_linking.specs.Numbers.{AreBelow, has, lists_of, most_above, numbers_up};
 ghost use Rattle.dj_linking.specs.Nearest.{IsNearestMarked};
 ghost use Rattle.dj_linking.specs.Ranked.{AreRanked, AreRanks, AreRanksOf, HasRow, IsRow, IsRowAbove, rank_in};

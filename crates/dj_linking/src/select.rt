@@ -1,8 +1,8 @@
 ghost use Rattle.std.specs.Prelude.{◌≡◌, ◌<◌, Some, IfSome, length, if◌then◌else◌};
-ghost use Rattle.dj_model.specs.Program.{is_private};
-ghost use Rattle.dj_model.specs.Linking.{FoundMethod, is_plain, most_classes, with_body};
+ghost use Rattle.dj_model.specs.trusted.Program.{is_private};
+ghost use Rattle.dj_model.specs.trusted.Linking.{FoundMethod, is_plain, most_classes, with_body};
 ghost use Rattle.dj_declared.specs.Members.{IsDescriptor};
-ghost use Rattle.dj_declared.specs.Files.{desc_in};
+ghost use Rattle.dj_declared.specs.trusted.Files.{desc_in};
 ghost use Rattle.dj_classes.specs.Tables.{methods_at, method_there};
 ghost use Rattle.dj_linking.specs.Numbers.{TellsMethod, first_some, method_found, numbers_up};
 

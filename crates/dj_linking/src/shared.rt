@@ -1,15 +1,15 @@
 //! Members that many classes declare. Marks of these classes, made once, spare each look-up the way through all of them.
 ghost use Rattle.std.specs.Prelude.{◌≡◌, ℕ, List, ◌<◌, Contains, length, Some, IfOk, IfSome};
-ghost use Rattle.dj_model.specs.Linking.{any_method, is_plain};
-ghost use Rattle.dj_declared.specs.Files.{desc_in};
+ghost use Rattle.dj_model.specs.trusted.Linking.{is_plain};
+ghost use Rattle.dj_declared.specs.trusted.Files.{desc_in};
 ghost use Rattle.dj_declared.specs.Members.{field_place, method_place};
 ghost use Rattle.dj_classes.specs.Tables.{fields_at, methods_at};
 ghost use Rattle.dj_linking.specs.Chained.{AreMethodChains};
-ghost use Rattle.dj_linking.specs.Marked.{IsCovered};
+ghost use Rattle.dj_linking.specs.Marked.{AreMarks};
 ghost use Rattle.dj_linking.specs.Numbered.{AreTexts};
 ghost use Rattle.dj_linking.specs.Numbers.{field_found, method_found};
 ghost use Rattle.dj_linking.specs.Ranked.{AreRanksOf};
-ghost use Rattle.dj_linking.specs.Shared.{AreShared, HaveFieldMarks, HavePlainMarks, HaveRankMarks, IsRankCovered};
+ghost use Rattle.dj_linking.specs.Shared.{AreRankMarks, AreShared, HaveFieldMarks, HavePlainMarks, HaveRankMarks, declares_method};
 
 use crate::chains::Chains;
 use crate::costly::are_costly;
@@ -20,7 +20,7 @@ use dj_classes::{ClassTable, TableError};
 use dj_directory::Directory;
 use std::alloc::Global;
 
-/// So many classes that declare a member are looked at one by one.
+/// This many classes that declare a member are looked at one by one.
 pub const FEW_ROWS: usize = 64;
 
 /// A member that many classes declare.
@@ -149,7 +149,7 @@ impl Shared {
     /// Where many classes declare a method of the name and the descriptor of these numbers, those in which it is neither private nor static.
     pub fn plain_marks(&self, directory: &Directory<'_>, name: u32, desc: u32) -> Option<&[u64]>
         requires { HavePlainMarks directory.now.program self.now.plain.items }
-        ensures { (n d : List ℕ) → AreTexts directory.now name desc n d → IfSome result (λ words. IsCovered (method_found directory.now.program is_plain n (desc_in d)) (length directory.now.program) words.now) }
+        ensures { (n d : List ℕ) → AreTexts directory.now name desc n d → IfSome result (λ words. AreMarks (method_found directory.now.program is_plain n (desc_in d)) (length directory.now.program) words.now) }
     {
         let marked = marked_in(&self.plain, name, desc)?;
         marks_of_method(directory, marked, name, desc)
@@ -164,7 +164,7 @@ impl Shared {
         desc: u32,
     ) -> Option<&[u64]>
         requires { HaveRankMarks directory.now.program ranks.now.ranks.items self.now.declared.items }
-        ensures { (n d : List ℕ) → AreTexts directory.now name desc n d → IfSome result (λ words. IsRankCovered (method_found directory.now.program any_method n (desc_in d)) ranks.now.ranks.items (length directory.now.program) words.now) }
+        ensures { (n d : List ℕ) → AreTexts directory.now name desc n d → IfSome result (λ words. AreRankMarks (declares_method directory.now.program n (desc_in d)) ranks.now.ranks.items (length directory.now.program) words.now) }
     {
         let _ = ranks;
         let marked = marked_in(&self.declared, name, desc)?;
@@ -174,7 +174,7 @@ impl Shared {
     /// Where many classes declare a field of the name and the descriptor of these numbers, those classes.
     pub fn field_marks(&self, directory: &Directory<'_>, name: u32, desc: u32) -> Option<&[u64]>
         requires { HaveFieldMarks directory.now.program self.now.fields.items }
-        ensures { (n d : List ℕ) → AreTexts directory.now name desc n d → IfSome result (λ words. IsCovered (field_found directory.now.program n (desc_in d)) (length directory.now.program) words.now) }
+        ensures { (n d : List ℕ) → AreTexts directory.now name desc n d → IfSome result (λ words. AreMarks (field_found directory.now.program n (desc_in d)) (length directory.now.program) words.now) }
     {
         let marked = marked_in(&self.fields, name, desc)?;
         marks_of_field(directory, marked, name, desc)

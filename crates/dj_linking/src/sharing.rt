@@ -1,6 +1,6 @@
 //! The marks of members that many classes declare.
-ghost use Rattle.std.specs.Prelude.{◌≡◌, ◌<◌, length, IfOk, OnOk};
-ghost use Rattle.dj_linking.specs.Bits.{words_for};
+ghost use Rattle.std.specs.Prelude.{◌≡◌, ◌<◌, [], length, IfOk, OnOk};
+ghost use Rattle.dj_linking.specs.Bits.{AreBits, words_for};
 ghost use Rattle.dj_linking.specs.Ranked.{AreRanksOf};
 ghost use Rattle.dj_linking.specs.Shared.{HaveFieldMarks, HavePlainMarks, HaveRankMarks, IsFieldMarked, IsFieldNumbered, IsMethodNumbered, IsPlainMarked, IsRankMarked};
 
@@ -33,9 +33,10 @@ fn begin_many(rows: &[MemberRow], at: usize) -> bool
 
 // ---- marks of one member
 
-// Room for a bit of each class.
+// A bit of each class, none of which is set.
 fn no_marks(alloc: Global, count: u32) -> Result<Vec<u64>, TableError>
-    ensures { IfOk result (λ marks. length marks.items ≡ words_for count) }
+    ensures count { IfOk result (λ marks. length marks.items ≡ words_for count) }
+    ensures clear { IfOk result (λ marks. AreBits [] marks.items) }
 {
     Ok(vec![in alloc; 0; count as usize / 64 + 1]?)
 }
@@ -127,7 +128,7 @@ fn put_plain(
     Ok(())
 }
 
-// The same of a method by ranks.
+// The same for a method by ranks.
 fn put_ranked(
     marked: &mut Vec<MarkedMember>,
     directory: &Directory<'_>,
@@ -144,7 +145,7 @@ fn put_ranked(
     Ok(())
 }
 
-// The same of a field.
+// The same for a field.
 fn put_field(
     marked: &mut Vec<MarkedMember>,
     directory: &Directory<'_>,

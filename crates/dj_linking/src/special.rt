@@ -1,7 +1,7 @@
 ghost use Rattle.std.specs.Prelude.{◌≡◌, ◌<◌, Some, length};
-ghost use Rattle.dj_model.specs.Linking.{is_not_static, most_classes};
+ghost use Rattle.dj_model.specs.trusted.Linking.{is_not_static, most_classes};
 ghost use Rattle.dj_declared.specs.Members.{IsDescriptor};
-ghost use Rattle.dj_declared.specs.Files.{desc_in};
+ghost use Rattle.dj_declared.specs.trusted.Files.{desc_in};
 ghost use Rattle.dj_classes.specs.Tables.{super_number};
 ghost use Rattle.dj_linking.specs.Numbers.{TellsMethod, first_some, has, method_found, most_above, numbers_up};
 ghost use Rattle.dj_linking.specs.Ranked.{AreRanksOf};
@@ -10,7 +10,7 @@ use crate::find::STATIC;
 use crate::ranked::Ranks;
 use dj_classes::{ClassTable, Place};
 
-// So many levels are above a class at most.
+// This many levels are above a class at most.
 const MOST_ABOVE: u64 = 4_294_967_295;
 
 // The method of the name and the descriptor that a class declares, where it isn't static.

@@ -3,12 +3,12 @@ use Rattle.std.proofs.Common.{◌≡◌, ℕ, zero, suc, ◌<◌, ◌^◌, Bool,
 use Rattle.std.specs.Prelude.{slice_get}
 use Rattle.std.specs.Option.{option_map}
 use Rattle.std.proofs.lemmas.List.{length-map}
-use Rattle.dj_names.specs.Library.{LibraryMethod, LibraryClass}
+use Rattle.dj_names.specs.trusted.Library.{LibraryMethod, LibraryClass}
 use Rattle.dj_names.specs.declared.native.NativeId.{NativeId}
-use Rattle.dj_pool.specs.Pool.{Constant, IsPool, indexed}
-use Rattle.dj_model.specs.Program.{Class, Method, has_code}
-use Rattle.dj_model.specs.Libraries.{library_body, library_method, library_class}
-use Rattle.dj_program.specs.Codes.{CodeParts}
+use Rattle.dj_pool.specs.trusted.Pool.{Constant, IsPool, indexed}
+use Rattle.dj_model.specs.trusted.Program.{Class, Method, has_code}
+use Rattle.dj_model.specs.trusted.Libraries.{library_body, library_method, library_class}
+use Rattle.dj_program.specs.trusted.Codes.{CodeParts}
 use Rattle.dj_program.specs.Views.{parts_of}
 use Rattle.dj_program.specs.declared.code.MethodCode.{MethodCode}
 use Rattle.dj_shape.specs.Pools.{ArePoolKinds}

@@ -4,12 +4,12 @@ use Rattle.std.specs.Prelude.{◌^◌, ◌/◌, ◌%◌, bit_and}
 use Rattle.std.specs.Int.{bit_at, IsBitSet}
 use Rattle.std.proofs.lemmas.Bool.{eqb-true, eq-eqb}
 use Rattle.std.proofs.lemmas.Nat.{bit_set_by_shift, and_mask}
-use Rattle.dj_pool.specs.Pool.{Constant}
-use Rattle.dj_class.specs.ClassFile.{MemberInfo}
-use Rattle.dj_model.specs.Program.{has_flag, is_abstract}
-use Rattle.dj_check.specs.Attributes.{codes_of}
-use Rattle.dj_check.specs.Malformed.{IsBodiless, IsFaultyMethod}
-use Rattle.dj_declared.specs.Files.{is_bodiless}
+use Rattle.dj_pool.specs.trusted.Pool.{Constant}
+use Rattle.dj_class.specs.trusted.ClassFile.{MemberInfo}
+use Rattle.dj_model.specs.trusted.Program.{has_flag, is_abstract}
+use Rattle.dj_check.specs.trusted.Attributes.{codes_of}
+use Rattle.dj_check.specs.trusted.Malformed.{IsBodiless, IsFaultyMethod}
+use Rattle.dj_declared.specs.trusted.Files.{is_bodiless}
 
 -- ---- flags
 

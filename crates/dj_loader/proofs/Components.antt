@@ -6,9 +6,9 @@ use Rattle.std.specs.Global.{Vec}
 use Rattle.std.proofs.lemmas.Bool.Decides.{nat_tests}
 use Rattle.std.proofs.lemmas.List.{take_more, take_all, map-append, length-map}
 use Rattle.std.proofs.lemmas.Option.{slice_get-map, slice_get_within, slice_get-get_or, get_or_from_slice_get}
-use Rattle.dj_names.specs.Types.{Name}
-use Rattle.dj_model.specs.Program.{Program, Class, superclass_of, interfaces_of}
-use Rattle.dj_model.specs.Linking.{option_list}
+use Rattle.dj_names.specs.trusted.Types.{Name}
+use Rattle.dj_model.specs.trusted.Program.{Program, Class, superclass_of, interfaces_of}
+use Rattle.dj_model.specs.trusted.Linking.{option_list}
 use Rattle.dj_classes.specs.Tables.{class_number, class_numbers, super_number, interface_numbers}
 use Rattle.dj_classes.proofs.Numbered.{class_numbers-within}
 use Rattle.dj_graph.specs.Graphs.{Edges, HasEdge, Reaches, Here, Along, AreComponents, IsInside, edges_of}
@@ -19,7 +19,7 @@ use Rattle.dj_loader.proofs.Upward.{any_member, member_any}
 
 -- ---- edges of a table
 
--- the numbers above a class, as a table tells them
+-- the numbers above a class, as a table has them
 pub above_there : (program : Program) (k : ℕ) (c : Class) → slice_get program k ≡ Some c → option_list (super_number program k) ++ interface_numbers program k ≡ above_numbers program c
 above_there program k c e =
     ap (λ (o : Option Class). option_list (option_and_then (class_number program) (superclass_of o)) ++ class_numbers program (interfaces_of o)) e ∙ split c.superclass

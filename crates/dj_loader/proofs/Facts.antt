@@ -1,8 +1,8 @@
 -- Rows of the definitions, by plain values.
 use Rattle.std.proofs.Common.{◌≡◌, ℕ, zero, suc, true, false, List, [], ◌∷◌, codes, Contains, Option, Some, None, refl, sym, ap, ◌∙◌, subst, inl, inr}
-use Rattle.dj_names.specs.Types.{Name, same_name}
-use Rattle.dj_model.specs.Program.{Class}
-use Rattle.dj_model.specs.Libraries.{is_name_before}
+use Rattle.dj_names.specs.trusted.Types.{Name, same_name}
+use Rattle.dj_model.specs.trusted.Program.{Class}
+use Rattle.dj_model.specs.trusted.Libraries.{is_name_before}
 use Rattle.dj_classes.specs.Tables.{name_of}
 use Rattle.dj_classes.proofs.Orders.{same_from_names, not_both}
 use Rattle.dj_loader.specs.Loads.{above_names, StandsUnder, LacksAbove, StandsBelow, IsOwnAncestor, IsLeast}
@@ -144,7 +144,7 @@ absent_superclass : LacksAbove two (codes "d")
 unfolding two c d class
 absent_superclass = (codes "y", under (d ∷ c ∷ []) d (codes "y") (member_first d (c ∷ [])) (member_first (codes "y") []), refl)
 
--- of the two the least is told
+-- of the two the least is reported
 least_of_two : IsLeast (LacksAbove two) (codes "c")
 unfolding two c d class
 least_of_two = record {

@@ -2,14 +2,14 @@
 use Rattle.std.proofs.Common.{◌≡◌, ℕ, zero, suc, ◌+◌, ◌<◌, Bool, true, false, List, [], ◌∷◌, ◌++◌, map, take, length, get_or, Option, Some, None, refl, sym, ap, ◌∙◌, arith}
 use Rattle.std.specs.Prelude.{slice_get}
 use Rattle.std.proofs.lemmas.Option.{same_Some}
-use Rattle.dj_pool.specs.Pool.{Constant}
+use Rattle.dj_pool.specs.trusted.Pool.{Constant}
 use Rattle.dj_class.specs.declared.class.Attribute.{Attribute}
-use Rattle.dj_class.specs.ClassFile.{MemberInfo}
+use Rattle.dj_class.specs.trusted.ClassFile.{MemberInfo}
 use Rattle.dj_class.specs.Parts.{attribute_of}
-use Rattle.dj_check.specs.Attributes.{is_named, bodies_of, values_of}
+use Rattle.dj_check.specs.trusted.Attributes.{is_named, bodies_of, values_of}
 use Rattle.dj_check.proofs.NamedBodies.{body_if, flat_map_turn}
-use Rattle.dj_model.specs.Program as programs
-use Rattle.dj_program.specs.Naming.{constant_in, constant_of_body, constant_of_bodies}
+use Rattle.dj_model.specs.trusted.Program as programs
+use Rattle.dj_program.specs.trusted.Naming.{constant_in, constant_of_body, constant_of_bodies}
 
 module _ (pool : List Constant) (name : List ℕ) where
   abbrev seen_bodies : List Attribute → List (List ℕ)

@@ -1,25 +1,25 @@
--- The parts of the class that a file defines fit it, and make it what its file tells.
+-- The parts of the class that a file defines fit it, and make it what its file says.
 use Rattle.std.proofs.Common.{◌≡◌, ℕ, zero, suc, ◌+◌, ◌<◌, ◌^◌, Bool, true, false, ◌||◌, List, [], ◌∷◌, ◌++◌, map, length, get_or, Option, Some, None, unwrap_or, All, Contains, IsTrue, refl, sym, ap, ◌∙◌, subst, inl, inr, arith, nat_eq}
 use Rattle.std.specs.Prelude.{slice_get, IsSomeAnd, if◌then◌else◌}
 use Rattle.std.specs.Option.{option_map}
 use Rattle.std.specs.List.{AllByRecursion}
 use Rattle.std.proofs.lemmas.List.{length-map, get_or_default}
 use Rattle.std.proofs.lemmas.Option.{get_or_from_slice_get}
-use Rattle.dj_names.specs.Descriptors.{IsMethodDescriptor}
+use Rattle.dj_names.specs.trusted.Descriptors.{IsMethodDescriptor}
 use Rattle.dj_names.specs.declared.descriptor.Desc.TheVariants as descs
-use Rattle.dj_pool.specs.Pool.{Constant, IsPool, text_at}
+use Rattle.dj_pool.specs.trusted.Pool.{Constant, IsPool, text_at}
 use Rattle.dj_class.specs.declared.class.MemberView.{MemberView}
 use Rattle.dj_class.specs.Members.{member_of}
-use Rattle.dj_class.specs.ClassFile.{MemberInfo, ClassFile, IsMethod, IsValid}
-use Rattle.dj_check.specs.Malformed.{IsFaultyMethod, HasFaultyMethod}
-use Rattle.dj_model.specs.Program as programs
-use Rattle.dj_model.specs.Program.{Program, Class, Method, Field, Body, Abstract, Runs, has_code}
-use Rattle.dj_declared.specs.Files.{desc_in, name_in, no_code, is_bodiless, declared_body, declared_method, declared_field, declared_class}
+use Rattle.dj_class.specs.trusted.ClassFile.{MemberInfo, ClassFile, IsMethod, IsValid}
+use Rattle.dj_check.specs.trusted.Malformed.{IsFaultyMethod, HasFaultyMethod}
+use Rattle.dj_model.specs.trusted.Program as programs
+use Rattle.dj_model.specs.trusted.Program.{Program, Class, Method, Field, Body, Abstract, Runs, has_code}
+use Rattle.dj_declared.specs.trusted.Files.{desc_in, name_in, no_code, is_bodiless, declared_body, declared_method, declared_field, declared_class}
 use Rattle.dj_declared.specs.Members.{IsDescriptor}
 use Rattle.dj_declared.proofs.DescTests.{is_descriptor}
-use Rattle.dj_program.specs.Codes.{CodeParts, code_in}
-use Rattle.dj_program.specs.Naming.{constant_in}
-use Rattle.dj_program.specs.Programs.{AreSideBySide, IsMethodIn, field_in_file, IsClassIn}
+use Rattle.dj_program.specs.trusted.Codes.{CodeParts, code_in}
+use Rattle.dj_program.specs.trusted.Naming.{constant_in}
+use Rattle.dj_program.specs.trusted.Programs.{AreSideBySide, IsMethodIn, field_in_file, IsClassIn}
 use Rattle.dj_program.specs.Views.{parts_of}
 use Rattle.dj_program.specs.declared.code.MethodCode.{MethodCode}
 use Rattle.dj_shape.specs.Pools.{ArePoolKinds}

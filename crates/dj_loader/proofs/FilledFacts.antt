@@ -5,16 +5,16 @@ use Rattle.std.specs.Prelude.{slice_get}
 use Rattle.std.specs.Option.{option_map}
 use Rattle.std.proofs.lemmas.Bool.{false≢true, true≢false}
 use Rattle.std.proofs.lemmas.Option.{none-some, same_Some}
-use Rattle.dj_names.specs.Library.{LibraryClass, abstract}
-use Rattle.dj_pool.specs.Pool.{Constant, Utf8, Class, Integer}
-use Rattle.dj_class.specs.ClassFile.{MemberInfo, ClassFile}
-use Rattle.dj_model.specs.Program as programs
-use Rattle.dj_model.specs.Program.{Program, Method, Field, has_code}
-use Rattle.dj_model.specs.Libraries.{library_class}
-use Rattle.dj_declared.specs.Files.{declared_class}
+use Rattle.dj_names.specs.trusted.Library.{LibraryClass, abstract}
+use Rattle.dj_pool.specs.trusted.Pool.{Constant, Utf8, Class, Integer}
+use Rattle.dj_class.specs.trusted.ClassFile.{MemberInfo, ClassFile}
+use Rattle.dj_model.specs.trusted.Program as programs
+use Rattle.dj_model.specs.trusted.Program.{Program, Method, Field, has_code}
+use Rattle.dj_model.specs.trusted.Libraries.{library_class}
+use Rattle.dj_declared.specs.trusted.Files.{declared_class}
 use Rattle.dj_program.specs.declared.code.MethodCode.{MethodCode}
-use Rattle.dj_program.specs.Naming.{constant_in}
-use Rattle.dj_program.specs.Programs.{AreSideBySide, IsMethodIn, IsClassIn}
+use Rattle.dj_program.specs.trusted.Naming.{constant_in}
+use Rattle.dj_program.specs.trusted.Programs.{AreSideBySide, IsMethodIn, IsClassIn}
 use Rattle.dj_program.specs.Views.{parts_of}
 use Rattle.dj_image.specs.declared.parts.ClassParts.{ClassParts}
 use Rattle.dj_image.specs.declared.parts.FieldValue.{FieldValue}
@@ -121,7 +121,7 @@ module _ (p q : ClassParts) where
       → ArePartsOf (row ∷ []) (file ∷ []) (table_of file) (p ∷ own ∷ [])
   parts fit codes_are values_are = parts_of_both p own file (named_b []) fit (bare_kept codes_are) (is_filled values_are)
 
-  -- ---- the class of a file has what the file tells
+  -- ---- the class of a file has what the file says
 
   -- what a class begins with in its first field
   abbrev first_of : List Field → Option programs.Constant

@@ -1,10 +1,10 @@
--- What is told of classes in order holds of them in any order.
+-- What is known of classes in order holds of them in any order.
 use Rattle.std.proofs.Common.{◌≡◌, ℕ, zero, suc, List, [], Contains, sym, subst}
-use Rattle.dj_names.specs.Types.{Name}
-use Rattle.dj_model.specs.Program.{Program, Class}
-use Rattle.dj_model.specs.Libraries.{joined}
+use Rattle.dj_names.specs.trusted.Types.{Name}
+use Rattle.dj_model.specs.trusted.Program.{Program, Class}
+use Rattle.dj_model.specs.trusted.Libraries.{joined}
 use Rattle.dj_classes.specs.Tables.{IsShared}
-use Rattle.dj_classes.specs.Rows.{RiseStrictly}
+use Rattle.dj_classes.specs.ClassRows.{RiseStrictly}
 use Rattle.dj_classes.proofs.Rising.{members_joined, rise_joined, differ_from_none_shared}
 use Rattle.dj_loader.specs.declared.error.LoadError.{LoadError}
 use Rattle.dj_loader.specs.declared.error.LoadError.TheVariants as errors

@@ -9,11 +9,11 @@ use Rattle.std.specs.List.Sorted.{IsStrictlySortedBy}
 use Rattle.std.proofs.lemmas.Bool.{cases_lt}
 use Rattle.std.proofs.lemmas.Cmp.{nat_list_cmp_total}
 use Rattle.std.proofs.lemmas.Option.{same_Some}
-use Rattle.dj_names.specs.Types.{Name, same_name}
-use Rattle.dj_model.specs.Program.{Program, Class, class_at}
-use Rattle.dj_model.specs.Libraries.{is_name_before}
+use Rattle.dj_names.specs.trusted.Types.{Name, same_name}
+use Rattle.dj_model.specs.trusted.Program.{Program, Class, class_at}
+use Rattle.dj_model.specs.trusted.Libraries.{is_name_before}
 use Rattle.dj_classes.specs.Tables.{class_number, name_at, name_of}
-use Rattle.dj_classes.specs.Rows.{RiseStrictly}
+use Rattle.dj_classes.specs.ClassRows.{RiseStrictly}
 use Rattle.dj_classes.proofs.Orders.{is_name_before-cmp, same_name-refl, names_from_same, cmp_itself}
 use Rattle.dj_classes.proofs.Shared.{first_differs}
 use Rattle.dj_classes.proofs.Numbered.{class_number-rise, class_number-none}

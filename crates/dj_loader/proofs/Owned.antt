@@ -5,18 +5,18 @@ use Rattle.std.proofs.lemmas.Bool.{cases_lt, cases_eq}
 use Rattle.std.proofs.lemmas.List.{length-map, length-take, map_more, length-set, get_or-set_same, get_or-set_other, length-replicate, get_or-replicate, get_or_past, get_or_default}
 use Rattle.std.proofs.lemmas.List.Elements.{All-contains}
 use Rattle.std.proofs.lemmas.Option.{same_Some, slice_get_within, slice_get_read}
-use Rattle.dj_names.specs.Library.{Library, LibraryClass}
+use Rattle.dj_names.specs.trusted.Library.{Library, LibraryClass}
 use Rattle.dj_class.specs.declared.class.ClassView.{ClassView}
 use Rattle.dj_class.specs.Views.{class_of}
-use Rattle.dj_class.specs.ClassFile.{ClassFile, IsValid}
-use Rattle.dj_rules.specs.Violations.{this_name}
-use Rattle.dj_model.specs.Program.{Program, Class, fields_of}
-use Rattle.dj_model.specs.Libraries.{library_class}
-use Rattle.dj_declared.specs.Files.{declared_class}
+use Rattle.dj_class.specs.trusted.ClassFile.{ClassFile, IsValid}
+use Rattle.dj_rules.specs.trusted.Violations.{this_name}
+use Rattle.dj_model.specs.trusted.Program.{Program, Class, fields_of}
+use Rattle.dj_model.specs.trusted.Libraries.{library_class}
+use Rattle.dj_declared.specs.trusted.Files.{declared_class}
 use Rattle.dj_classes.specs.Tables.{class_number, name_at, name_of, methods_of, IsShared}
-use Rattle.dj_classes.specs.Rows.{RiseStrictly}
+use Rattle.dj_classes.specs.ClassRows.{RiseStrictly}
 use Rattle.dj_classes.proofs.Numbered.{class_number-within, class_number-rise}
-use Rattle.dj_program.specs.Programs.{IsClassIn}
+use Rattle.dj_program.specs.trusted.Programs.{IsClassIn}
 use Rattle.dj_image.specs.declared.parts.ClassParts.{ClassParts}
 use Rattle.dj_image.specs.Sources.{class_of_source}
 use Rattle.dj_image.specs.Parts.{source_of, FitClass, FitClasses}

@@ -7,22 +7,22 @@ use Rattle.std.proofs.lemmas.Option.{none-some, same_Some}
 use Rattle.std.proofs.lemmas.List.{length-map, length-replicate}
 use Rattle.dj_names.specs.declared.descriptor.Base.TheVariants as bases
 use Rattle.dj_names.specs.declared.descriptor.Desc.TheVariants as described_as
-use Rattle.dj_names.specs.DescReading.{dims_read, name_read, class_read, of_read, type_read, params_read, field_read, return_read, method_read, desc_read}
-use Rattle.dj_names.specs.Descriptors.{desc_text}
-use Rattle.dj_names.specs.NameReading.{reads_class_name}
-use Rattle.dj_names.specs.Types.{Name, same_name, base_type}
-use Rattle.dj_names.specs.Library.{Library, LibraryClass, LibraryMethod}
-use Rattle.dj_pool.specs.Pool.{Integer}
-use Rattle.dj_class.specs.ClassFile.{MemberInfo, ClassFile}
-use Rattle.dj_model.specs.Program.{Program, Class, Field}
-use Rattle.dj_model.specs.Kinds.{call_signature}
-use Rattle.dj_model.specs.Libraries.{library_class, library_method}
-use Rattle.dj_declared.specs.Files.{desc_in, name_in}
+use Rattle.dj_names.specs.trusted.DescReading.{dims_read, name_read, class_read, of_read, type_read, params_read, field_read, return_read, method_read, desc_read}
+use Rattle.dj_names.specs.trusted.Descriptors.{desc_text}
+use Rattle.dj_names.specs.trusted.NameReading.{reads_class_name}
+use Rattle.dj_names.specs.trusted.Types.{Name, same_name, base_type}
+use Rattle.dj_names.specs.trusted.Library.{Library, LibraryClass, LibraryMethod}
+use Rattle.dj_pool.specs.trusted.Pool.{Integer}
+use Rattle.dj_class.specs.trusted.ClassFile.{MemberInfo, ClassFile}
+use Rattle.dj_model.specs.trusted.Program.{Program, Class, Field}
+use Rattle.dj_model.specs.trusted.Kinds.{call_signature}
+use Rattle.dj_model.specs.trusted.Libraries.{library_class, library_method}
+use Rattle.dj_declared.specs.trusted.Files.{desc_in, name_in}
 use Rattle.dj_declared.specs.Members.{IsDescriptor}
 use Rattle.dj_classes.specs.Tables.{name_at, IsShared}
 use Rattle.dj_classes.proofs.Orders.{same_from_names, not_both}
-use Rattle.dj_program.specs.Naming.{named_at, named_by}
-use Rattle.dj_program.specs.Programs.{AreSideBySide}
+use Rattle.dj_program.specs.trusted.Naming.{named_at, named_by}
+use Rattle.dj_program.specs.trusted.Programs.{AreSideBySide}
 use Rattle.dj_program.specs.declared.code.MethodCode.{MethodCode}
 use Rattle.dj_shape.specs.declared.pool.ConstantKind.TheVariants as constants
 use Rattle.dj_shape.specs.Kept.{KeptKinds}

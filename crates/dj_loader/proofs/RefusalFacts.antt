@@ -1,14 +1,14 @@
--- Which classes can be loaded, and what is told of those that can't, by plain values.
+-- Which classes can be loaded, and what is reported of those that can't, by plain values.
 use Rattle.std.proofs.Common.{◌≡◌, ℕ, zero, suc, ◌<◌, ◌≤◌, ◌^◌, false, List, [], ◌∷◌, map, length, replicate, codes, arith, lit<, Contains, Option, Some, None, refl, sym, ap, ◌∙◌, subst, inl, inr, append-nil}
 use Rattle.std.specs.List.{flat_map}
 use Rattle.std.proofs.lemmas.Option.{none-some, same_Some}
 use Rattle.std.proofs.lemmas.List.{length-replicate}
 use Rattle.dj_names.specs.declared.descriptor.Desc.TheVariants as descs
-use Rattle.dj_names.specs.Types.{Name, same_name}
-use Rattle.dj_names.specs.Library.{LibraryClass, lang, final_class}
-use Rattle.dj_model.specs.Types.{string_name}
-use Rattle.dj_model.specs.Program.{Class, Abstract, class_at}
-use Rattle.dj_model.specs.Libraries.{library_class, is_name_before}
+use Rattle.dj_names.specs.trusted.Types.{Name, same_name}
+use Rattle.dj_names.specs.trusted.Library.{LibraryClass, lang, final_class}
+use Rattle.dj_model.specs.trusted.Types.{string_name}
+use Rattle.dj_model.specs.trusted.Program.{Class, Abstract, class_at}
+use Rattle.dj_model.specs.trusted.Libraries.{library_class, is_name_before}
 use Rattle.dj_classes.specs.Tables.{name_of, name_at, IsShared}
 use Rattle.dj_classes.proofs.Orders.{same_from_names, not_both}
 use Rattle.dj_linking.specs.declared.linker.BaseNames.TheVariants as bases
@@ -142,7 +142,7 @@ other_twice refused = other_name (codes "o") (codes "x") refl (only_twice (codes
 none_twice : (name : Name) → RefusesLoad (o ∷ []) (errors.Duplicate name) → ⊥
 none_twice name refused = one_name o name refused.shared
 
--- what is lacking is told only where no name is shared
+-- what is lacking is reported only where no name is shared
 only_lacks : (name : Name) → LacksAbove (d ∷ []) name → codes "d" ≡ name
 only_lacks name (above, under, absent) = (alone d name above under).0
 

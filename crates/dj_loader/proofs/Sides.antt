@@ -3,7 +3,7 @@ use Rattle.std.proofs.Common.{◌≡◌, ℕ, zero, suc, ◌+◌, ◌<◌, ◌�
 use Rattle.std.specs.Prelude.{slice_get, Result, Ok, Err, IfOk}
 use Rattle.std.proofs.lemmas.List.{take_all, map_more}
 use Rattle.std.proofs.lemmas.Option.{same_Some}
-use Rattle.dj_program.specs.Programs.{AreSideBySide}
+use Rattle.dj_program.specs.trusted.Programs.{AreSideBySide}
 
 -- ---- side by side
 

@@ -5,16 +5,16 @@ use Rattle.std.proofs.lemmas.List.{length-map}
 use Rattle.std.proofs.lemmas.List.Concat.{length-flat_map}
 use Rattle.std.proofs.lemmas.List.Sums.{sum_by-cons}
 use Rattle.std.proofs.lemmas.Option.{same_Some}
-use Rattle.dj_names.specs.Library.{Library}
-use Rattle.dj_pool.specs.Pool.{Constant}
-use Rattle.dj_class.specs.ClassFile.{ClassFile}
-use Rattle.dj_model.specs.Program as programs
-use Rattle.dj_model.specs.Program.{Program, Class, Method, Field}
-use Rattle.dj_model.specs.Libraries.{is_name_before, inserted, joined}
+use Rattle.dj_names.specs.trusted.Library.{Library}
+use Rattle.dj_pool.specs.trusted.Pool.{Constant}
+use Rattle.dj_class.specs.trusted.ClassFile.{ClassFile}
+use Rattle.dj_model.specs.trusted.Program as programs
+use Rattle.dj_model.specs.trusted.Program.{Program, Class, Method, Field}
+use Rattle.dj_model.specs.trusted.Libraries.{is_name_before, inserted, joined}
 use Rattle.dj_classes.specs.Tables.{name_of}
-use Rattle.dj_classes.specs.Rows.{RiseStrictly}
-use Rattle.dj_program.specs.Codes.{CodeParts}
-use Rattle.dj_program.specs.Programs.{IsClassIn, IsProgramIn}
+use Rattle.dj_classes.specs.ClassRows.{RiseStrictly}
+use Rattle.dj_program.specs.trusted.Codes.{CodeParts}
+use Rattle.dj_program.specs.trusted.Programs.{IsClassIn, IsProgramIn}
 use Rattle.dj_types.specs.Members.{methods_in, fields_in, all_methods, all_fields}
 use Rattle.dj_image.specs.declared.parts.ClassParts.{ClassParts}
 use Rattle.dj_image.specs.Sources.{Source, with_codes, with_values, class_of_source, program_of_sources}

@@ -1,12 +1,12 @@
 -- The class String of a library is in each program of it.
 use Rattle.std.proofs.Common.{◌≡◌, ℕ, true, List, [], map, Contains, Option, Some, None, refl}
 use Rattle.std.specs.Prelude.{is_some}
-use Rattle.dj_names.specs.Library.{Library}
-use Rattle.dj_class.specs.ClassFile.{ClassFile}
-use Rattle.dj_model.specs.Types.{string_name}
-use Rattle.dj_model.specs.Program.{Program}
-use Rattle.dj_model.specs.Libraries.{library_class, joined}
-use Rattle.dj_declared.specs.Files.{declared_class}
+use Rattle.dj_names.specs.trusted.Library.{Library}
+use Rattle.dj_class.specs.trusted.ClassFile.{ClassFile}
+use Rattle.dj_model.specs.trusted.Types.{string_name}
+use Rattle.dj_model.specs.trusted.Program.{Program}
+use Rattle.dj_model.specs.trusted.Libraries.{library_class, joined}
+use Rattle.dj_declared.specs.trusted.Files.{declared_class}
 use Rattle.dj_classes.specs.Tables.{class_number}
 use Rattle.dj_linking.specs.declared.linker.BaseNames.{BaseNames}
 use Rattle.dj_linking.specs.Linked.{prefix_of}

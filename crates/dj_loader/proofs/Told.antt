@@ -1,14 +1,14 @@
--- The names that are told of the first numbers.
+-- The names that are reported for the first numbers.
 use Rattle.std.proofs.Common.{◌≡◌, ℕ, ◌+◌, ◌<◌, Bool, false, List, Some, inl, inr, sym, ap, ◌∙◌, subst, arith}
 use Rattle.std.specs.Prelude.{slice_get}
 use Rattle.std.specs.Option.{option_map}
 use Rattle.std.specs.List.{list_any}
 use Rattle.std.proofs.lemmas.Bool.{cases_lt}
 use Rattle.std.proofs.lemmas.Option.{same_Some}
-use Rattle.dj_names.specs.Types.{Name}
-use Rattle.dj_model.specs.Program.{Program}
+use Rattle.dj_names.specs.trusted.Types.{Name}
+use Rattle.dj_model.specs.trusted.Program.{Program}
 use Rattle.dj_classes.specs.Tables.{name_at, lacks_above}
-use Rattle.dj_classes.specs.Rows.{RiseStrictly}
+use Rattle.dj_classes.specs.ClassRows.{RiseStrictly}
 use Rattle.dj_graph.specs.Graphs.{Edges}
 use Rattle.dj_loader.specs.Loads.{LacksAbove, IsOwnAncestor, IsLeast, Never}
 use Rattle.dj_loader.specs.Numbered.{IsLacking, IsOnCycle, IsFirst, NeverSo, has_number, LeadsBack}

@@ -4,11 +4,11 @@ use Rattle.std.specs.Prelude.{slice_get, IsSomeAnd, is_none, ◌||◌}
 use Rattle.std.specs.Option.{option_map}
 use Rattle.std.specs.List.{list_any}
 use Rattle.std.proofs.lemmas.Option.{same_Some, slice_get-map}
-use Rattle.dj_names.specs.Types.{Name}
-use Rattle.dj_model.specs.Program.{Program, Class}
-use Rattle.dj_model.specs.Linking.{option_list}
+use Rattle.dj_names.specs.trusted.Types.{Name}
+use Rattle.dj_model.specs.trusted.Program.{Program, Class}
+use Rattle.dj_model.specs.trusted.Linking.{option_list}
 use Rattle.dj_classes.specs.Tables.{class_number, class_numbers, name_at, is_lacking}
-use Rattle.dj_classes.specs.Rows.{RiseStrictly}
+use Rattle.dj_classes.specs.ClassRows.{RiseStrictly}
 use Rattle.dj_classes.proofs.Numbered.{name_at-number, class_number-rise}
 use Rattle.dj_graph.specs.Graphs.{HasEdge, Reaches, Here, Along}
 use Rattle.dj_loader.specs.Loads.{above_names, StandsUnder, LacksAbove, StandsBelow, IsOwnAncestor}

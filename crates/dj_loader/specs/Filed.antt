@@ -1,17 +1,17 @@
--- The code's own: the parts of a class that a file defines and of one that none does, and which file defines which class.
+-- Used by the code alone: the parts of a class that a file defines and of one that none does, and which file defines which class.
 use Rattle.std.specs.Prelude.{◌≡◌, ℕ, Bool, true, false, List, [], map, replicate, length, get_or, Option, Some, None, slice_get}
 use Rattle.std.specs.Option.{option_map}
-use Rattle.dj_pool.specs.Pool.{Constant}
-use Rattle.dj_class.specs.ClassFile.{MemberInfo, ClassFile}
-use Rattle.dj_rules.specs.Violations.{this_name}
-use Rattle.dj_model.specs.Program as programs
-use Rattle.dj_model.specs.Program.{Program}
-use Rattle.dj_declared.specs.Files.{is_bodiless}
+use Rattle.dj_pool.specs.trusted.Pool.{Constant}
+use Rattle.dj_class.specs.trusted.ClassFile.{MemberInfo, ClassFile}
+use Rattle.dj_rules.specs.trusted.Violations.{this_name}
+use Rattle.dj_model.specs.trusted.Program as programs
+use Rattle.dj_model.specs.trusted.Program.{Program}
+use Rattle.dj_declared.specs.trusted.Files.{is_bodiless}
 use Rattle.dj_classes.specs.Tables.{class_number, methods_at, fields_at}
 use Rattle.dj_program.specs.declared.code.MethodCode.{MethodCode}
-use Rattle.dj_program.specs.Codes.{IsMethodCode}
-use Rattle.dj_program.specs.Naming.{constant_in}
-use Rattle.dj_program.specs.Programs.{AreSideBySide}
+use Rattle.dj_program.specs.trusted.Codes.{IsMethodCode}
+use Rattle.dj_program.specs.trusted.Naming.{constant_in}
+use Rattle.dj_program.specs.trusted.Programs.{AreSideBySide}
 use Rattle.dj_program.specs.Views.{parts_of}
 use Rattle.dj_shape.specs.Pools.{ArePoolKinds}
 use Rattle.dj_image.specs.declared.parts.ClassParts.{ClassParts}
@@ -31,7 +31,7 @@ desc_index m = m.desc
 abbrev pub told_value : List Constant → Option FieldValue → Option programs.Constant
 told_value pool value = option_map (constant_of_value pool) value
 
--- those of the class that a file defines
+-- the parts of the class that a file defines
 pub record AreFileParts (c : ClassFile) (parts : ClassParts) : Type 0 where
   pub pool : parts.pool ≡ c.pool
   pub kinds : ArePoolKinds c.pool parts.kinds
@@ -39,7 +39,7 @@ pub record AreFileParts (c : ClassFile) (parts : ClassParts) : Type 0 where
   pub descs : parts.descs.items ≡ map desc_index c.methods
   pub values : map (told_value c.pool) parts.values.items ≡ map (constant_in c.pool) c.fields
 
--- those of a class that no file defines, with so many members
+-- the parts of a class that no file defines, with this many members
 pub record AreBareParts (methods fields : ℕ) (parts : ClassParts) : Type 0 where
   pub pool : parts.pool ≡ []
   pub kinds : ArePoolKinds [] parts.kinds
@@ -48,18 +48,18 @@ pub record AreBareParts (methods fields : ℕ) (parts : ClassParts) : Type 0 whe
 
 -- ---- the parts of the classes of a table
 
--- of each class the place of the file that defines it, where one does
+-- for each class the place of the file that defines it, where one does
 pub record AreOwners (table : Program) (files : List ClassFile) (owners : List (Option ℕ)) : Type 0 where
   pub count : length owners ≡ length table
   pub named : (k place : ℕ) → get_or owners k None ≡ Some place → (c : ClassFile) × (slice_get files place ≡ Some c) × (class_number table (this_name c) ≡ Some k)
   pub each : (k place : ℕ) (c : ClassFile) → slice_get files place ≡ Some c → class_number table (this_name c) ≡ Some k → get_or owners k None ≡ None → ⊥
 
--- those of the class of a number, which the file of a place defines
+-- the parts of the class of a number, which the file at a place defines
 abbrev pub ArePartsFor : Program → List ClassFile → ℕ → Option ℕ → ClassParts → Type 0
 ArePartsFor table files k None parts = AreBareParts (length (methods_at table k)) (length (fields_at table k)) parts
 ArePartsFor table files k (Some place) parts = (c : ClassFile) × (slice_get files place ≡ Some c) × AreFileParts c parts
 
--- those of the classes up to a number
+-- the parts of the classes up to a number
 pub record AreFirstParts (table : Program) (files : List ClassFile) (owners : List (Option ℕ)) (count : ℕ) (parts : List ClassParts) : Type 0 where
   pub many : length parts ≡ count
   pub each : (k : ℕ) (p : ClassParts) → slice_get parts k ≡ Some p → ArePartsFor table files k (get_or owners k None) p

@@ -1,15 +1,15 @@
--- What is refused when classes are loaded: names that they share, classes that stand under absent ones, and classes that stand above
+-- What is refused when classes are loaded: names that they share, classes whose superclass or interface is absent, and classes that are above
 -- themselves (JVMS 5.3.5).
 use Rattle.std.specs.Prelude.{◌≡◌, ℕ, zero, suc, ◌^◌, ◌<◌, ⊤, List, ◌++◌, map, length, None, Contains, IsFalse}
 use Rattle.std.specs.List.{flat_map}
-use Rattle.dj_names.specs.Types.{Name}
-use Rattle.dj_names.specs.Library.{Library, LibraryClass}
-use Rattle.dj_class.specs.ClassFile.{ClassFile}
-use Rattle.dj_model.specs.Types.{string_name}
-use Rattle.dj_model.specs.Program.{Class, Method, Field, class_at}
-use Rattle.dj_model.specs.Linking.{option_list}
-use Rattle.dj_model.specs.Libraries.{library_class, is_name_before}
-use Rattle.dj_declared.specs.Files.{declared_class}
+use Rattle.dj_names.specs.trusted.Types.{Name}
+use Rattle.dj_names.specs.trusted.Library.{Library, LibraryClass}
+use Rattle.dj_class.specs.trusted.ClassFile.{ClassFile}
+use Rattle.dj_model.specs.trusted.Types.{string_name}
+use Rattle.dj_model.specs.trusted.Program.{Class, Method, Field, class_at}
+use Rattle.dj_model.specs.trusted.Linking.{option_list}
+use Rattle.dj_model.specs.trusted.Libraries.{library_class, is_name_before}
+use Rattle.dj_declared.specs.trusted.Files.{declared_class}
 use Rattle.dj_classes.specs.Tables.{IsShared, IsLeastShared}
 use Rattle.dj_linking.specs.declared.linker.BaseNames.{BaseNames}
 use Rattle.dj_linking.specs.Linked.{prefix_of}
@@ -26,7 +26,7 @@ methods_of c = c.methods
 abbrev pub fields_of : Class → List Field
 fields_of c = c.fields
 
--- the library has the class String, where its names stand under this base
+-- the library has the class String, where its names begin with this prefix
 pub record HasStringIn (library : Library) (base : BaseNames) : Type 0 where
   pub class : LibraryClass
   pub there : Contains library class
@@ -37,7 +37,7 @@ pub record AreFewMembers (classes : List Class) : Type 0 where
   pub methods : length (flat_map methods_of classes) < 2 ^ 32
   pub fields : length (flat_map fields_of classes) < 2 ^ 32
 
--- ---- what stands above a class
+-- ---- what is above a class
 
 -- its superclass, where it has one, and the interfaces that it lists
 abbrev pub above_names : Class → List Name
@@ -54,7 +54,7 @@ pub record StandsUnder (classes : List Class) (name above : Name) : Type 0 where
 abbrev pub LacksAbove : List Class → Name → Type 0
 LacksAbove classes name = (above : Name) × StandsUnder classes name above × (class_at classes above ≡ None)
 
--- with so many classes between them
+-- with this many classes between them
 abbrev pub StandsBelow : ℕ → List Class → Name → Name → Type 0
 StandsBelow zero classes name above = StandsUnder classes name above
 StandsBelow (suc n) classes name above = (between : Name) × StandsUnder classes name between × StandsBelow n classes between above

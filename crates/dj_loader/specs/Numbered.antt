@@ -1,7 +1,7 @@
--- The code's own: classes by numbers in a table, and ways upward between them.
+-- Used by the code alone: classes by numbers in a table, and ways upward between them.
 use Rattle.std.specs.Prelude.{◌≡◌, ◌<◌, ℕ, ⊤, Bool, true, false, List, map, nat_eq, Option, Some, None, slice_get}
 use Rattle.std.specs.List.{list_any}
-use Rattle.dj_model.specs.Program.{Program, Class}
+use Rattle.dj_model.specs.trusted.Program.{Program, Class}
 use Rattle.dj_classes.specs.Tables.{class_numbers, lacks_above}
 use Rattle.dj_graph.specs.Graphs.{Edges, HasEdge, Reaches}
 use Rattle.dj_loader.specs.declared.error.LoadError.{LoadError}

@@ -1,11 +1,11 @@
--- The code's own: the parts of classes by their numbers.
+-- Used by the code alone: the parts of classes by their numbers.
 use Rattle.std.specs.Prelude.{◌≡◌, ℕ, List, [], Some, Contains, slice_get}
-use Rattle.dj_names.specs.Library.{Library, LibraryClass}
-use Rattle.dj_class.specs.ClassFile.{ClassFile}
-use Rattle.dj_model.specs.Program.{Program}
-use Rattle.dj_model.specs.Libraries.{library_class, joined}
-use Rattle.dj_declared.specs.Files.{declared_class}
-use Rattle.dj_program.specs.Programs.{IsClassIn}
+use Rattle.dj_names.specs.trusted.Library.{Library, LibraryClass}
+use Rattle.dj_class.specs.trusted.ClassFile.{ClassFile}
+use Rattle.dj_model.specs.trusted.Program.{Program}
+use Rattle.dj_model.specs.trusted.Libraries.{library_class, joined}
+use Rattle.dj_declared.specs.trusted.Files.{declared_class}
+use Rattle.dj_program.specs.trusted.Programs.{IsClassIn}
 use Rattle.dj_image.specs.declared.parts.ClassParts.{ClassParts}
 use Rattle.dj_image.specs.Sources.{class_of_source}
 use Rattle.dj_image.specs.Parts.{source_of, FitClasses}
@@ -17,7 +17,7 @@ pub record IsTableOf (library : Library) (files : List ClassFile) (table : Progr
   pub loadable : IsLoadable (all_classes library files)
   pub few : AreFewMembers (all_classes library files)
 
--- the classes of a table have parts: those of files what their files tell, and those of a library nothing
+-- the classes of a table have parts: files' classes have what their files have, and a library's nothing
 pub record ArePartsOf (library : Library) (files : List ClassFile) (table : Program) (parts : List ClassParts) : Type 0 where
   pub fit : FitClasses table parts
   pub filled : (k : ℕ) (c : ClassFile) (p : ClassParts) → Contains files c → slice_get table k ≡ Some (declared_class c) → slice_get parts k ≡ Some p → IsClassIn c (class_of_source (source_of (declared_class c) p))

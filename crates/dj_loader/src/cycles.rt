@@ -1,9 +1,9 @@
 ghost use Rattle.std.specs.Prelude.{◌≡◌, ◌<◌, ◌^◌, ◌++◌, length, IfOk, IfErr, IfSome, MatchOption};
 ghost use Rattle.std.specs.List.{list_any};
 ghost use Rattle.dj_graph.specs.Graphs.{AreComponents, edges_of};
-ghost use Rattle.dj_model.specs.Linking.{option_list};
+ghost use Rattle.dj_model.specs.trusted.Linking.{option_list};
 ghost use Rattle.dj_classes.specs.Tables.{interface_numbers, super_number};
-ghost use Rattle.dj_classes.specs.Rows.{RiseStrictly};
+ghost use Rattle.dj_classes.specs.ClassRows.{RiseStrictly};
 ghost use Rattle.dj_loader.specs.Loads.{IsOwnAncestor, Never};
 ghost use Rattle.dj_loader.specs.Numbered.{edges_in, has_number, IsFirst, IsMemory, IsOnCycle, LeadsBack, NeverSo, RefusesCycles};
 

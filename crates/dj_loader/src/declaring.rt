@@ -1,10 +1,10 @@
 ghost use Rattle.std.specs.Prelude.{◌≡◌, ◌++◌, ◌<◌, ◌^◌, [], length, map, All, IfOk, IfErr, OnOk};
-ghost use Rattle.dj_names.specs.Descriptors.{IsDesc};
-ghost use Rattle.dj_class.specs.ClassFile.{IsValid};
+ghost use Rattle.dj_names.specs.trusted.Descriptors.{IsDesc};
+ghost use Rattle.dj_class.specs.trusted.ClassFile.{IsValid};
 ghost use Rattle.dj_class.specs.Views.{class_of};
 ghost use Rattle.dj_natives.specs.Views.{library_class_view, library_view};
-ghost use Rattle.dj_model.specs.Libraries.{library_class, joined};
-ghost use Rattle.dj_declared.specs.Files.{declared_class};
+ghost use Rattle.dj_model.specs.trusted.Libraries.{library_class, joined};
+ghost use Rattle.dj_declared.specs.trusted.Files.{declared_class};
 ghost use Rattle.dj_classes.specs.Tables.{IsShared};
 ghost use Rattle.dj_loader.specs.Loads.{all_classes, Never, RefusesLoad};
 ghost use Rattle.dj_loader.specs.Numbered.{IsMemory};

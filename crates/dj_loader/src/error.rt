@@ -9,7 +9,7 @@ use dj_shape::ShapeError;
 use std::alloc::{AllocError, AllocFailed};
 use thiserror::Error;
 
-/// Why classes were not loaded. A name is the least one of which the cause holds, in the order of bytes.
+/// Why classes were not loaded. The name is the least one, in the order of bytes, for which the cause holds.
 #[derive(Debug, Error, Drop)]
 pub enum LoadError {
     /// Two classes have this name.

@@ -1,11 +1,11 @@
 //! The parts of the class that a file defines.
 ghost use Rattle.std.specs.Prelude.{◌≡◌, map, All, IfOk, IfErr};
 ghost use Rattle.std.specs.List.{AllByRecursion};
-ghost use Rattle.dj_class.specs.ClassFile.{IsAttribute, IsMethod, IsValid};
+ghost use Rattle.dj_class.specs.trusted.ClassFile.{IsAttribute, IsMethod, IsValid};
 ghost use Rattle.dj_class.specs.Members.{member_of};
 ghost use Rattle.dj_class.specs.Views.{class_of};
-ghost use Rattle.dj_check.specs.Malformed.{IsFaultyMethod, HasFaultyMethod};
-ghost use Rattle.dj_program.specs.Programs.{AreSideBySide};
+ghost use Rattle.dj_check.specs.trusted.Malformed.{IsFaultyMethod, HasFaultyMethod};
+ghost use Rattle.dj_program.specs.trusted.Programs.{AreSideBySide};
 ghost use Rattle.dj_loader.specs.Filed.{desc_index, AreFileParts, IsCodeFor};
 ghost use Rattle.dj_loader.specs.Numbered.{IsMemory};
 
@@ -37,7 +37,7 @@ fn code_of(
     }
 }
 
-// Of each method its code, where it has some.
+// For each method its code, where it has some.
 fn codes_of(
     alloc: Global,
     pool: &Pool<'_>,
@@ -55,7 +55,7 @@ fn codes_of(
     Ok(codes)
 }
 
-// Of each method the index of its descriptor.
+// For each method the index of its descriptor.
 fn descs_of(alloc: Global, methods: &[MemberView<'_>]) -> Result<Vec<u16>, LoadError>
     ensures descs { IfOk result (λ descs. descs.items ≡ map desc_index (map member_of methods.now)) }
     ensures memory { IfErr result IsMemory }

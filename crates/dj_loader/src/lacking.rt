@@ -1,5 +1,5 @@
 ghost use Rattle.std.specs.Prelude.{◌≡◌, ◌<◌, length, IfOk, IfErr, IfSome, MatchOption};
-ghost use Rattle.dj_classes.specs.Rows.{RiseStrictly};
+ghost use Rattle.dj_classes.specs.ClassRows.{RiseStrictly};
 ghost use Rattle.dj_loader.specs.Loads.{LacksAbove, Never};
 ghost use Rattle.dj_loader.specs.Numbered.{IsFirst, IsLacking, NeverSo, RefusesLacking};
 
@@ -8,7 +8,7 @@ use dj_classes::ClassTable;
 use dj_names::Name;
 use std::alloc::Global;
 
-// The first class whose superclass or one of whose interfaces isn't there.
+// The first class whose superclass or one of whose interfaces is absent.
 fn first_lacking(table: &ClassTable) -> Option<u32>
     ensures first { MatchOption result (NeverSo (IsLacking table.now)) (IsFirst (IsLacking table.now)) }
     ensures there { IfSome result (λ class. class < length table.now) }
@@ -21,7 +21,7 @@ fn first_lacking(table: &ClassTable) -> Option<u32>
     None
 }
 
-/// Refuses classes one of which stands under an absent one.
+/// Refuses classes of which one has a superclass or an interface that is absent.
 pub fn refuse_lacking(alloc: Global, table: &ClassTable) -> Result<(), LoadError>
     requires { RiseStrictly table.now }
     ensures whole { IfOk result (λ _. Never (LacksAbove table.now)) }

@@ -1,13 +1,13 @@
 ghost use Rattle.std.specs.Prelude.{◌≡◌, ◌+◌, ◌^◌, ◌<◌, [], List, length, map, All, IfOk, IfErr};
-ghost use Rattle.dj_names.specs.Descriptors.{IsDesc};
-ghost use Rattle.dj_names.specs.Library.{LibraryClass};
-ghost use Rattle.dj_class.specs.ClassFile.{IsValid};
+ghost use Rattle.dj_names.specs.trusted.Descriptors.{IsDesc};
+ghost use Rattle.dj_names.specs.trusted.Library.{LibraryClass};
+ghost use Rattle.dj_class.specs.trusted.ClassFile.{IsValid};
 ghost use Rattle.dj_class.specs.Views.{class_of};
 ghost use Rattle.dj_natives.specs.Views.{library_view};
-ghost use Rattle.dj_model.specs.Libraries.{joined};
-ghost use Rattle.dj_check.specs.Malformed.{HasFaultyMethod};
+ghost use Rattle.dj_model.specs.trusted.Libraries.{joined};
+ghost use Rattle.dj_check.specs.trusted.Malformed.{HasFaultyMethod};
 ghost use Rattle.dj_linking.specs.Linked.{prefix_of};
-ghost use Rattle.dj_program.specs.Programs.{IsProgramIn};
+ghost use Rattle.dj_program.specs.trusted.Programs.{IsProgramIn};
 ghost use Rattle.dj_image.specs.Imaged.{program_of, IsNumbered};
 ghost use Rattle.dj_image.specs.Parts.{HasString};
 ghost use Rattle.dj_loader.specs.Loads.{all_classes, AreFewMembers, HasStringIn, IsLoadable, RefusesLoad};
@@ -49,10 +49,7 @@ fn link(alloc: Global, table: ClassTable, base: BaseNames) -> Result<Linker, Loa
     ensures linked { IfOk result (λ linker. linker ≡ record { program = table; prefix = prefix_of base }) }
     ensures memory { IfErr result IsMemory }
 {
-    match Linker::of(alloc, table, base) {
-        Ok(linker) => Ok(linker),
-        Err(_) => Err(LoadError::Memory),
-    }
+    Linker::of(alloc, table, base).or(Err(LoadError::Memory))
 }
 
 // The image of the classes of a table, which get their parts.
@@ -76,8 +73,8 @@ fn image_in(
     Ok(image_of(alloc, linker, parts)?)
 }
 
-/// The image of the program of class files and a library, whose names stand under the base and which has the class String. No method's code is
-/// faulty. Names that classes share are told first, then classes under absent ones, then cycles. There is no memory for 2^31 classes and more.
+/// The image of the program of class files and a library, whose names begin with this prefix and which has the class String. No method's code is
+/// faulty. Names that classes share are reported first, then classes whose superclass or interface is absent, then cycles. There is no memory for 2^31 classes and more.
 pub fn load(
     alloc: Global,
     views: &[ClassView<'_>],

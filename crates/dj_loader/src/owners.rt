@@ -1,6 +1,6 @@
 //! Which file defines which class of a table.
 ghost use Rattle.std.specs.Prelude.{◌≡◌, [], ◌∷◌, ◌++◌, length, map, replicate, List, IfOk, IfErr};
-ghost use Rattle.dj_class.specs.ClassFile.{ClassFile};
+ghost use Rattle.dj_class.specs.trusted.ClassFile.{ClassFile};
 ghost use Rattle.dj_class.specs.Views.{class_of};
 ghost use Rattle.dj_loader.specs.Filed.{AreOwners};
 ghost use Rattle.dj_loader.specs.Numbered.{IsMemory};
@@ -11,7 +11,7 @@ use dj_class::ClassView;
 use dj_classes::ClassTable;
 use std::alloc::Global;
 
-/// So many places, with nothing there.
+/// This many places, with nothing there.
 pub fn nones<T: Drop>(alloc: Global, count: usize) -> Result<Vec<Option<T>>, LoadError>
     ensures nones { IfOk result (λ nones. nones.items ≡ replicate count None) }
     ensures memory { IfErr result IsMemory }
@@ -34,7 +34,7 @@ fn note_owner(owners: &mut [Option<usize>], table: &ClassTable, view: &ClassView
     owners[class as usize] = Some(place);
 }
 
-/// Of each class the place of the file that defines it, where one does. Each name is looked up once.
+/// For each class the place of the file that defines it, where one does. Each name is looked up once.
 pub fn owners_of(
     alloc: Global,
     table: &ClassTable,

@@ -1,9 +1,9 @@
 //! What classes have beside what they declare.
 ghost use Rattle.std.specs.Prelude.{◌≡◌, ◌<◌, length, map, All, IfOk, IfErr, IfSome};
-ghost use Rattle.dj_class.specs.ClassFile.{IsValid};
+ghost use Rattle.dj_class.specs.trusted.ClassFile.{IsValid};
 ghost use Rattle.dj_class.specs.Views.{class_of};
-ghost use Rattle.dj_check.specs.Malformed.{HasFaultyMethod};
-ghost use Rattle.dj_names.specs.Library.{Library};
+ghost use Rattle.dj_check.specs.trusted.Malformed.{HasFaultyMethod};
+ghost use Rattle.dj_names.specs.trusted.Library.{Library};
 ghost use Rattle.dj_classes.specs.Tables.{methods_at, fields_at};
 ghost use Rattle.dj_loader.specs.Filed.{AreBareParts, AreFirstParts, ArePartsFor};
 ghost use Rattle.dj_loader.specs.Numbered.{IsMemory};
@@ -80,7 +80,7 @@ fn owned_parts(
     Ok(parts)
 }
 
-/// The parts of the classes of a table, by their numbers: those of files have what their files tell, and those of a library nothing.
+/// The parts of the classes of a table, by their numbers: files' classes have what their files have, and a library's nothing.
 pub fn parts_of(
     alloc: Global,
     table: &ClassTable,

@@ -1,11 +1,11 @@
 //! The constants with which the fields of a class file begin (JVMS 4.7.2).
 ghost use Rattle.std.specs.Prelude.{◌≡◌, List, map, codes, slice_get, option_copied, IfOk, IfErr};
-ghost use Rattle.dj_pool.specs.Pool.{Constant};
+ghost use Rattle.dj_pool.specs.trusted.Pool.{Constant};
 ghost use Rattle.dj_pool.specs.Views.{constant_of};
 ghost use Rattle.dj_class.specs.Parts.{attribute_of};
 ghost use Rattle.dj_class.specs.Members.{member_of};
-ghost use Rattle.dj_check.specs.Attributes.{is_named, values_of};
-ghost use Rattle.dj_program.specs.Naming.{constant_by, constant_in, constant_of_body, value_index};
+ghost use Rattle.dj_check.specs.trusted.Attributes.{is_named, values_of};
+ghost use Rattle.dj_program.specs.trusted.Naming.{constant_by, constant_in, constant_of_body, value_index};
 ghost use Rattle.dj_image.specs.Parts.{constant_of_value};
 ghost use Rattle.dj_loader.specs.Filed.{told_value};
 ghost use Rattle.dj_loader.specs.Numbered.{IsMemory};
@@ -38,7 +38,7 @@ fn value_body<'a>(pool: &Pool<'_>, field: &MemberView<'a>) -> Option<&'a [u8]>
     None
 }
 
-// The index that the body of a ConstantValue tells.
+// The index in the body of a ConstantValue.
 fn value_index(body: &[u8]) -> Option<u16>
     ensures { result ≡ value_index body.now }
 {
@@ -60,7 +60,7 @@ fn value_by(entry: Entry<'_>) -> FieldValue
     }
 }
 
-// The value that the body of a ConstantValue tells.
+// The value that the body of a ConstantValue means.
 fn value_of_body(pool: &Pool<'_>, body: &[u8]) -> FieldValue
     ensures { constant_of_value pool.now result ≡ constant_of_body pool.now body.now }
 {
@@ -73,7 +73,7 @@ fn value_of_body(pool: &Pool<'_>, body: &[u8]) -> FieldValue
     }
 }
 
-// The value with which a field begins, where its file tells one.
+// The value with which a field begins, where its file has one.
 #[tactic(auto, using(crate::proofs::FieldValues::no_value_told))]
 fn value_of(pool: &Pool<'_>, field: &MemberView<'_>) -> Option<FieldValue>
     ensures { told_value pool.now result ≡ constant_in pool.now (member_of field.now) }
@@ -84,7 +84,7 @@ fn value_of(pool: &Pool<'_>, field: &MemberView<'_>) -> Option<FieldValue>
     }
 }
 
-/// The values with which the fields of a file begin, where it tells some. A text is told by its index.
+/// The values with which the fields of a file begin, where the file has values. A text is given by its index.
 pub fn values_of(
     alloc: Global,
     pool: &Pool<'_>,

@@ -7,14 +7,14 @@ use Rattle.dj_names.specs.declared.descriptor.Base.TheVariants as bases
 use Rattle.dj_names.specs.declared.descriptor.Ty.{Ty}
 use Rattle.dj_names.specs.declared.descriptor.Desc.{Desc}
 use Rattle.dj_names.specs.declared.descriptor.Desc.TheVariants as descs
-use Rattle.dj_names.specs.Types.{Name, base_array}
-use Rattle.dj_names.specs.Descriptors.{Describes, IsType, type_text}
-use Rattle.dj_names.specs.ModifiedUtf8.{IsModifiedUtf8}
-use Rattle.dj_class.specs.ClassFile.{ClassFile, IsClassFile}
-use Rattle.dj_model.specs.Program.{is_static}
-use Rattle.dj_model.specs.Kinds.{signature_of}
-use Rattle.dj_model.specs.Linking.{FoundMethod}
-use Rattle.dj_check.specs.Malformed.{IsFaulty, IsRefused}
+use Rattle.dj_names.specs.trusted.Types.{Name, base_array}
+use Rattle.dj_names.specs.trusted.Descriptors.{Describes, IsType, type_text}
+use Rattle.dj_names.specs.trusted.ModifiedUtf8.{IsModifiedUtf8}
+use Rattle.dj_class.specs.trusted.ClassFile.{ClassFile, IsClassFile}
+use Rattle.dj_model.specs.trusted.Program.{is_static}
+use Rattle.dj_model.specs.trusted.Kinds.{signature_of}
+use Rattle.dj_model.specs.trusted.Linking.{FoundMethod}
+use Rattle.dj_check.specs.trusted.Malformed.{IsFaulty, IsRefused}
 use Rattle.dj_check.proofs.FileLaws.{refused_not_good}
 use Rattle.dj_declared.proofs.DescTests.{desc_in_is}
 use Rattle.dj_classes.specs.Tables.{name_of}

@@ -1,9 +1,9 @@
--- Code that is told has the instructions and the rows that are told.
+-- Code that is reported has the instructions and the rows that are reported.
 use Rattle.std.proofs.Common.{◌≡◌, ℕ, ◌<◌, length, Some, refl, sym, subst}
 use Rattle.std.specs.Borrow.{Bor}
-use Rattle.dj_model.specs.Program as programs
-use Rattle.dj_model.specs.Program.{Abstract, Native, Runs}
-use Rattle.dj_program.specs.Codes.{CodeParts}
+use Rattle.dj_model.specs.trusted.Program as programs
+use Rattle.dj_model.specs.trusted.Program.{Abstract, Native, Runs}
+use Rattle.dj_program.specs.trusted.Codes.{CodeParts}
 use Rattle.dj_program.specs.declared.code.MethodCode.{MethodCode}
 use Rattle.dj_program.specs.Views.{parts_of}
 use Rattle.dj_image.specs.declared.image.Body as bodies

@@ -6,7 +6,7 @@ use Rattle.std.specs.List.{flat_map}
 use Rattle.std.proofs.lemmas.Bool.Decides.{nat_tests}
 use Rattle.std.proofs.lemmas.List.{length-map, length-append}
 use Rattle.std.proofs.lemmas.Option.{none-some, same_Some}
-use Rattle.dj_model.specs.Program.{Program, Class, Method, Field, fields_of}
+use Rattle.dj_model.specs.trusted.Program.{Program, Class, Method, Field, fields_of}
 use Rattle.dj_classes.specs.Tables.{methods_of, methods_at, fields_at}
 use Rattle.dj_types.specs.declared.types.MethodId.{MethodId}
 use Rattle.dj_types.specs.declared.types.FieldId.{FieldId}
@@ -48,7 +48,7 @@ field_place program class at less = by (slice_get program class) refl less where
       let many : length (fields_in c) ≡ length c.fields = length-map c.fields (λ (f : Field). record { class = c.name; field = f }) in
       place_within fields_in program class at c there (omega (arith, within, many))
 
--- a number that is told where the place is one
+-- a number that is given where there is such a place
 told_within : (at count before all n : ℕ) → (at < count → before + at < all) → Some n ≡ (if nat_lt at count then Some (before + at) else None) → n < all
 told_within at count before all n within told = by (nat_lt at count) refl told where
   by : (b : Bool) → nat_lt at count ≡ b → Some n ≡ (if b then Some (before + at) else None) → n < all

@@ -6,9 +6,9 @@ use Rattle.std.proofs.lemmas.List.Elements.{All-push, All-from_recursion, recurs
 use Rattle.dj_natives.specs.declared.library.LibClass.{LibClass}
 use Rattle.dj_natives.specs.Views.{library_view}
 use Rattle.dj_class.specs.declared.class.ClassView.{ClassView}
-use Rattle.dj_class.specs.ClassFile.{IsValid}
+use Rattle.dj_class.specs.trusted.ClassFile.{IsValid}
 use Rattle.dj_class.specs.Views.{class_of}
-use Rattle.dj_check.specs.Malformed.{HasFaultyMethod}
+use Rattle.dj_check.specs.trusted.Malformed.{HasFaultyMethod}
 use Rattle.dj_loader.specs.Loads.{all_classes, AreFewMembers}
 use Rattle.dj_loader_tests.specs.Sets.{IsSmallLibrary, IsSound}
 use Rattle.dj_loader_tests.proofs.Few.{few_members}

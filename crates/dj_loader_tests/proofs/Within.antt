@@ -6,9 +6,9 @@ use Rattle.std.specs.Cmp.Lexicographic.{pointwise}
 use Rattle.std.proofs.lemmas.Bool.{cases_lt}
 use Rattle.std.proofs.lemmas.Option.{none-some, same_Some}
 use Rattle.std.proofs.lemmas.List.{length-map}
-use Rattle.dj_names.specs.Types.{same_name}
-use Rattle.dj_model.specs.Program.{Program, is_named}
-use Rattle.dj_model.specs.Linking.{FoundMethod, FoundField}
+use Rattle.dj_names.specs.trusted.Types.{same_name}
+use Rattle.dj_model.specs.trusted.Program.{Program, is_named}
+use Rattle.dj_model.specs.trusted.Linking.{FoundMethod, FoundField}
 use Rattle.dj_declared.specs.Files.{bare_class}
 use Rattle.dj_linking.specs.Linked.{Linked}
 use Rattle.dj_types.specs.declared.types.MethodId.{MethodId}
@@ -51,7 +51,7 @@ pub found_field_within : (program : Program) (found : Option FoundField) (n : �
 found_field_within program None n e = absurd cc
 found_field_within program (Some f) n e = field_within (all_fields program) f n e
 
--- the same where that is told of descriptors alone, and of other texts that nothing is found
+-- the same where that is known for descriptors alone, and for other texts that nothing is found
 pub told_method_within : (D : Type 0) (program : Program) (found : Option FoundMethod) (n : ℕ) → (D → Some n ≡ found_method_number program found) → ((D → ⊥) → Some n ≡ None)
     → n < length (all_methods program)
 told_method_within D program found n told other = elim (cases_lt n (length (all_methods program))) [

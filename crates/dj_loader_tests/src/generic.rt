@@ -50,7 +50,7 @@ fn told<C: Classes>(classes: &C, a: u32, b: u32) -> (Option<u32>, Option<u32>, b
     )
 }
 
-// The number of the class of this name, or of the array of this descriptor, among so many.
+// The number of the class of this name, or of the array of this descriptor, among this many.
 fn number_of<C: Classes>(classes: &C, count: u32, name: &[u8]) -> Option<u32>
     requires { count ≤ length (C.types classes.now) }
 {

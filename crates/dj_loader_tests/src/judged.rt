@@ -1,8 +1,8 @@
 ghost use Rattle.std.specs.Prelude.{◌≡◌, ◌↔◌, ◌<◌, ◌^◌, ℕ, List, [], length, codes, IsTrue, IfOk, Some, slice_get};
-ghost use Rattle.dj_names.specs.ModifiedUtf8.{IsModifiedUtf8};
-ghost use Rattle.dj_class.specs.ClassFile.{IsValid};
+ghost use Rattle.dj_names.specs.trusted.ModifiedUtf8.{IsModifiedUtf8};
+ghost use Rattle.dj_class.specs.trusted.ClassFile.{IsValid};
 ghost use Rattle.dj_class.specs.Views.{class_of};
-ghost use Rattle.dj_check.specs.Malformed.{IsFaulty, IsRefused};
+ghost use Rattle.dj_check.specs.trusted.Malformed.{IsFaulty, IsRefused};
 ghost use Rattle.dj_types.specs.Typed.{texts_of};
 ghost use Rattle.dj_image.specs.Imaged.{typed_of};
 ghost use Rattle.dj_image_rules.specs.Rules.{HasKinds, IsSpelled};
@@ -23,7 +23,7 @@ use dj_names::is_modified_utf8;
 use dj_report::{PathFile, Violation, Violations};
 use std::alloc::{AllocError, Global};
 
-// The text of a class, its name, and what is told of its method verify, or of its file.
+// The text of a class, its name, and what is reported of its method verify, or of its file.
 type Row = (&'static [u8], &'static str, &'static str);
 
 const SHAPES: [Row; 8] = [
@@ -71,7 +71,7 @@ fn is_spelled(image: &Image, class: u32) -> bool
     class < image.class_count() && is_modified_utf8(image.name_of(class))
 }
 
-// Whether the method takes and gives an array of bytes, and is one of a class with a name that can be told.
+// Whether the method goes from an array of bytes to one, and is one of a class whose name is a text.
 fn can_be_judged(image: &Image, method: MethodId) -> bool
     requires { HasMethod image.now method }
     ensures kinds { IsTrue result → HasKinds image.now method.number }

@@ -23,7 +23,7 @@ pub fn class_of(image: &Image, name: &str) -> Option<u32>
     }
 }
 
-/// The number of instance fields of a class; none of an array.
+/// The number of instance fields of a class; none for an array.
 #[tactic(auto, using(crate::proofs::Within::class_within))]
 pub fn field_count(image: &Image, class: u32) -> Option<u32> {
     if class < image.linker().classes().class_count() {

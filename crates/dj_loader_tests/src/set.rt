@@ -1,8 +1,8 @@
 ghost use Rattle.std.specs.Prelude.{◌≡◌, ◌↔◌, [], All, IsTrue, IfOk, IfSome};
-ghost use Rattle.dj_class.specs.ClassFile.{IsMethod, IsValid};
+ghost use Rattle.dj_class.specs.trusted.ClassFile.{IsMethod, IsValid};
 ghost use Rattle.dj_class.specs.Members.{member_of};
 ghost use Rattle.dj_class.specs.Views.{class_of};
-ghost use Rattle.dj_check.specs.Malformed.{IsFaultyMethod, HasFaultyMethod};
+ghost use Rattle.dj_check.specs.trusted.Malformed.{IsFaultyMethod, HasFaultyMethod};
 ghost use Rattle.dj_loader_tests.specs.Sets.{IsSmallLibrary, IsSound};
 
 use crate::programs::{IMAGE, LONG_NAMED};

@@ -5,12 +5,12 @@ use Rattle.dj_names.specs.declared.run.Outcome.TheVariants as outcomes
 use Rattle.dj_names.specs.declared.run.Costs.{Costs}
 use Rattle.dj_names.specs.declared.run.Thresholds.{Thresholds}
 use Rattle.dj_edge.specs.declared.host.HostAnswer.{HostAnswer}
-use Rattle.dj_host.specs.Hosted.{given_since}
-use Rattle.dj_model.specs.Types.{Declared}
-use Rattle.dj_model.specs.State.{State, Account, Counting, Terms}
-use Rattle.dj_model.specs.Step.{Answer, Went, Ended, IllFormed}
-use Rattle.dj_model.specs.Charging.{new_account}
-use Rattle.dj_model.specs.Runs.{Ran, Going, Finished, NoStep, Report, begin, from_start, plain_run, report_of, steps}
+use Rattle.dj_host.specs.trusted.Hosted.{given_since}
+use Rattle.dj_model.specs.trusted.Types.{Declared}
+use Rattle.dj_model.specs.trusted.State.{State, Account, Counting, Terms}
+use Rattle.dj_model.specs.trusted.Step.{Answer, Went, Ended, IllFormed}
+use Rattle.dj_model.specs.trusted.Charging.{new_account}
+use Rattle.dj_model.specs.trusted.Runs.{Ran, Going, Finished, NoStep, Report, begin, from_start, plain_run, report_of, steps}
 use Rattle.dj_image.specs.Imaged.{Imaged, program_of}
 use Rattle.dj_settling.specs.Told as one
 use Rattle.dj_step.proofs.StepLaws as step_laws

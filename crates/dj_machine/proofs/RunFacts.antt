@@ -1,12 +1,12 @@
--- Runs and what is told of them, by plain values.
+-- Runs and what is reported of them, by plain values.
 use Rattle.std.proofs.Common.{Ok, Err, ◌≡◌, ℕ, Bool, true, false, List, [], ◌∷◌, Option, Some, None, pos, refl, ap, arith}
 use Rattle.dj_names.specs.declared.run.Costs.{Costs}
 use Rattle.dj_names.specs.declared.run.Outcome.{Outcome}
 use Rattle.dj_names.specs.declared.run.Outcome.TheVariants as outcomes
 use Rattle.dj_edge.specs.declared.host.HostAnswer.TheVariants as hosts
-use Rattle.dj_model.specs.State.{State, Uncounted}
-use Rattle.dj_model.specs.Charging.{new_account}
-use Rattle.dj_model.specs.Runs.{Going, Finished, NoStep, empty_heap}
+use Rattle.dj_model.specs.trusted.State.{State, Uncounted}
+use Rattle.dj_model.specs.trusted.Charging.{new_account}
+use Rattle.dj_model.specs.trusted.Runs.{Going, Finished, NoStep, empty_heap}
 use Rattle.dj_image.specs.Imaged.{Imaged}
 use Rattle.dj_step.specs.Machines.{Machined}
 use Rattle.dj_machine.specs.declared.answer.RunAnswer.{RunAnswer}
@@ -14,7 +14,8 @@ use Rattle.dj_machine.specs.declared.answer.RunAnswer.TheVariants as runs
 use Rattle.dj_machine.specs.declared.engine.Ending.{Ending}
 use Rattle.dj_machine.specs.declared.engine.EngineError.TheVariants as errors
 use Rattle.dj_machine.specs.Runs.{IsAnswer, Nowhere, On, Over, Runs, goes_or_over, told_of}
-use Rattle.dj_machine.specs.Engines.{AddsRun, IsEndAtStart, report_for}
+use Rattle.dj_machine.specs.trusted.Engines.{AddsRun}
+use Rattle.dj_machine.specs.Engines.{IsEndAtStart, report_for}
 
 abbrev image : Imaged
 image = record { sources = []; prefix = []; arrays = []; texts = [] }
@@ -46,7 +47,7 @@ no_step_after new is = let e : 1 ≡ 0 = (is.over refl).1 in absurd (omega (arit
 asks_nothing_after : (new : Machined) → Runs (machine (Some outcomes.OkNull) false) new (hosts.Word (pos 1) ∷ []) 5 (runs.Ended 0) → ⊥
 asks_nothing_after new is = let e : hosts.Word (pos 1) ∷ [] ≡ [] = (is.over refl).0.quiet in absurd cc
 
--- ---- what is told
+-- ---- what is reported
 
 tells : (told_of (Going state) ≡ On state) × (told_of (Finished outcomes.Link state 3) ≡ Over outcomes.Link 3 new_account []) × (told_of NoStep ≡ Nowhere)
 tells = (refl, refl, refl)

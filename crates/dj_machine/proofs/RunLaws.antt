@@ -2,13 +2,13 @@
 use Rattle.std.proofs.Common.{◌≡◌, ◌<◌, ◌≤◌, ◌+◌, ◌-◌, ℕ, zero, suc, Bool, true, false, List, [], ◌∷◌, ◌++◌, drop, length, Option, Some, None, IsSome, refl, ap, ◌∙◌, sym, subst, arith}
 use Rattle.dj_names.specs.declared.run.Outcome.{Outcome}
 use Rattle.dj_edge.specs.declared.host.HostAnswer.{HostAnswer}
-use Rattle.dj_host.specs.Hosted.{given_since}
-use Rattle.dj_model.specs.Types.{Prefix}
-use Rattle.dj_model.specs.Program.{Program}
+use Rattle.dj_host.specs.trusted.Hosted.{given_since}
+use Rattle.dj_model.specs.trusted.Types.{Prefix}
+use Rattle.dj_model.specs.trusted.Program.{Program}
 use Rattle.dj_model.specs.Standing.{AsksNothing}
-use Rattle.dj_model.specs.State.{State, Terms, Account, Counting}
-use Rattle.dj_model.specs.Step.{Answer, Went, Ended, IllFormed, step}
-use Rattle.dj_model.specs.Runs.{Ran, Going, Finished, NoStep, one_more, steps, then_steps}
+use Rattle.dj_model.specs.trusted.State.{State, Terms, Account, Counting}
+use Rattle.dj_model.specs.trusted.Step.{Answer, Went, Ended, IllFormed, step}
+use Rattle.dj_model.specs.trusted.Runs.{Ran, Going, Finished, NoStep, one_more, steps, then_steps}
 use Rattle.dj_image.specs.Imaged.{Imaged, program_of}
 use Rattle.dj_settling.specs.Told as one
 use Rattle.dj_step.specs.declared.answers.StepAnswer.{StepAnswer}
@@ -18,7 +18,7 @@ use Rattle.dj_machine.specs.declared.answer.RunAnswer.{RunAnswer}
 use Rattle.dj_machine.specs.declared.answer.RunAnswer.TheVariants as runs
 use Rattle.dj_machine.specs.Runs.{Goes, IsAnswer, Nowhere, On, Over, Runs, Told, goes_or_over, told_of}
 
--- ---- what is told after so many more steps
+-- ---- what is reported after this many more steps
 
 abbrev more : ℕ → Told → Told
 more n (On s) = On s
@@ -108,7 +108,7 @@ module _ (program : Program) (prefix : Prefix) (terms : Terms) where
   unfolding steps
   no_steps s = refl
 
--- ---- what an answer tells of the machine
+-- ---- what an answer says of the machine
 
 -- a machine by its parts
 abbrev machine : Imaged → ℕ → Counting → State → Option Outcome → Bool → Machined
@@ -199,7 +199,7 @@ quiet_since so quiet asks = quiet (subst (λ (image : Imaged). AsksNothing (prog
 
 module _ (old now new : Machined) (before after next : List HostAnswer) (fuel made : ℕ) (so : IsSoFar old now before after fuel made)
     (gave : next ≡ after ++ given_since after next) where
-  -- what is told of the whole is told of the rest from here
+  -- what is reported of the whole is reported of the rest from here
   told_so : (rest : List HostAnswer) → made < fuel → run_told old fuel (state_with (given_since before next ++ rest) old)
       ≡ more made (run_told old (suc (fuel - (made + 1))) (state_with (given_since after next ++ rest) now))
   told_so rest lt =

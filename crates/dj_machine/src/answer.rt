@@ -1,9 +1,9 @@
-/// What a run of at most so many steps tells.
+/// What a run of at most a given number of steps answers.
 #[derive(Clone, Copy, Debug, PartialEq, Eq)]
 pub enum RunAnswer {
-    /// The run has ended, after so many steps of this call.
+    /// The run has ended, after this many steps of this call.
     Ended { steps: u64 },
-    /// It goes on still.
+    /// The run goes on after all of the steps.
     Spent,
     /// There was no memory.
     Memory,

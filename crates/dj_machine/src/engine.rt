@@ -6,8 +6,9 @@ ghost use Rattle.dj_calls.specs.Counting.{AreLow};
 ghost use Rattle.dj_types.specs.Members.{all_methods};
 ghost use Rattle.dj_image.specs.Imaged.{program_of};
 ghost use Rattle.dj_activations.specs.Activations.{declared_at};
-ghost use Rattle.dj_host.specs.Hosted.{given_since};
-ghost use Rattle.dj_machine.specs.Engines.{AddsRun, RunsPlainly};
+ghost use Rattle.dj_host.specs.trusted.Hosted.{given_since};
+ghost use Rattle.dj_machine.specs.trusted.Engines.{AddsRun};
+ghost use Rattle.dj_machine.specs.Engines.{RunsPlainly};
 
 use dj_edge::Host;
 use dj_image::{Image, MethodId};
@@ -56,7 +57,7 @@ pub trait Engine {
     /// The costs and steps of its runs so far.
     ghost runs: { Self → List (Costs × ℕ) };
 
-    /// The run of an entry on an input, of at most so many steps: how it ended, and what it was charged where rewritten classes have an accounter.
+    /// The run of an entry on an input, of at most `fuel` steps: how it ended, and what it was charged where rewritten classes have an accounter.
     fn plain<H: Host>(
         &mut self,
         alloc: Global,

@@ -1,4 +1,4 @@
-//! Whole runs of a program: so many steps of a machine, and engines that make a run from its start to its end.
+//! Whole runs of a program: several steps of a machine, and engines that make a run from its start to its end.
 #![tactic(auto)]
 
 mod answer;

@@ -6,9 +6,10 @@ ghost use Rattle.dj_calls.specs.Counting.{AreLow};
 ghost use Rattle.dj_types.specs.Members.{all_methods};
 ghost use Rattle.dj_image.specs.Imaged.{program_of};
 ghost use Rattle.dj_activations.specs.Activations.{declared_at};
-ghost use Rattle.dj_host.specs.Hosted.{given_since};
+ghost use Rattle.dj_host.specs.trusted.Hosted.{given_since};
 ghost use Rattle.dj_step.specs.Machines.{start_outcome};
-ghost use Rattle.dj_machine.specs.Engines.{AddsRun, IsAtStart, IsEndAtStart, IsEndingOf, IsSpentOf, RunsOn, RunsPlainly};
+ghost use Rattle.dj_machine.specs.trusted.Engines.{AddsRun};
+ghost use Rattle.dj_machine.specs.Engines.{IsAtStart, IsEndAtStart, IsEndingOf, IsSpentOf, RunsOn, RunsPlainly};
 
 use crate::answer::RunAnswer;
 use crate::engine::{Ending, Engine, EngineError};
@@ -43,7 +44,7 @@ impl PlainEngine {
     }
 }
 
-// How a run ended that had already ended at its start.
+// How a run ended that ended before its first step.
 fn ended_at_start(e: StartError) -> Result<Ending, EngineError>
     ensures { IsEndAtStart (start_outcome e) result }
 {
@@ -65,7 +66,7 @@ fn ended_at_start(e: StartError) -> Result<Ending, EngineError>
     })
 }
 
-// How the run of a machine has ended, which made so many steps.
+// How the run of a machine has ended, which made this many steps.
 fn ending_of(machine: Machine<'_>, steps: u64) -> Ending
     requires { IsSome machine.outcome }
     ensures { IsEndingOf machine.entry steps result }
@@ -81,7 +82,7 @@ fn ending_of(machine: Machine<'_>, steps: u64) -> Ending
     }
 }
 
-// What is told of the run of a machine that goes on still after so many steps.
+// The ending of a run that still goes on after this many steps.
 fn spent_of(machine: Machine<'_>, steps: u64) -> Ending
     ensures { IsSpentOf machine.entry steps result }
 {
@@ -92,7 +93,7 @@ fn spent_of(machine: Machine<'_>, steps: u64) -> Ending
     }
 }
 
-// The run of a machine to its end, or of so many steps.
+// The run of a machine to its end, or for this many steps.
 fn run_machine<H: Host>(
     alloc: Global,
     machine: Machine<'_>,

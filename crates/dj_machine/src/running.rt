@@ -1,6 +1,6 @@
 ghost use Rattle.std.specs.Prelude.{◌≡◌, ◌++◌, false};
 ghost use Rattle.dj_model.specs.Standing.{AsksNothing};
-ghost use Rattle.dj_host.specs.Hosted.{given_since};
+ghost use Rattle.dj_host.specs.trusted.Hosted.{given_since};
 ghost use Rattle.dj_image.specs.Imaged.{program_of};
 ghost use Rattle.dj_step.specs.Machines.{is_over};
 ghost use Rattle.dj_machine.specs.Runs.{Runs};
@@ -10,7 +10,7 @@ use dj_edge::Host;
 use dj_step::{Machine, StepAnswer};
 use std::alloc::Global;
 
-/// The machine's next steps, of which there are at most so many.
+/// Makes the machine's next steps, at most `fuel`.
 pub fn run<H: Host>(alloc: Global, machine: &mut Machine<'_>, host: &mut H, fuel: u64) -> RunAnswer
     ensures runs { Runs machine.old machine.new (given_since (H.given host.old) (H.given host.new)) fuel result }
     ensures gave { H.given host.new ≡ H.given host.old ++ given_since (H.given host.old) (H.given host.new) }
@@ -23,7 +23,7 @@ pub fn run<H: Host>(alloc: Global, machine: &mut Machine<'_>, host: &mut H, fuel
     }
 }
 
-// The same, of a machine that goes on.
+// The same for a machine whose run goes on.
 fn run_on<H: Host>(alloc: Global, machine: &mut Machine<'_>, host: &mut H, fuel: u64) -> RunAnswer
     requires on { is_over machine.old ≡ false }
     ensures runs { Runs machine.old machine.new (given_since (H.given host.old) (H.given host.new)) fuel result }

@@ -4,13 +4,13 @@ use Rattle.std.specs.Prelude.{if◌then◌else◌, nat_eq, option_map, option_an
 use Rattle.std.proofs.lemmas.Bool.{ne_eqb}
 use Rattle.std.proofs.lemmas.Option.{same_Some}
 use Rattle.dj_names.specs.declared.run.Element.{Element}
-use Rattle.dj_names.specs.Heaps.{Object, Instance, Array, Text}
+use Rattle.dj_names.specs.trusted.Heaps.{Object, Instance, Array, Text}
 use Rattle.dj_heap.specs.declared.object.Made.TheVariants as made
 use Rattle.dj_heap.specs.Calls.{made_as}
 use Rattle.dj_heap.specs.Lengths.{object_length}
 use Rattle.dj_heap.specs.Heaps.{LimitedHeap, object_in, field_in, element_in, unit_in, fields_of, contents_of, units_of}
 
-some_within : {A : Type 0} (items : List A) (at : ℕ) → at < length items → IsSome (slice_get items at)
+pub some_within : {A : Type 0} (items : List A) (at : ℕ) → at < length items → IsSome (slice_get items at)
 some_within [] at within = absurd (omega arith)
 some_within (x ∷ items) zero within = refl
 some_within (x ∷ items) (suc at) within = some_within items at (omega arith)

@@ -103,7 +103,7 @@ fn is_told(heap: &Heap, step: &Step) -> bool {
     }
 }
 
-// Whether the call answers what the step tells.
+// Whether the call answers what the step says.
 fn is_answered(heap: &mut Heap, step: &Step) -> bool {
     match step {
         Step::Instance(class, fields, answer) => is_made(heap.instance(*class, *fields), *answer),

@@ -6,6 +6,8 @@ mod arith;
 #[cfg(test)]
 mod arith_rows;
 #[cfg(test)]
+mod calls;
+#[cfg(test)]
 mod heap;
 #[cfg(test)]
 mod library;

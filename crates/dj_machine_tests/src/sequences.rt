@@ -4,7 +4,7 @@ use dj_names::Element;
 /// The number of the object that is made, or the bytes that are used and those that are wanted.
 pub type Answer = Result<u32, (u64, u64)>;
 
-/// A call, and at its end what it answers, if it answers something. An object is told by its number, and then a place in it.
+/// A call, and at its end its answer, if it has one. An object is given by its number, and then comes a place in it.
 #[derive(Clone, Copy)]
 pub enum Step {
     /// The number of a class, and how many fields.

@@ -5,16 +5,18 @@ use Rattle.dj_names.specs.declared.descriptor.Kind.{Kind}
 use Rattle.dj_names.specs.declared.descriptor.Ty.{Ty}
 use Rattle.dj_names.specs.declared.run.Value.{Value}
 use Rattle.dj_names.specs.declared.run.Value.TheVariants as values
-use Rattle.dj_names.specs.Heaps.{Object, Instance, Array, Text, Heap, object_map, heap_map, object_at, field_bits}
-use Rattle.dj_names.specs.Types.{Name}
-use Rattle.dj_model.specs.Types.{Prefix}
-use Rattle.dj_model.specs.Numbers.{is_of_kind}
-use Rattle.dj_model.specs.Program.{Program}
-use Rattle.dj_model.specs.Linking.{FoundField, is_among, chain, member_class, place_of}
-use Rattle.dj_model.specs.State.{Part, Effect, Goes, Next}
-use Rattle.dj_model.specs.Arrays.{OnHeap, on_heap_map}
-use Rattle.dj_model.specs.Effects.{heap_effect}
-use Rattle.dj_model.specs.Members as model
+use Rattle.dj_names.specs.trusted.Heaps.{Object, Instance, Array, Text, Heap, object_at, field_bits}
+use Rattle.dj_names.specs.Heaps.{object_map, heap_map}
+use Rattle.dj_names.specs.trusted.Types.{Name}
+use Rattle.dj_model.specs.trusted.Types.{Prefix}
+use Rattle.dj_model.specs.trusted.Numbers.{is_of_kind}
+use Rattle.dj_model.specs.trusted.Program.{Program}
+use Rattle.dj_model.specs.trusted.Linking.{FoundField, is_among, chain, member_class, place_of}
+use Rattle.dj_model.specs.trusted.State.{Part, Effect, Goes, Next}
+use Rattle.dj_model.specs.trusted.Arrays.{OnHeap}
+use Rattle.dj_model.specs.Arrays.{on_heap_map}
+use Rattle.dj_model.specs.trusted.Effects.{heap_effect}
+use Rattle.dj_model.specs.trusted.Members as model
 use Rattle.dj_model.proofs.MappedHeaps.{object_at_mapped, object_set}
 use Rattle.dj_natives.specs.Numbered.{type_at}
 use Rattle.dj_members.specs.Fields.{Holder, Null, NoHolder, Holds, holder_in, holder_by, get_from, get_field_by, put_in, put_field_by}

@@ -8,8 +8,8 @@ use Rattle.dj_effects.proofs.ArrayFacts.{not_null}
 use Rattle.dj_names.specs.declared.run.Value.{Value}
 use Rattle.dj_names.specs.declared.run.Value.TheVariants as values
 use Rattle.dj_names.specs.declared.run.Outcome.TheVariants as outcomes
-use Rattle.dj_names.specs.Heaps.{Heap, Text, next_number, text_size, with_new}
-use Rattle.dj_model.specs.State.{Next}
+use Rattle.dj_names.specs.trusted.Heaps.{Heap, Text, next_number, text_size, with_new}
+use Rattle.dj_model.specs.trusted.State.{Next}
 use Rattle.dj_heap.specs.Heaps.{LimitedHeap, Makes, Refuses}
 use Rattle.dj_heap.specs.declared.errors.HeapError.TheVariants as errors
 use Rattle.dj_members.specs.Literals.{KeptBy, kept_by, kept_or_made_by, literal_flows, object_of, object_told, push_text_by, pushed}

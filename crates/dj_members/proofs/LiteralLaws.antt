@@ -6,13 +6,14 @@ use Rattle.std.proofs.lemmas.List.{map-append}
 use Rattle.dj_names.specs.declared.descriptor.Ty.{Ty}
 use Rattle.dj_names.specs.declared.run.Value.TheVariants as values
 use Rattle.dj_names.specs.declared.run.Outcome.TheVariants as outcomes
-use Rattle.dj_names.specs.Heaps.{Text, Heap, heap_map, next_number, text_size, with_new}
-use Rattle.dj_names.specs.Types.{class_type}
-use Rattle.dj_model.specs.Types.{Prefix, string_name}
-use Rattle.dj_model.specs.State.{Literal, Part, Effect, Goes, Next}
-use Rattle.dj_model.specs.Arrays.{passes_limit}
-use Rattle.dj_model.specs.Members as members
-use Rattle.dj_model.specs.Members.{kept_or_made, literal_in, push_kept, with_literal}
+use Rattle.dj_names.specs.trusted.Heaps.{Text, Heap, next_number, text_size, with_new}
+use Rattle.dj_names.specs.Heaps.{heap_map}
+use Rattle.dj_names.specs.trusted.Types.{class_type}
+use Rattle.dj_model.specs.trusted.Types.{Prefix, string_name}
+use Rattle.dj_model.specs.trusted.State.{Literal, Part, Effect, Goes, Next}
+use Rattle.dj_model.specs.trusted.Arrays.{passes_limit}
+use Rattle.dj_model.specs.trusted.Members as members
+use Rattle.dj_model.specs.trusted.Members.{kept_or_made, literal_in, push_kept, with_literal}
 use Rattle.dj_model.proofs.MappedHeaps.{new_mapped, number_alike}
 use Rattle.dj_natives.specs.Numbered.{type_at}
 use Rattle.dj_members.specs.Literals.{AreTexts, Differ, KeptBy, kept_by, kept_map, kept_or_made_by, literal_flows, literals_effect, literals_map, object_of, push_text_by, pushed, text_at}

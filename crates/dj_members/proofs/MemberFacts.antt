@@ -1,4 +1,4 @@
--- What is told of fields, casts, static fields and literals, at plain values.
+-- What is known of fields, casts, static fields and literals, at plain values.
 use Rattle.std.proofs.Common.{◌≡◌, ◌<◌, ◌%◌, ℕ, Bool, true, false, arith, pos, List, [], ◌∷◌, length, map, Option, Some, None, nat_eq, Result, Ok, Err, refl, ap}
 use Rattle.std.proofs.lemmas.List.Elements.{All-from_recursion, All-get_or}
 use Rattle.dj_names.specs.declared.descriptor.Kind.TheVariants as kinds
@@ -8,10 +8,10 @@ use Rattle.dj_names.specs.declared.run.Element.TheVariants as elements
 use Rattle.dj_names.specs.declared.run.Raised.TheVariants as raises
 use Rattle.dj_names.specs.declared.run.Outcome.{Outcome}
 use Rattle.dj_names.specs.declared.run.Outcome.TheVariants as outcomes
-use Rattle.dj_names.specs.Heaps.{Object, Instance, Array, class_of}
-use Rattle.dj_model.specs.State as states
-use Rattle.dj_model.specs.State.{Next, Raise}
-use Rattle.dj_model.specs.Arrays.{OnHeap, flows}
+use Rattle.dj_names.specs.trusted.Heaps.{Object, Instance, Array, class_of}
+use Rattle.dj_model.specs.trusted.State as states
+use Rattle.dj_model.specs.trusted.State.{Next, Raise}
+use Rattle.dj_model.specs.trusted.Arrays.{OnHeap, flows}
 use Rattle.dj_heap.specs.Heaps.{LimitedHeap}
 use Rattle.dj_stack.specs.Frames.{StackFrame}
 use Rattle.dj_effects.specs.declared.way.Way.TheVariants as ways
@@ -19,10 +19,10 @@ use Rattle.dj_effects.specs.declared.way.Flow.TheVariants as goes
 use Rattle.dj_effects.specs.DoesOnHeap.{DoesOnHeap}
 use Rattle.dj_members.specs.declared.objects.Thrown.TheVariants as thrown
 use Rattle.dj_members.specs.Numbering.{AreNumbered, has_of}
-use Rattle.dj_model.specs.Linking.{chain_of}
+use Rattle.dj_model.specs.trusted.Linking.{chain_of}
 use Rattle.dj_names.specs.declared.descriptor.Base.TheVariants as bases
 use Rattle.dj_names.specs.declared.descriptor.Ty.{Ty}
-use Rattle.dj_names.specs.Types.{class_type, base_array}
+use Rattle.dj_names.specs.trusted.Types.{class_type, base_array}
 use Rattle.dj_members.specs.Fields.{get_field_by, put_field_by, holder_by, holder_told}
 use Rattle.dj_members.specs.Objects.{HasObject, check_cast_by, instance_of_by, new_by, throw_by}
 use Rattle.dj_members.specs.Statics.{DoesOnStatics, leaves, get_static_by, put_static_by}

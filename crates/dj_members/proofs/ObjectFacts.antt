@@ -2,9 +2,9 @@
 use Rattle.std.proofs.Common.{◌≡◌, ℕ, Bool, true, false, List, ◌∷◌, Some, Ok, sym, ap, ◌∙◌}
 use Rattle.dj_names.specs.declared.run.Value.{Value}
 use Rattle.dj_names.specs.declared.run.Value.TheVariants as values
-use Rattle.dj_names.specs.Heaps.{Heap}
-use Rattle.dj_model.specs.State.{Next}
-use Rattle.dj_model.specs.Arrays.{flows, with_value}
+use Rattle.dj_names.specs.trusted.Heaps.{Heap}
+use Rattle.dj_model.specs.trusted.State.{Next}
+use Rattle.dj_model.specs.trusted.Arrays.{flows, with_value}
 use Rattle.dj_members.specs.declared.objects.Thrown.{Thrown}
 use Rattle.dj_members.specs.Objects.{cast_flows, check_cast_by, instance_of_by, instance_told, is_instance_by, throw_by, thrown_by}
 

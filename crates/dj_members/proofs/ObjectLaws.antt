@@ -6,17 +6,19 @@ use Rattle.dj_names.specs.declared.descriptor.Ty.{Ty}
 use Rattle.dj_names.specs.declared.run.Value.{Value}
 use Rattle.dj_names.specs.declared.run.Value.TheVariants as values
 use Rattle.dj_names.specs.declared.run.Raised.TheVariants as raises
-use Rattle.dj_names.specs.Heaps.{Object, Instance, Heap, class_of, object_map, heap_map, object_at, field_bits}
-use Rattle.dj_names.specs.Types.{class_type}
-use Rattle.dj_model.specs.Types.{Prefix, throwable_name}
-use Rattle.dj_model.specs.Numbers.{is_of_kind}
-use Rattle.dj_model.specs.Program.{Program}
-use Rattle.dj_model.specs.Linking.{FoundField, is_subtype, field_count, member_class, place_of_static}
-use Rattle.dj_model.specs.State.{Part, Next, Raise, Goes, Catch, pushes, goes}
-use Rattle.dj_model.specs.Arrays.{OnHeap, on_heap_map, make}
-use Rattle.dj_model.specs.Effects.{heap_effect, new_object}
-use Rattle.dj_model.specs.Performing.{class_in, is_instance}
-use Rattle.dj_model.specs.Members as model
+use Rattle.dj_names.specs.trusted.Heaps.{Object, Instance, Heap, class_of, object_at, field_bits}
+use Rattle.dj_names.specs.Heaps.{object_map, heap_map}
+use Rattle.dj_names.specs.trusted.Types.{class_type}
+use Rattle.dj_model.specs.trusted.Types.{Prefix, throwable_name}
+use Rattle.dj_model.specs.trusted.Numbers.{is_of_kind}
+use Rattle.dj_model.specs.trusted.Program.{Program}
+use Rattle.dj_model.specs.trusted.Linking.{FoundField, is_subtype, field_count, member_class, place_of_static}
+use Rattle.dj_model.specs.trusted.State.{Part, Next, Raise, Goes, Catch, pushes, goes}
+use Rattle.dj_model.specs.trusted.Arrays.{OnHeap, make}
+use Rattle.dj_model.specs.Arrays.{on_heap_map}
+use Rattle.dj_model.specs.trusted.Effects.{heap_effect, new_object}
+use Rattle.dj_model.specs.trusted.Performing.{class_in, is_instance}
+use Rattle.dj_model.specs.trusted.Members as model
 use Rattle.dj_model.proofs.MappedHeaps.{object_at_mapped, class_of_mapped, make_mapped}
 use Rattle.dj_natives.specs.Numbered.{type_at}
 use Rattle.dj_members.specs.declared.objects.Thrown.{Thrown}

@@ -3,7 +3,7 @@ use Rattle.std.proofs.Common.{◌≡◌, ◌≤◌, ◌-◌, ℕ, Bool, true, fa
 use Rattle.std.proofs.lemmas.List.{set_past}
 use Rattle.std.proofs.lemmas.Option.{get_or_from_slice_get}
 use Rattle.std.proofs.lemmas.List.{set-get_or}
-use Rattle.dj_names.specs.Heaps.{Object, Instance, Heap, object_at}
+use Rattle.dj_names.specs.trusted.Heaps.{Object, Instance, Heap, object_at}
 use Rattle.dj_heap.specs.Heaps.{LimitedHeap, Replaces, with_field}
 use Rattle.dj_members.specs.Fields.{HasFields, PutsField}
 

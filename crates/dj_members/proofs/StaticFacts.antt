@@ -2,8 +2,8 @@
 use Rattle.std.proofs.Common.{◌≡◌, ℕ, Bool, true, false, List, [], ◌∷◌, set, Some, None, if◌then◌else◌, sym, ap, ◌∙◌}
 use Rattle.dj_names.specs.declared.descriptor.Kind.{Kind}
 use Rattle.dj_names.specs.declared.run.Value.{Value}
-use Rattle.dj_names.specs.Heaps.{field_bits}
-use Rattle.dj_model.specs.Numbers.{is_of_kind}
+use Rattle.dj_names.specs.trusted.Heaps.{field_bits}
+use Rattle.dj_model.specs.trusted.Numbers.{is_of_kind}
 use Rattle.dj_members.specs.Statics.{leaves, put_static_by}
 
 pub puts_none : (kind : Kind) (place : ℕ) (statics : List ℕ) (operands : List Value) → operands ≡ [] → put_static_by kind place statics operands ≡ None

@@ -1,14 +1,14 @@
--- Fields of instances, whose classes are told by numbers (JVMS 6.5): a test on numbers tells which classes have the field.
+-- Fields of instances, whose classes are numbers (JVMS 6.5): a test on numbers says which classes have the field.
 use Rattle.std.specs.Prelude.{◌≡◌, ℕ, Bool, List, [], ◌∷◌, length, set, Option, Some, None, slice_index, nat_eq, Result, Ok, Err, if◌then◌else◌}
 use Rattle.dj_names.specs.declared.descriptor.Kind.{Kind}
 use Rattle.dj_names.specs.declared.run.Value.{Value}
 use Rattle.dj_names.specs.declared.run.Value.TheVariants as values
 use Rattle.dj_names.specs.declared.run.Raised.TheVariants as raises
 use Rattle.dj_names.specs.declared.run.Outcome.TheVariants as outcomes
-use Rattle.dj_names.specs.Heaps.{Object, Instance, Heap, object_at, with_object, field_bits, field_value}
-use Rattle.dj_model.specs.Numbers.{is_of_kind}
-use Rattle.dj_model.specs.State.{Next, Raise}
-use Rattle.dj_model.specs.Arrays.{OnHeap, flows, with_value}
+use Rattle.dj_names.specs.trusted.Heaps.{Object, Instance, Heap, object_at, with_object, field_bits, field_value}
+use Rattle.dj_model.specs.trusted.Numbers.{is_of_kind}
+use Rattle.dj_model.specs.trusted.State.{Next, Raise}
+use Rattle.dj_model.specs.trusted.Arrays.{OnHeap, flows, with_value}
 use Rattle.dj_heap.specs.Heaps.{LimitedHeap}
 use Rattle.dj_effects.specs.declared.way.Way.TheVariants as ways
 use Rattle.dj_effects.specs.declared.way.Flow.{Flow}
@@ -47,7 +47,7 @@ put_field_by has kind place heap (v ∷ (values.Ref r ∷ rest)) =
     if is_of_kind kind v then Some (put_in heap (v ∷ (values.Ref r ∷ rest)) rest place r v (holder_by has heap r)) else None
 put_field_by has kind place heap _ = None
 
--- ---- the code's own
+-- ---- used by the code alone
 
 -- how many fields the instance has, or how the run goes on in its place
 abbrev pub holder_told : Holder → Result ℕ Flow
@@ -55,14 +55,14 @@ holder_told Null = Err (goes.Goes (ways.Raise raises.NullPointer))
 holder_told NoHolder = Err goes.Link
 holder_told (Holds class fields) = Ok (length fields)
 
--- the reference is that of an instance with so many fields
+-- the reference is that of an instance with this many fields
 pub record HasFields (heap : Heap ℕ) (r : ℕ) (count : ℕ) : Type 0 where
   pub class : ℕ
   pub fields : List ℕ
   pub object : object_at heap.objects r ≡ Some (Instance class fields)
   pub many : length fields ≡ count
 
--- the fields of an instance; of what is no instance none
+-- the fields of an instance; none where there is no instance
 abbrev pub fields_in : Option (Object ℕ) → List ℕ
 fields_in (Some (Instance class fields)) = fields
 fields_in _ = []

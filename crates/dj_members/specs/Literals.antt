@@ -1,18 +1,19 @@
--- Literals, whose texts are told by numbers (JVMS 5.1).
+-- Literals, whose texts are numbers (JVMS 5.1).
 use Rattle.std.specs.Prelude.{◌≡◌, ◌<◌, ⊤, ℕ, ◌+◌, length, List, [], ◌∷◌, ◌++◌, map, Option, Some, None, unwrap_or, slice_get, nat_eq, Result, Ok, Err, if◌then◌else◌}
 use Rattle.dj_names.specs.declared.descriptor.Ty.{Ty}
-use Rattle.dj_names.specs.Types.{same_name}
+use Rattle.dj_names.specs.trusted.Types.{same_name}
 use Rattle.dj_names.specs.declared.run.Value.{Value}
 use Rattle.dj_names.specs.declared.run.Value.TheVariants as values
 use Rattle.dj_names.specs.declared.run.Outcome.{Outcome}
 use Rattle.dj_names.specs.declared.run.Outcome.TheVariants as outcomes
-use Rattle.dj_names.specs.Heaps.{Heap, Text, heap_map, next_number, text_size, with_new}
-use Rattle.dj_model.specs.State as model
-use Rattle.dj_model.specs.Members as members
-use Rattle.dj_model.specs.State.{Literal, Next, Part, Effect}
-use Rattle.dj_model.specs.Effects.{flow_of}
+use Rattle.dj_names.specs.trusted.Heaps.{Heap, Text, next_number, text_size, with_new}
+use Rattle.dj_names.specs.Heaps.{heap_map}
+use Rattle.dj_model.specs.trusted.State as model
+use Rattle.dj_model.specs.trusted.Members as members
+use Rattle.dj_model.specs.trusted.State.{Literal, Next, Part, Effect}
+use Rattle.dj_model.specs.trusted.Effects.{flow_of}
 use Rattle.dj_natives.specs.Numbered.{type_at}
-use Rattle.dj_model.specs.Arrays.{passes_limit}
+use Rattle.dj_model.specs.trusted.Arrays.{passes_limit}
 use Rattle.dj_heap.specs.Heaps.{LimitedHeap}
 use Rattle.dj_stack.specs.Frames.{StackFrame, SameButOperands, top_operands}
 use Rattle.dj_members.specs.declared.literals.Kept as kept
@@ -30,18 +31,18 @@ abbrev pub object_of : List (ℕ × ℕ) → ℕ → Option ℕ
 object_of [] text = None
 object_of (l ∷ literals) text = if nat_eq l.0 text then Some l.1 else object_of literals text
 
--- a number of an object, where 0 stands for none
+-- the number of an object; 0 means none
 abbrev pub object_told : ℕ → Option ℕ
 object_told object = if nat_eq object 0 then None else Some object
 
 abbrev pub text_at : List (List ℕ) → ℕ → List ℕ
 text_at texts text = unwrap_or (slice_get texts text) []
 
--- with the texts themselves
+-- the same, with the texts themselves
 abbrev pub literals_map : List (List ℕ) → List (ℕ × ℕ) → List Literal
 literals_map texts literals = map (λ (l : ℕ × ℕ). record { units = text_at texts l.0; object = l.1 }) literals
 
--- each literal is of one of so many texts
+-- each literal is of one of this many texts
 abbrev pub AreTexts : ℕ → List (ℕ × ℕ) → Type 0
 AreTexts count [] = ⊤
 AreTexts count (l ∷ literals) = (l.0 < count) × AreTexts count literals
@@ -101,7 +102,7 @@ kept_or_made_by limit class text units heap literals None =
       literals = literals ++ (text, next_number heap) ∷ [];
     })
 
--- a literal has one text object, of the class, which is made when it is first asked for; none where it doesn't fit
+-- a literal has one text object, of the class, which is made at its first use; none where it doesn't fit
 abbrev pub kept_by : Option ℕ → ℕ → ℕ → List ℕ → Heap ℕ → List (ℕ × ℕ) → Option KeptBy
 kept_by limit class text units heap literals = kept_or_made_by limit class text units heap literals (object_of literals text)
 
@@ -113,12 +114,12 @@ abbrev pub kept_told : LimitedHeap → LiteralTable → kept.Kept → Option Kep
 kept_told after now (variants.Object r) = Some (record { object = r; heap = after.heap; literals = now.made })
 kept_told after now (variants.HeapFull used size) = None
 
--- where it doesn't fit so many bytes are told, and nothing has changed
+-- where it doesn't fit, the answer has the bytes that it needs, and nothing has changed
 abbrev pub IsFull : List ℕ → LimitedHeap → LimitedHeap → LiteralTable → LiteralTable → kept.Kept → Type 0
 IsFull units before after literals now (variants.Object r) = ⊤
 IsFull units before after literals now (variants.HeapFull used size) = (used ≡ before.heap.used) × (size ≡ text_size units) × (after ≡ before) × (now ≡ literals)
 
--- the heap and the literals are as they are with the object, where it is told
+-- the heap and the literals are as they are with the object, where there is one
 pub record Keeps (class text : ℕ) (units : List ℕ) (before after : LimitedHeap) (literals now : LiteralTable) (told : kept.Kept) : Type 0 where
   pub effect : kept_by (Some before.limit) class text units before.heap literals.made ≡ kept_told after now told
   pub full : IsFull units before after literals now told

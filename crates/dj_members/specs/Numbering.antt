@@ -4,14 +4,14 @@ use Rattle.std.specs.List.{All}
 use Rattle.dj_names.specs.declared.descriptor.Of.{Of}
 use Rattle.dj_names.specs.declared.descriptor.Of.TheVariants as ofs
 use Rattle.dj_names.specs.declared.descriptor.Ty.{Ty}
-use Rattle.dj_names.specs.Types.{Name}
-use Rattle.dj_names.specs.Heaps.{Heap, class_of}
-use Rattle.dj_model.specs.Types.{Prefix}
-use Rattle.dj_model.specs.Program.{Program}
-use Rattle.dj_model.specs.Linking.{is_subtype, is_among, chain_of}
+use Rattle.dj_names.specs.trusted.Types.{Name}
+use Rattle.dj_names.specs.trusted.Heaps.{Heap, class_of}
+use Rattle.dj_model.specs.trusted.Types.{Prefix}
+use Rattle.dj_model.specs.trusted.Program.{Program}
+use Rattle.dj_model.specs.trusted.Linking.{is_subtype, is_among, chain_of}
 use Rattle.dj_natives.specs.Numbered.{type_at}
 
--- each object's class has one of so many numbers
+-- each object's class has one of this many numbers
 abbrev pub AreNumbered : ℕ → Heap ℕ → Type 0
 AreNumbered count heap = All (λ object. class_of object < count) heap.objects
 
@@ -24,6 +24,6 @@ among_above program name levels zero (ofs.Class class) = is_among (chain_of leve
 among_above program name levels zero (ofs.Base base) = false
 among_above program name levels (suc dims) of = false
 
--- whether the class of the name is among that of a number and so many in all above it; no array has one
+-- whether the class of the name is among that of a number and those above it, this many in all; no array has one
 abbrev pub has_of : Program → List Ty → Name → ℕ → ℕ → Bool
 has_of program types name levels class = among_above program name levels (type_at types class).dims (type_at types class).of

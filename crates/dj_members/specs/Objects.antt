@@ -1,29 +1,29 @@
--- New objects, casts and thrown objects, whose classes are told by numbers (JVMS 6.5): a test on numbers tells which classes are below that of the instruction.
+-- New objects, casts and thrown objects, whose classes are numbers (JVMS 6.5): a test on numbers says which classes are below that of the instruction.
 use Rattle.std.specs.Prelude.{◌≡◌, ⊤, ℕ, ◌||◌, Bool, true, false, ℤ, pos, List, ◌∷◌, replicate, Option, Some, None, nat_eq, Ok, if◌then◌else◌}
 use Rattle.dj_names.specs.declared.run.Value.{Value}
 use Rattle.dj_names.specs.declared.run.Value.TheVariants as values
 use Rattle.dj_names.specs.declared.run.Raised.TheVariants as raises
 use Rattle.dj_names.specs.declared.run.Outcome.TheVariants as outcomes
-use Rattle.dj_names.specs.Heaps.{Object, Instance, Heap, class_of, object_at}
-use Rattle.dj_model.specs.State as model
-use Rattle.dj_model.specs.State.{Next, Raise, Goes, Catch, End}
-use Rattle.dj_model.specs.Arrays.{OnHeap, flows, make, with_value}
-use Rattle.dj_model.specs.Members.{instance_number}
+use Rattle.dj_names.specs.trusted.Heaps.{Object, Instance, Heap, class_of, object_at}
+use Rattle.dj_model.specs.trusted.State as model
+use Rattle.dj_model.specs.trusted.State.{Next, Raise, Goes, Catch, End}
+use Rattle.dj_model.specs.trusted.Arrays.{OnHeap, flows, make, with_value}
+use Rattle.dj_model.specs.trusted.Members.{instance_number}
 use Rattle.dj_members.specs.declared.objects.Thrown.{Thrown}
 use Rattle.dj_members.specs.declared.objects.Thrown.TheVariants as thrown
 
--- an instance with so many fields, each 0
+-- an instance with this many fields, each 0
 abbrev pub new_by : Option ℕ → ℕ → ℕ → Heap ℕ → List Value → Option (OnHeap ℕ)
 new_by limit class fields heap operands = Some (make limit heap operands operands (Instance class (replicate fields 0)))
 
 -- ---- classes of objects
 
--- what is no object is of no class
+-- where there is no object it is of no class
 abbrev pub below_in : (ℕ → Bool) → Option (Object ℕ) → Bool
 below_in is_below None = false
 below_in is_below (Some object) = is_below (class_of object)
 
--- the object is of the class; null is of each
+-- the object is of the class; null is of every class
 abbrev pub is_instance_by : (ℕ → Bool) → Heap ℕ → ℕ → Bool
 is_instance_by is_below heap r = nat_eq r 0 || below_in is_below (object_at heap.objects r)
 

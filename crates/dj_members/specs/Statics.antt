@@ -2,9 +2,9 @@
 use Rattle.std.specs.Prelude.{◌≡◌, ℕ, List, ◌∷◌, set, Option, Some, None, slice_index, if◌then◌else◌}
 use Rattle.dj_names.specs.declared.descriptor.Kind.{Kind}
 use Rattle.dj_names.specs.declared.run.Value.{Value}
-use Rattle.dj_names.specs.Heaps.{field_bits, field_value}
-use Rattle.dj_model.specs.Numbers.{is_of_kind}
-use Rattle.dj_model.specs.State.{Part, Goes, Next, Effect}
+use Rattle.dj_names.specs.trusted.Heaps.{field_bits, field_value}
+use Rattle.dj_model.specs.trusted.Numbers.{is_of_kind}
+use Rattle.dj_model.specs.trusted.State.{Part, Goes, Next, Effect}
 use Rattle.dj_stack.specs.Frames.{StackFrame, SameButOperands, top_operands}
 use Rattle.dj_effects.specs.declared.way.Way.{Way}
 use Rattle.dj_effects.specs.declared.way.Way.TheVariants as ways

@@ -74,7 +74,7 @@ pub fn put_field<H: Holders>(
     }
 }
 
-// The bits of a field of an instance with so many; 0 where it has no such field.
+// The bits of a field of an instance with this many; 0 where it has no such field.
 fn bits_at(heap: &Heap, r: u32, at: u32, count: u32) -> u64
     requires { HasFields heap.now.heap r count }
     ensures { result ≡ slice_index (fields_at heap.now.heap r) at }
@@ -82,7 +82,7 @@ fn bits_at(heap: &Heap, r: u32, at: u32, count: u32) -> u64
     if at < count { heap.field(r, at) } else { 0 }
 }
 
-// Gives a field of an instance with so many other bits; nothing where it has no such field.
+// Gives a field of an instance with this many other bits; nothing where it has no such field.
 fn put_bits(heap: &mut Heap, r: u32, at: u32, count: u32, bits: u64)
     requires { HasFields heap.old.heap r count }
     ensures { PutsField heap.old heap.new r at bits }

@@ -19,7 +19,7 @@ pub struct Literals {
     ghost told: { (text : ℕ) → object_told (slice_index objects.items text) ≡ object_of made.items text },
 }
 
-/// What came of a text that has to have an object.
+/// What a text that has to have an object has.
 #[derive(Clone, Copy, Debug)]
 pub enum Kept {
     /// Its object.
@@ -38,7 +38,7 @@ impl Model for Literals {
 }
 
 impl Literals {
-    /// No literal of so many texts.
+    /// No literal of this many texts.
     pub fn new(alloc: Global, count: u32) -> Result<Literals, NoMemory>
         ensures { IfOk result (λ literals. literals ≡ record { count = count; made = [] }) }
     {
@@ -72,7 +72,7 @@ impl Literals {
     }
 }
 
-/// The object of a text's literal is pushed. Where it isn't there yet, it is made of the text's units, of the class String, whose number is told.
+/// Pushes the object of a text's literal. Where there is none yet, it is made of the text's units, with the given number of the class String.
 #[tactic(auto, using(crate::proofs::LiteralFacts::pushes_kept, crate::proofs::LiteralFacts::pushes_none))]
 pub fn push_text(
     frames: &mut Frames,
@@ -102,7 +102,7 @@ pub fn push_text(
     }
 }
 
-/// The object of a text's literal. Where it isn't there yet, it is made of the text's units, of the class String, whose number is told.
+/// The object of a text's literal. Where there is none yet, it is made of the text's units, with the given number of the class String.
 #[tactic(auto, using(crate::proofs::LiteralFacts::kept_there, crate::proofs::LiteralFacts::kept_none))]
 pub fn keep_text(
     heap: &mut Heap,

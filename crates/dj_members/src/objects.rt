@@ -16,13 +16,13 @@ use dj_stack::Frames;
 pub enum Thrown {
     /// With the object of this number as an exception.
     Catch(u32),
-    /// With an exception of the instruction's own, as it is null.
+    /// With an exception of the instruction's own, as the reference is null.
     Null,
-    /// Not at all, as it is no throwable object.
+    /// The run ends, as the object isn't throwable.
     Link,
 }
 
-/// An instance of the class with so many fields, all zero, is made and pushed.
+/// An instance of the class with this many fields, all zero, is made and pushed.
 pub fn new_object(
     frames: &mut Frames,
     heap: &mut Heap,
@@ -88,7 +88,7 @@ pub fn instance_of<C: Classes>(
     Some(Flow::Goes(Way::Next))
 }
 
-/// A reference is taken and thrown, where it is that of an object of the class Throwable, whose number is told, or of one below it.
+/// Takes a reference and throws it, where its object is of the class Throwable, whose number is given, or of one below it.
 #[tactic(auto, unfolding(crate::specs::Objects::throw_by))]
 pub fn throw_top<C: Classes>(
     classes: &C,

@@ -24,7 +24,7 @@ impl Model for Statics {
 }
 
 impl Statics {
-    /// So many static fields, all zero.
+    /// This many static fields, all zero.
     pub fn new(alloc: Global, count: u32) -> Result<Statics, NoMemory>
         ensures { IfOk result (λ statics. statics ≡ replicate count 0) }
     {

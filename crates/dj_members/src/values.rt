@@ -1,5 +1,5 @@
 ghost use Rattle.std.specs.Prelude.{◌≡◌, ◌%◌, ◌^◌};
-ghost use Rattle.dj_names.specs.Heaps.{field_bits, field_value};
+ghost use Rattle.dj_names.specs.trusted.Heaps.{field_bits, field_value};
 
 use dj_names::{Kind, Value};
 

@@ -1,7 +1,7 @@
 -- A question is answered by an answer of its own kind alone.
 use Rattle.std.proofs.Common.{◌≡◌, pos, negsuc, List, [], ◌∷◌, Some, None, refl}
 use Rattle.dj_edge.specs.declared.host.HostAnswer.TheVariants as host
-use Rattle.dj_model.specs.Natives.{Word, Nanos, Millis, answered}
+use Rattle.dj_model.specs.trusted.Natives.{Word, Nanos, Millis, answered}
 
 own_kinds : answered Word (host.Word (negsuc 0)) ∷ answered Nanos (host.Nanos (pos 5)) ∷ answered Millis (host.Millis (pos 7)) ∷ []
     ≡ Some (negsuc 0) ∷ Some (pos 5) ∷ Some (pos 7) ∷ []

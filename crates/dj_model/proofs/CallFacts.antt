@@ -11,32 +11,35 @@ use Rattle.dj_names.specs.declared.run.Costs.{Costs}
 use Rattle.dj_names.specs.declared.run.Thresholds.{Thresholds}
 use Rattle.dj_names.specs.declared.run.Outcome.{Outcome}
 use Rattle.dj_names.specs.declared.run.Outcome.TheVariants as outcomes
-use Rattle.dj_names.specs.Tests.{units_read}
-use Rattle.dj_names.specs.UnitReading.{two_read, three_read, long_read, unit_read}
-use Rattle.dj_names.specs.Types.{Name, class_type}
-use Rattle.dj_names.specs.Library.{object, string, int, long}
-use Rattle.dj_model.specs.Instructions.{Instruction, AText, Another}
-use Rattle.dj_model.specs.Opcodes.{instruction_of, simple}
-use Rattle.dj_model.specs.Program.{Class, Method, Abstract, Int, Long, Text, Unfit, code_of, has_initialiser}
-use Rattle.dj_model.specs.Linking.{most_classes, chain_of, interfaces_from, interfaces_above, is_subclass, is_subtype, field_order, resolve_method, resolve_field, select, special_method, field_count, place_of, static_place}
+use Rattle.dj_names.specs.trusted.Tests.{units_read}
+use Rattle.dj_names.specs.trusted.UnitReading.{two_read, three_read, long_read, unit_read}
+use Rattle.dj_names.specs.trusted.Types.{Name, class_type}
+use Rattle.dj_names.specs.trusted.Library.{object, string, int, long}
+use Rattle.dj_model.specs.trusted.Instructions.{Instruction, AText, Another}
+use Rattle.dj_model.specs.trusted.Opcodes.{instruction_of, simple}
+use Rattle.dj_model.specs.trusted.Program.{Class, Method, Abstract, Int, Long, Text, Unfit, code_of, has_initialiser}
+use Rattle.dj_model.specs.trusted.Linking.{most_classes, chain_of, interfaces_from, interfaces_above, is_subclass, is_subtype, field_order, resolve_method, resolve_field, select, special_method, field_count, place_of, static_place}
 use Rattle.dj_model.specs.Libraries.{metered_program, raw_program, sandbox_program}
-use Rattle.dj_model.specs.Numbers.{compute, convert}
-use Rattle.dj_model.specs.Values.{moved, on_values}
-use Rattle.dj_model.specs.Arrays.{load_element, store_element, array_length, make_array}
-use Rattle.dj_model.specs.Charging.{charge_one, charge_all}
-use Rattle.dj_model.specs.Natives.{answer, host_answer}
-use Rattle.dj_model.specs.Performing.{perform, native}
-use Rattle.dj_model.specs.Members.{with_literal, invoke}
-use Rattle.dj_model.specs.Effects.{effect, pays, used_class}
-use Rattle.dj_model.specs.Initialisation.{is_initialised, mark, with_constants, constants_of, initialise}
-use Rattle.dj_model.specs.Step.{unwound, settle, step}
-use Rattle.dj_model.specs.Runs.{Run, Ends, Stuck, metered_terms, begin, amounts, turn, turns, metered_run, steps, plain_run}
+use Rattle.dj_model.specs.trusted.Numbers.{compute, convert}
+use Rattle.dj_model.specs.trusted.Values.{moved, on_values}
+use Rattle.dj_model.specs.trusted.Arrays.{load_element, store_element, array_length, make_array}
+use Rattle.dj_model.specs.trusted.Charging.{charge_one}
+use Rattle.dj_model.specs.Charging.{charge_all}
+use Rattle.dj_model.specs.trusted.Natives.{answer, host_answer}
+use Rattle.dj_model.specs.trusted.Performing.{perform, native}
+use Rattle.dj_model.specs.trusted.Members.{with_literal, invoke}
+use Rattle.dj_model.specs.trusted.Effects.{effect, used_class}
+use Rattle.dj_model.specs.Effects.{pays}
+use Rattle.dj_model.specs.trusted.Initialisation.{is_initialised, mark, with_constants, constants_of, initialise}
+use Rattle.dj_model.specs.trusted.Step.{unwound, settle, step}
+use Rattle.dj_model.specs.trusted.Runs.{begin, steps, plain_run}
+use Rattle.dj_model.specs.Runs.{Run, Ends, Stuck, metered_terms, amounts, turn, turns, metered_run}
 use Rattle.dj_names.specs.Types.{sandbox_prefix, in_sandbox}
 use Rattle.dj_edge.specs.declared.host.HostAnswer.{HostAnswer}
 use Rattle.dj_edge.specs.declared.host.HostAnswer.TheVariants as host
-use Rattle.dj_model.specs.State.{Uncounted, Accounted}
-use Rattle.dj_model.specs.Runs.{Report}
-use Rattle.dj_model.specs.Rows.{entry_of, op, push, ldc, jump, newarray, class, field, method, invokeinterface, construct, bytes, a_type, entry, code, method_with, verify_with, initialiser_with, plain_constructor, class_with, a_with, field_with, catch_all, catch, costs, at_most, usual, lang_name, throws_plainly}
+use Rattle.dj_model.specs.trusted.State.{Uncounted, Accounted}
+use Rattle.dj_model.specs.trusted.Runs.{Report}
+use Rattle.dj_model.specs.SmallRuns.{entry_of, op, push, ldc, jump, newarray, class, field, method, invokeinterface, construct, bytes, a_type, entry, code, method_with, verify_with, initialiser_with, plain_constructor, class_with, a_with, field_with, catch_all, catch, costs, at_most, usual, lang_name, throws_plainly}
 
 -- how the run of A's verify ends, after a hundred turns at most
 abbrev runs : List Class → List ℕ → Run

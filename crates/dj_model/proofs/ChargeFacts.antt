@@ -4,17 +4,17 @@ use Rattle.dj_names.specs.declared.run.Charge.{Charge}
 use Rattle.dj_names.specs.declared.run.Charge.TheVariants as charges
 use Rattle.dj_names.specs.declared.run.Value.{Value}
 use Rattle.dj_names.specs.declared.run.Value.TheVariants as values
-use Rattle.dj_names.specs.Types.{class_type}
-use Rattle.dj_names.specs.Library.{object, string, int}
+use Rattle.dj_names.specs.trusted.Types.{class_type}
+use Rattle.dj_names.specs.trusted.Library.{object, string, int}
 use Rattle.dj_ops.specs.declared.instruction.Instr.TheVariants as instrs
-use Rattle.dj_model.specs.Instructions.{Instruction, Nothing, AText}
-use Rattle.dj_model.specs.Opcodes.{instruction_of, simple}
-use Rattle.dj_model.specs.Program.{Program}
-use Rattle.dj_model.specs.Linking.{most_classes, chain_of, field_count}
+use Rattle.dj_model.specs.trusted.Instructions.{Instruction, Nothing, AText}
+use Rattle.dj_model.specs.trusted.Opcodes.{instruction_of, simple}
+use Rattle.dj_model.specs.trusted.Program.{Program}
+use Rattle.dj_model.specs.trusted.Linking.{most_classes, chain_of, field_count}
 use Rattle.dj_model.specs.Libraries.{metered_program}
 use Rattle.dj_model.specs.Charging.{Amount}
 use Rattle.dj_model.specs.Effects.{pays}
-use Rattle.dj_model.specs.Rows.{op, push, ldc, slot, iinc, jump, newarray, class, field, method, invokeinterface, class_with, field_with}
+use Rattle.dj_model.specs.SmallRuns.{op, push, ldc, slot, iinc, jump, newarray, class, field, method, invokeinterface, class_with, field_with}
 
 -- C has two fields, D below it one and a static one
 abbrev program : Program

@@ -12,21 +12,21 @@ use Rattle.dj_names.specs.declared.run.Charge.{Charge}
 use Rattle.dj_names.specs.declared.run.Charge.TheVariants as charges
 use Rattle.dj_names.specs.declared.run.Thresholds.{Thresholds}
 use Rattle.dj_names.specs.declared.native.NativeId.{NativeId}
-use Rattle.dj_names.specs.Heaps.{Object, Instance, Array, Text, Heap, object_at, object_size, text_size, field_bits}
-use Rattle.dj_names.specs.Types.{Name, field_kind, parameters_of, class_type}
+use Rattle.dj_names.specs.trusted.Heaps.{Object, Instance, Array, Text, Heap, object_at, object_size, text_size, field_bits}
+use Rattle.dj_names.specs.trusted.Types.{Name, field_kind, parameters_of, class_type}
 use Rattle.dj_edge.specs.declared.host.HostAnswer.{HostAnswer}
-use Rattle.dj_model.specs.Types.{Prefix, Member, is_stop, throwable_name}
-use Rattle.dj_model.specs.Instructions.{Mode, Virtual, Special, Static, Interface, Instruction, Nop, Push, PushText, Load, Store, Increment, LoadElement, StoreElement, Move, Compute, Convert, Branch, Goto, Switch, Return, GetStatic, PutStatic, GetField, PutField, Invoke, New, NewArray, ArrayLength, Throw, CheckCast, InstanceOf, Monitor, Other}
-use Rattle.dj_model.specs.Numbers.{is_of_kind}
-use Rattle.dj_model.specs.Program.{Program, Body, Abstract, Native, Runs}
-use Rattle.dj_model.specs.Linking.{FoundMethod, FoundField, is_among, chain, member_class, resolve_method, resolve_field, select, special_method, place_of}
-use Rattle.dj_model.specs.State.{Terms, Counting, Uncounted, Metered, Accounted, Literal, Part, Flow, Effect}
-use Rattle.dj_model.specs.Arrays.{passes_limit, make}
-use Rattle.dj_model.specs.Charging.{Charged, Fine, Over, charge_one}
-use Rattle.dj_model.specs.Natives.{Answer, Returns, Raises, MakesText, KeepsText, MakesChars, SetsFields, SetsElements, Adds, Rethrows, Question, asks, answered, answer, host_answer}
-use Rattle.dj_model.specs.Performing.{class_at_number, is_instance, takes, seen, ended_by, thrown_by, counted, Making, Made, NotMade, text_object, chars_object, set_elements, raises_after, keeps_made, perform, with_answer, host_asked, native_asked, native}
-use Rattle.dj_model.specs.Members.{get_static, put_static, Holder, NullHolder, NoHolder, Holds, holder_in, holder_at, get_from, put_in, get_field, put_field, Kept, kept_or_made, literal_in, with_literal, push_kept, check_cast, instance_of, throw_top, kinds_of, Arguments, arguments_of, are_instances, run_body, run_method, received, asked_class, call, call_with, invoke}
-use Rattle.dj_model.specs.Effects.{new_object, effect}
+use Rattle.dj_model.specs.trusted.Types.{Prefix, Member, is_stop, throwable_name}
+use Rattle.dj_model.specs.trusted.Instructions.{Mode, Virtual, Special, Static, Interface, Instruction, Nop, Push, PushText, Load, Store, Increment, LoadElement, StoreElement, Move, Compute, Convert, Branch, Goto, Switch, Return, GetStatic, PutStatic, GetField, PutField, Invoke, New, NewArray, ArrayLength, Throw, CheckCast, InstanceOf, Monitor, Other}
+use Rattle.dj_model.specs.trusted.Numbers.{is_of_kind}
+use Rattle.dj_model.specs.trusted.Program.{Program, Body, Abstract, Native, Runs}
+use Rattle.dj_model.specs.trusted.Linking.{FoundMethod, FoundField, is_among, chain, member_class, resolve_method, resolve_field, select, special_method, place_of}
+use Rattle.dj_model.specs.trusted.State.{Terms, Counting, Uncounted, Metered, Accounted, Literal, Part, Flow, Effect}
+use Rattle.dj_model.specs.trusted.Arrays.{passes_limit, make}
+use Rattle.dj_model.specs.trusted.Charging.{Charged, Fine, Over, charge_one}
+use Rattle.dj_model.specs.trusted.Natives.{Answer, Returns, Raises, MakesText, KeepsText, MakesChars, SetsFields, SetsElements, Adds, Rethrows, Question, asks, answered, answer, host_answer}
+use Rattle.dj_model.specs.trusted.Performing.{class_at_number, is_instance, takes, seen, ended_by, thrown_by, counted, Making, Made, NotMade, text_object, chars_object, set_elements, raises_after, keeps_made, perform, with_answer, host_asked, native_asked, native}
+use Rattle.dj_model.specs.trusted.Members.{get_static, put_static, Holder, NullHolder, NoHolder, Holds, holder_in, holder_at, get_from, put_in, get_field, put_field, Kept, kept_or_made, literal_in, with_literal, push_kept, check_cast, instance_of, throw_top, kinds_of, Arguments, arguments_of, are_instances, run_body, run_method, received, asked_class, call, call_with, invoke}
+use Rattle.dj_model.specs.trusted.Effects.{new_object, effect}
 use Rattle.dj_model.specs.Laws.{Grows, IsPaid, IsTold}
 use Rattle.dj_model.proofs.Flows.{either_way}
 use Rattle.dj_model.proofs.Growth.{grows_same, grows_new, grows_set, same_fields}

@@ -13,15 +13,15 @@ use Rattle.dj_names.specs.declared.run.Costs.{Costs}
 use Rattle.dj_names.specs.declared.run.Thresholds.{Thresholds}
 use Rattle.dj_names.specs.declared.run.Outcome.{Outcome}
 use Rattle.dj_names.specs.declared.run.Outcome.TheVariants as outcomes
-use Rattle.dj_names.specs.Heaps.{Object, Instance, Array, Text, Heap, object_at, object_size, array_size, element_at, with_element, kept, value_number}
-use Rattle.dj_model.specs.Instructions.{Access}
-use Rattle.dj_model.specs.Numbers.{is_of_kind}
-use Rattle.dj_model.specs.State.{Counting, Uncounted, Metered, Accounted, Account, Part, Flow, Goes, Catch, Stop, Call, End, Effect}
-use Rattle.dj_model.specs.Values.{Values}
-use Rattle.dj_model.specs.Arrays.{OnHeap, Found, Null, NoArray, IsArray, array_in, array_at, only, reaches, access_kind, load_at, load_from, load_element, store_at, store_in, is_taken, store_element, length_of, array_length, passes_limit, make, make_elements, make_array}
-use Rattle.dj_model.specs.Charging.{added, passes, Charged, Fine, Over, compared_with, charge_after, charge_one}
-use Rattle.dj_model.specs.Performing.{takes, Counted, Within, Halts, Making, Made, NotMade, making, making_then, with_fields, with_fields_in, with_elements_in, set_object, set_fields, set_elements, returns_made, goes_on}
-use Rattle.dj_model.specs.Effects.{values_effect, flow_of, heap_effect}
+use Rattle.dj_names.specs.trusted.Heaps.{Object, Instance, Array, Text, Heap, object_at, object_size, array_size, element_at, with_element, kept, value_number}
+use Rattle.dj_model.specs.trusted.Instructions.{Access}
+use Rattle.dj_model.specs.trusted.Numbers.{is_of_kind}
+use Rattle.dj_model.specs.trusted.State.{Counting, Uncounted, Metered, Accounted, Account, Part, Flow, Goes, Catch, Stop, Call, End, Effect}
+use Rattle.dj_model.specs.trusted.Values.{Values}
+use Rattle.dj_model.specs.trusted.Arrays.{OnHeap, Found, Null, NoArray, IsArray, array_in, array_at, only, reaches, access_kind, load_at, load_from, load_element, store_at, store_in, is_taken, store_element, length_of, array_length, passes_limit, make, make_elements, make_array}
+use Rattle.dj_model.specs.trusted.Charging.{added, passes, Charged, Fine, Over, compared_with, charge_after, charge_one}
+use Rattle.dj_model.specs.trusted.Performing.{takes, Counted, Within, Halts, Making, Made, NotMade, making, making_then, with_fields, with_fields_in, with_elements_in, set_object, set_fields, set_elements, returns_made, goes_on}
+use Rattle.dj_model.specs.trusted.Effects.{values_effect, flow_of, heap_effect}
 use Rattle.dj_model.specs.Laws.{blank, Grows, IsLess, IsOver, IsPaid, IsToldBy, IsTold}
 use Rattle.dj_model.proofs.MappedNames.{either}
 use Rattle.dj_model.proofs.Flows.{either_way}
@@ -111,7 +111,7 @@ ends_plainly Stop plain = tt
 ends_plainly (Call m arguments) plain = tt
 ends_plainly (End outcome) plain = plain
 
--- what is paid stays paid, what is told stays told, and sums only grow
+-- what is paid stays paid, what is reported stays reported, and sums only grow
 abbrev pub StaysPaid : Counting → Account → Account → Type 0
 StaysPaid Uncounted a b = ⊤
 StaysPaid (Accounted most) a b = IsTold most a → IsTold most b × IsLess a.costs b.costs
@@ -198,7 +198,7 @@ unfolding charge_one
 charge_fits most a charge n paid =
     subst (λ before. ChargedFits most a (charge_after most a charge n before)) (sym paid.none) (compared_fits most a charge n paid)
 
--- ---- what is told as exceeded
+-- ---- what is reported as exceeded
 
 abbrev NamesCharge : Charged → Type 0
 NamesCharge (Fine b) = ⊤

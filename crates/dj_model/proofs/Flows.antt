@@ -12,23 +12,23 @@ use Rattle.dj_names.specs.declared.run.Raised.{Raised}
 use Rattle.dj_names.specs.declared.run.Charge.{Charge}
 use Rattle.dj_names.specs.declared.run.Charge.TheVariants as charges
 use Rattle.dj_names.specs.declared.native.NativeId.{NativeId}
-use Rattle.dj_names.specs.Heaps.{Object, Heap, object_size, array_size, element_at}
-use Rattle.dj_names.specs.Library.{stop_class}
-use Rattle.dj_names.specs.Types.{Name, field_kind, parameters_of, class_type}
+use Rattle.dj_names.specs.trusted.Heaps.{Object, Heap, object_size, array_size, element_at}
+use Rattle.dj_names.specs.trusted.Library.{stop_class}
+use Rattle.dj_names.specs.trusted.Types.{Name, field_kind, parameters_of, class_type}
 use Rattle.dj_edge.specs.declared.host.HostAnswer.{HostAnswer}
-use Rattle.dj_model.specs.Types.{Prefix, Member, is_stop, throwable_name}
-use Rattle.dj_model.specs.Instructions.{Access, Mode, Virtual, Special, Static, Interface, Instruction, Nop, Push, PushText, Load, Store, Increment, LoadElement, StoreElement, Move, Compute, Convert, Branch, Goto, Switch, Return, GetStatic, PutStatic, GetField, PutField, Invoke, New, NewArray, ArrayLength, Throw, CheckCast, InstanceOf, Monitor, Other}
-use Rattle.dj_model.specs.Numbers.{is_of_kind}
-use Rattle.dj_model.specs.Program.{Program, Body, Abstract, Native, Runs}
-use Rattle.dj_model.specs.Linking.{FoundMethod, FoundField, resolve_method, resolve_field, select, special_method, place_of}
-use Rattle.dj_model.specs.State.{Terms, Counting, Uncounted, Metered, Accounted, Part, Flow, Goes, Catch, Stop, Call, End, Effect}
-use Rattle.dj_model.specs.Values.{Values}
-use Rattle.dj_model.specs.Arrays.{OnHeap, Found, Null, NoArray, IsArray, array_at, only, access_kind, load_at, load_from, load_element, store_at, store_in, is_taken, store_element, length_of, array_length, passes_limit, make, make_elements, make_array}
-use Rattle.dj_model.specs.Charging.{Charged, Fine, Over, charge_one}
-use Rattle.dj_model.specs.Natives.{Answer, Returns, Raises, MakesText, KeepsText, MakesChars, SetsFields, SetsElements, Adds, Rethrows, Question, asks, answered, answer, host_answer}
-use Rattle.dj_model.specs.Performing.{class_at_number, is_instance, takes, seen, Counted, Within, Halts, ended_by, thrown_by, counted, Making, Made, NotMade, making, making_then, text_object, chars_object, set_elements, raises_after, returns_made, keeps_made, goes_on, perform, with_answer, host_asked, native_asked, native}
-use Rattle.dj_model.specs.Members.{get_static, put_static, Holder, NullHolder, NoHolder, Holds, holder_at, get_from, put_in, get_field, put_field, Kept, with_literal, push_kept, check_cast, instance_of, throw_top, kinds_of, Arguments, arguments_of, are_instances, run_body, run_method, received, asked_class, call, call_with, invoke}
-use Rattle.dj_model.specs.Effects.{values_effect, flow_of, heap_effect, new_object, effect}
+use Rattle.dj_model.specs.trusted.Types.{Prefix, Member, is_stop, throwable_name}
+use Rattle.dj_model.specs.trusted.Instructions.{Access, Mode, Virtual, Special, Static, Interface, Instruction, Nop, Push, PushText, Load, Store, Increment, LoadElement, StoreElement, Move, Compute, Convert, Branch, Goto, Switch, Return, GetStatic, PutStatic, GetField, PutField, Invoke, New, NewArray, ArrayLength, Throw, CheckCast, InstanceOf, Monitor, Other}
+use Rattle.dj_model.specs.trusted.Numbers.{is_of_kind}
+use Rattle.dj_model.specs.trusted.Program.{Program, Body, Abstract, Native, Runs}
+use Rattle.dj_model.specs.trusted.Linking.{FoundMethod, FoundField, resolve_method, resolve_field, select, special_method, place_of}
+use Rattle.dj_model.specs.trusted.State.{Terms, Counting, Uncounted, Metered, Accounted, Part, Flow, Goes, Catch, Stop, Call, End, Effect}
+use Rattle.dj_model.specs.trusted.Values.{Values}
+use Rattle.dj_model.specs.trusted.Arrays.{OnHeap, Found, Null, NoArray, IsArray, array_at, only, access_kind, load_at, load_from, load_element, store_at, store_in, is_taken, store_element, length_of, array_length, passes_limit, make, make_elements, make_array}
+use Rattle.dj_model.specs.trusted.Charging.{Charged, Fine, Over, charge_one}
+use Rattle.dj_model.specs.trusted.Natives.{Answer, Returns, Raises, MakesText, KeepsText, MakesChars, SetsFields, SetsElements, Adds, Rethrows, Question, asks, answered, answer, host_answer}
+use Rattle.dj_model.specs.trusted.Performing.{class_at_number, is_instance, takes, seen, Counted, Within, Halts, ended_by, thrown_by, counted, Making, Made, NotMade, making, making_then, text_object, chars_object, set_elements, raises_after, returns_made, keeps_made, goes_on, perform, with_answer, host_asked, native_asked, native}
+use Rattle.dj_model.specs.trusted.Members.{get_static, put_static, Holder, NullHolder, NoHolder, Holds, holder_at, get_from, put_in, get_field, put_field, Kept, with_literal, push_kept, check_cast, instance_of, throw_top, kinds_of, Arguments, arguments_of, are_instances, run_body, run_method, received, asked_class, call, call_with, invoke}
+use Rattle.dj_model.specs.trusted.Effects.{values_effect, flow_of, heap_effect, new_object, effect}
 use Rattle.dj_model.specs.Mapping.{outcome_map, KeepsStop}
 
 abbrev pub KeepsFlow : (Name → Name) → Flow → Type 0

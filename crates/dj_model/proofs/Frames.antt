@@ -5,20 +5,20 @@ use Rattle.std.proofs.lemmas.Bool.Decides.{nat_tests}
 use Rattle.std.specs.Prelude.{⊤}
 use Rattle.dj_names.specs.declared.descriptor.Ty.{Ty}
 use Rattle.dj_names.specs.declared.run.Value.{Value}
-use Rattle.dj_names.specs.Heaps.{Object, object_size}
-use Rattle.dj_names.specs.Types.{Name, same_name}
+use Rattle.dj_names.specs.trusted.Heaps.{Object, object_size}
+use Rattle.dj_names.specs.trusted.Types.{Name, same_name}
 use Rattle.dj_edge.specs.declared.host.HostAnswer.{HostAnswer}
-use Rattle.dj_model.specs.Types.{Prefix, Declared}
-use Rattle.dj_model.specs.Instructions.{Instruction}
-use Rattle.dj_model.specs.Program.{Program, Field, Constant, Int, Long, Text, Unfit, class_at, fields_of, is_static, is_initialiser, code_of}
-use Rattle.dj_model.specs.Linking.{chain, static_place}
-use Rattle.dj_model.specs.State.{Terms, Frame, State, Way, Next, To, Raise, Back, Flow, Goes, Catch, Stop, Call, End, Effect, instruction_at}
-use Rattle.dj_model.specs.Arrays.{passes_limit}
-use Rattle.dj_model.specs.Members.{Kept, with_literal}
-use Rattle.dj_model.specs.Effects.{effect, used_class}
-use Rattle.dj_model.specs.Initialisation.{most_frames, is_initialised, mark, mark_all, not_initialised, Initialised, Ready, Waits, Fails, then_ready, with_text, with_constant, with_constants, constants_of, initialiser_frames, with_frames, initialise}
-use Rattle.dj_model.specs.Step.{Answer, handler_of, leaves_frame, at_handler, unwound, throw_new, new_exception, new_stop, stop_from, throw_stop_or, called, returned, settle_way, settle, with_part, frame_with, part_of, settled, prepared, done, act, step_of, step}
-use Rattle.dj_model.specs.Runs.{input_array, input_heap, start_state, begun, begin}
+use Rattle.dj_model.specs.trusted.Types.{Prefix, Declared}
+use Rattle.dj_model.specs.trusted.Instructions.{Instruction}
+use Rattle.dj_model.specs.trusted.Program.{Program, Field, Constant, Int, Long, Text, Unfit, class_at, fields_of, is_static, is_initialiser, code_of}
+use Rattle.dj_model.specs.trusted.Linking.{chain, static_place}
+use Rattle.dj_model.specs.trusted.State.{Terms, Frame, State, Way, Next, To, Raise, Back, Flow, Goes, Catch, Stop, Call, End, Effect, instruction_at}
+use Rattle.dj_model.specs.trusted.Arrays.{passes_limit}
+use Rattle.dj_model.specs.trusted.Members.{Kept, with_literal}
+use Rattle.dj_model.specs.trusted.Effects.{effect, used_class}
+use Rattle.dj_model.specs.trusted.Initialisation.{most_frames, is_initialised, mark, mark_all, not_initialised, Initialised, Ready, Waits, Fails, then_ready, with_text, with_constant, with_constants, constants_of, initialiser_frames, with_frames, initialise}
+use Rattle.dj_model.specs.trusted.Step.{Answer, handler_of, leaves_frame, at_handler, unwound, throw_new, new_exception, new_stop, stop_from, throw_stop_or, called, returned, settle_way, settle, with_part, frame_with, part_of, settled, prepared, done, act, step_of, step}
+use Rattle.dj_model.specs.trusted.Runs.{input_array, input_heap, start_state, begun, begin}
 use Rattle.dj_model.specs.Laws.{AnswerFew}
 use Rattle.dj_model.proofs.MappedNames.{either}
 use Rattle.dj_model.proofs.Flows.{either_way}

@@ -4,7 +4,7 @@ use Rattle.std.proofs.lemmas.List.{map-append, map-set, length-set, append_assoc
 use Rattle.std.specs.Prelude.{slice_get}
 use Rattle.dj_names.specs.declared.descriptor.Ty.{Ty}
 use Rattle.dj_names.specs.declared.run.Element.{Element}
-use Rattle.dj_names.specs.Heaps.{Object, Instance, Array, Text, Heap, object_at, object_size, with_new, with_object, with_element, instance_size, array_size}
+use Rattle.dj_names.specs.trusted.Heaps.{Object, Instance, Array, Text, Heap, object_at, object_size, with_new, with_object, with_element, instance_size, array_size}
 use Rattle.dj_model.specs.Laws.{blank, sizes_of, Grows, IsSum}
 use Rattle.dj_model.proofs.MappedNames.{either}
 

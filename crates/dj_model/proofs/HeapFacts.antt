@@ -5,7 +5,7 @@ use Rattle.dj_names.specs.declared.descriptor.Kind.TheVariants as kinds
 use Rattle.dj_names.specs.declared.run.Value.TheVariants as values
 use Rattle.dj_names.specs.declared.run.Element.{Element}
 use Rattle.dj_names.specs.declared.run.Element.TheVariants as elements
-use Rattle.dj_names.specs.Heaps.{Object, Instance, Array, Text, object_size, field_bits, field_value, element_value, element_at, with_element, object_at, next_number, same_element}
+use Rattle.dj_names.specs.trusted.Heaps.{Object, Instance, Array, Text, object_size, field_bits, field_value, element_value, element_at, with_element, object_at, next_number, same_element}
 
 -- an int stands as 64 bits with its sign
 bits : map field_bits (values.Int (pos 5) ∷ values.Int (negsuc 0) ∷ values.Long (negsuc 0) ∷ values.Long (pos 7) ∷ values.Ref 9 ∷ [])

@@ -4,14 +4,14 @@ use Rattle.dj_names.specs.declared.descriptor.Kind.{Kind}
 use Rattle.dj_names.specs.declared.descriptor.Kind.TheVariants as kinds
 use Rattle.dj_names.specs.declared.descriptor.Base.TheVariants as bases
 use Rattle.dj_names.specs.declared.descriptor.Ty.{Ty}
-use Rattle.dj_names.specs.Types.{base_type}
-use Rattle.dj_names.specs.Library.{object, int, long}
+use Rattle.dj_names.specs.trusted.Types.{base_type}
+use Rattle.dj_names.specs.trusted.Library.{object, int, long}
 use Rattle.dj_ops.specs.declared.instruction.Instr.TheVariants as instrs
-use Rattle.dj_model.specs.Instructions.{Nothing, AnInt, ALong, AText, AClass, Instruction}
-use Rattle.dj_model.specs.Opcodes.{instruction_of}
-use Rattle.dj_model.specs.Kinds.{Kinds}
-use Rattle.dj_model.specs.Shape.{after}
-use Rattle.dj_model.specs.Rows.{push, slot, iinc, jump, newarray, class, field, method, invokeinterface}
+use Rattle.dj_model.specs.trusted.Instructions.{Nothing, AnInt, ALong, AText, AClass, Instruction}
+use Rattle.dj_model.specs.trusted.Opcodes.{instruction_of}
+use Rattle.dj_model.specs.trusted.Kinds.{Kinds}
+use Rattle.dj_model.specs.trusted.Shape.{after}
+use Rattle.dj_model.specs.SmallRuns.{push, slot, iinc, jump, newarray, class, field, method, invokeinterface}
 
 -- an int, a long, a reference, and no value in the last two
 abbrev with_operands : List Kind → Kinds

@@ -2,18 +2,21 @@
 use Rattle.std.proofs.Common.{◌≡◌, [], ◌++◌, refl, sym, ap, ◌∙◌}
 use Rattle.std.specs.Option.{option_map}
 use Rattle.dj_names.specs.declared.descriptor.Desc.{Desc}
-use Rattle.dj_names.specs.Types.{Name, desc_map}
-use Rattle.dj_model.specs.Types.{Prefix}
+use Rattle.dj_names.specs.trusted.Types.{Name}
+use Rattle.dj_names.specs.Types.{desc_map}
+use Rattle.dj_model.specs.trusted.Types.{Prefix}
 use Rattle.dj_model.specs.Instructions.{instruction_map}
-use Rattle.dj_model.specs.Program.{Program, Code, class_at, class_map, program_map}
-use Rattle.dj_model.specs.Linking.{static_place}
-use Rattle.dj_model.specs.Effects.{effect, pays, used_class}
+use Rattle.dj_model.specs.trusted.Program.{Program, Code, class_at}
+use Rattle.dj_model.specs.Program.{class_map, program_map}
+use Rattle.dj_model.specs.trusted.Linking.{static_place}
+use Rattle.dj_model.specs.trusted.Effects.{effect, used_class}
+use Rattle.dj_model.specs.Effects.{pays}
 use Rattle.dj_model.specs.Mapping.{IsNameMap, same_names_map}
 use Rattle.dj_model.specs.Laws.{IsMapped, CommutesWithNames, ReadsNoCode, StepCommutesWithNames, RunsCommuteWithNames, SandboxHasNames, HasFewFrames, InitialisesOnce, HasOneEnd, IsJudged, HeapsGrow, CostsStayWithin, PaysFirst, KeepsKinds, StepsAreMade, RunsStaySound, AnswersHaveKinds}
-use Rattle.dj_model.specs.Rows.{WorkedRuns}
+use Rattle.dj_model.specs.SmallRuns.{WorkedRuns}
 use Rattle.dj_model.proofs.Frames.{begin_few, step_few, marked}
 use Rattle.dj_model.proofs.Once.{not_yet, all_differ, stays, step_begins, step_pushes, run_begins}
-use Rattle.dj_model.proofs.Turns.{same_end}
+use Rattle.dj_model.proofs.OneEnd.{same_end}
 use Rattle.dj_model.proofs.Paying.{step_clears, unpaid_pays, paid_acts}
 use Rattle.dj_model.proofs.MappedRuns.{begin_mapped, run_mapped}
 use Rattle.dj_model.proofs.Shapes.{one_shape_fault, no_fault_with_shape, shape_or_fault}
@@ -24,7 +27,7 @@ use Rattle.dj_model.proofs.SoundSteps.{step_made}
 use Rattle.dj_model.proofs.SoundRuns.{step_stands, begin_stands, plain_stands, never_starved, turn_stands, metered_stands}
 use Rattle.dj_model.proofs.QuietLibraries.{metered_asks_nothing, sandbox_asks_nothing}
 use Rattle.dj_model.proofs.SoundNatives.{answer_kind}
-use Rattle.dj_model.proofs.Rows as rows
+use Rattle.dj_model.proofs.SmallRuns as rows
 use Rattle.dj_model.proofs.MappedNames as names
 use Rattle.dj_model.proofs.MappedEffects as effects
 use Rattle.dj_model.proofs.MappedSteps as steps

@@ -1,4 +1,4 @@
-mod Rows
+mod SmallRuns
 pub mod MappedNames
 pub mod MappedHeaps
 pub mod MappedMembers
@@ -9,7 +9,7 @@ pub mod MappedRuns
 pub mod NameMaps
 pub mod LawProofs
 pub mod Shapes
-pub mod Turns
+pub mod OneEnd
 pub mod Paying
 pub mod Frames
 pub mod Once
@@ -49,3 +49,4 @@ pub mod SoundPrograms
 mod SoundProgramFacts
 mod SoundFiles
 mod AskFacts
+mod TypeFacts

@@ -2,11 +2,12 @@
 use Rattle.std.proofs.Common.{◌≡◌, ℕ, List, [], ◌∷◌, map, Option, Some, None, codes, refl}
 use Rattle.dj_names.specs.declared.native.NativeId.{NativeId}
 use Rattle.dj_names.specs.declared.native.NativeId.TheVariants as natives
-use Rattle.dj_names.specs.Descriptors.{desc_text}
-use Rattle.dj_names.specs.Library.{deterministic_library, raw_library, sandbox_library}
-use Rattle.dj_names.specs.Types.{Name}
-use Rattle.dj_model.specs.Program.{Class, Method, Body, Native}
-use Rattle.dj_model.specs.Libraries.{library_program}
+use Rattle.dj_names.specs.trusted.Descriptors.{desc_text}
+use Rattle.dj_names.specs.trusted.Library.{deterministic_library, raw_library}
+use Rattle.dj_names.specs.Library.{sandbox_library}
+use Rattle.dj_names.specs.trusted.Types.{Name}
+use Rattle.dj_model.specs.trusted.Program.{Class, Method, Body, Native}
+use Rattle.dj_model.specs.trusted.Libraries.{library_program}
 
 -- a method by its flags, its name, the text of its descriptor and the native that it is
 pub record MethodRow : Type 0 where
@@ -186,7 +187,7 @@ deterministic_rows : map class_row (library_program deterministic_library)
     ∷ []
 deterministic_rows = refl
 
--- the library whose host answers, in the order of the classes' names
+-- the raw library, in the order of the classes' names
 raw_rows : map class_row (library_program raw_library)
     ≡ row (codes "java/io/Serializable") 1537 (Some (codes "java/lang/Object")) ([]) 0
     ([])

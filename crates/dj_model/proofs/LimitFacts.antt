@@ -4,30 +4,34 @@ use Rattle.dj_names.specs.declared.descriptor.Ty.{Ty}
 use Rattle.dj_names.specs.declared.run.Charge.TheVariants as charges
 use Rattle.dj_names.specs.declared.run.Outcome.{Outcome}
 use Rattle.dj_names.specs.declared.run.Outcome.TheVariants as outcomes
-use Rattle.dj_names.specs.Types.{Name, class_type, array_type, sandbox_prefix, in_sandbox}
-use Rattle.dj_names.specs.Library.{string, builder, char, int}
-use Rattle.dj_model.specs.Instructions.{Instruction, AText}
-use Rattle.dj_model.specs.Program.{Program, Class, Method, Text, code_of, has_initialiser}
-use Rattle.dj_model.specs.State.{State, Uncounted, Accounted}
-use Rattle.dj_model.specs.Rows.{op, ldc, jump, class, field, method, construct, entry, entry_of, verify_with, initialiser_with, class_with, a_with, field_with, catch_all, catch, costs, at_most, usual, lang_name}
+use Rattle.dj_names.specs.trusted.Types.{Name, class_type, array_type}
+use Rattle.dj_names.specs.Types.{sandbox_prefix, in_sandbox}
+use Rattle.dj_names.specs.trusted.Library.{string, builder, char, int}
+use Rattle.dj_model.specs.trusted.Instructions.{Instruction, AText}
+use Rattle.dj_model.specs.trusted.Program.{Program, Class, Method, Text, code_of, has_initialiser}
+use Rattle.dj_model.specs.trusted.State.{State, Uncounted, Accounted}
+use Rattle.dj_model.specs.SmallRuns.{op, ldc, jump, class, field, method, construct, entry, entry_of, verify_with, initialiser_with, class_with, a_with, field_with, catch_all, catch, costs, at_most, usual, lang_name}
 use Rattle.std.specs.Int.{int_wrap}
 use Rattle.std.specs.Fmt.{digits}
-use Rattle.dj_model.specs.Opcodes.{instruction_of, simple}
-use Rattle.dj_model.specs.Linking.{most_classes, chain_of, interfaces_from, interfaces_above, is_subclass, is_subtype, field_order, resolve_method, resolve_field, select, special_method, field_count, place_of, static_place}
+use Rattle.dj_model.specs.trusted.Opcodes.{instruction_of, simple}
+use Rattle.dj_model.specs.trusted.Linking.{most_classes, chain_of, interfaces_from, interfaces_above, is_subclass, is_subtype, field_order, resolve_method, resolve_field, select, special_method, field_count, place_of, static_place}
 use Rattle.dj_model.specs.Libraries.{metered_program, raw_program, sandbox_program}
-use Rattle.dj_model.specs.Numbers.{compute, convert}
-use Rattle.dj_model.specs.Values.{moved, on_values}
-use Rattle.dj_model.specs.Arrays.{load_element, store_element, array_length, make_array}
-use Rattle.dj_model.specs.Charging.{charge_one, charge_all}
-use Rattle.dj_model.specs.Natives.{answer, host_answer}
-use Rattle.dj_model.specs.Performing.{perform, native}
-use Rattle.dj_model.specs.Members.{with_literal, invoke}
-use Rattle.dj_model.specs.Effects.{effect, pays, used_class}
-use Rattle.dj_model.specs.Initialisation.{Initialised, Ready, Waits, Fails, is_initialised, mark, with_constants, constants_of, initialise}
-use Rattle.dj_model.specs.Step.{unwound, settle, step}
-use Rattle.dj_model.specs.Runs.{Run, Ends, Report, metered_terms, empty_heap, start_state, begin, amounts, turn, turns, metered_run, steps, plain_run}
+use Rattle.dj_model.specs.trusted.Numbers.{compute, convert}
+use Rattle.dj_model.specs.trusted.Values.{moved, on_values}
+use Rattle.dj_model.specs.trusted.Arrays.{load_element, store_element, array_length, make_array}
+use Rattle.dj_model.specs.trusted.Charging.{charge_one}
+use Rattle.dj_model.specs.Charging.{charge_all}
+use Rattle.dj_model.specs.trusted.Natives.{answer, host_answer}
+use Rattle.dj_model.specs.trusted.Performing.{perform, native}
+use Rattle.dj_model.specs.trusted.Members.{with_literal, invoke}
+use Rattle.dj_model.specs.trusted.Effects.{effect, used_class}
+use Rattle.dj_model.specs.Effects.{pays}
+use Rattle.dj_model.specs.trusted.Initialisation.{Initialised, Ready, Waits, Fails, is_initialised, mark, with_constants, constants_of, initialise}
+use Rattle.dj_model.specs.trusted.Step.{unwound, settle, step}
+use Rattle.dj_model.specs.trusted.Runs.{Report, empty_heap, start_state, begin, steps, plain_run}
+use Rattle.dj_model.specs.Runs.{Run, Ends, metered_terms, amounts, turn, turns, metered_run}
 
--- a plain run of verify with so many bytes of heap, of which the input takes 24
+-- a plain run of verify with this many bytes of heap, of which the input takes 24
 abbrev limited : ℕ → List Class → Option Report
 limited limit classes = plain_run (raw_program classes) [] (record { limit = Some limit; counting = Uncounted }) entry (1 ∷ 2 ∷ []) [] 100
 
@@ -108,7 +112,7 @@ with_initialisers = metered_program (class_with (codes "T") [] (initialiser_with
     ∷ record (class_with (codes "U") [] (initialiser_with (op 177 ∷ []) ∷ [])) { superclass = Some (codes "T") }
     ∷ class_with (codes "V") [] [] ∷ [])
 
--- so many frames, and no class initialised
+-- this many frames, and no class initialised
 abbrev with_frames : ℕ → State
 with_frames n = record (start_state with_initialisers entry empty_heap []) { frames = replicate n (record { method = entry; number = 0; locals = []; operands = []; paid = false }) }
 

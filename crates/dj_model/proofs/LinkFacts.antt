@@ -7,18 +7,21 @@ use Rattle.dj_names.specs.declared.descriptor.Base.TheVariants as bases
 use Rattle.dj_names.specs.declared.descriptor.Ty.{Ty}
 use Rattle.dj_names.specs.declared.descriptor.Desc.TheVariants as descs
 use Rattle.dj_names.specs.declared.run.Raised.TheVariants as raises
-use Rattle.dj_names.specs.Library.{deterministic_library, raw_library, sandbox_library, object, string, builder, int, lang}
-use Rattle.dj_names.specs.Values.{raised_class}
-use Rattle.dj_names.specs.Types.{Name, class_type, base_array, array_type}
-use Rattle.dj_model.specs.Program.{Program, Class, Method, Field, Body, Abstract, Native, Runs, class_at, flags_of, is_private, is_static, is_final, is_interface, is_abstract}
-use Rattle.dj_model.specs.Linking.{most_classes, chain_of, chain, interfaces_from, interfaces_above, is_subclass, is_subtype, field_order, FoundMethod, FoundField, resolve_method, resolve_field, select, special_method, field_count, place_of, static_place, static_count}
-use Rattle.dj_model.specs.Libraries.{library_program, metered_program, raw_program, sandbox_program, is_name_before}
-use Rattle.dj_model.specs.Numbers.{same_kind}
-use Rattle.dj_model.specs.Kinds.{Signature, signature_of}
+use Rattle.dj_names.specs.trusted.Library.{deterministic_library, raw_library, object, string, builder, int, lang}
+use Rattle.dj_names.specs.Library.{sandbox_library}
+use Rattle.dj_names.specs.trusted.Values.{raised_class}
+use Rattle.dj_names.specs.trusted.Types.{Name, class_type, base_array, array_type}
+use Rattle.dj_model.specs.trusted.Program.{Program, Class, Method, Field, Body, Abstract, Native, Runs, class_at, flags_of, is_private, is_static, is_interface, is_abstract}
+use Rattle.dj_model.specs.Program.{is_final}
+use Rattle.dj_model.specs.trusted.Linking.{most_classes, chain_of, chain, interfaces_from, interfaces_above, is_subclass, is_subtype, field_order, FoundMethod, FoundField, resolve_method, resolve_field, select, special_method, field_count, place_of, static_place, static_count}
+use Rattle.dj_model.specs.trusted.Libraries.{library_program, is_name_before}
+use Rattle.dj_model.specs.Libraries.{metered_program, raw_program, sandbox_program}
+use Rattle.dj_model.specs.trusted.Numbers.{same_kind}
+use Rattle.dj_model.specs.trusted.Kinds.{Signature, signature_of}
 use Rattle.dj_model.specs.NativeKinds.{native_signature}
-use Rattle.dj_model.specs.Shape.{same_result}
+use Rattle.dj_model.specs.trusted.Shape.{same_result}
 use Rattle.dj_model.specs.Sound.{names_rise, methods_differ, fields_differ}
-use Rattle.dj_model.specs.Rows.{class_with, field_with, method_with}
+use Rattle.dj_model.specs.SmallRuns.{class_with, field_with, method_with}
 
 abbrev each_library : List Program
 each_library = library_program deterministic_library ∷ library_program raw_library ∷ library_program sandbox_library ∷ []

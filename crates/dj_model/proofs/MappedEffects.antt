@@ -4,19 +4,25 @@ use Rattle.std.specs.Option.{option_map}
 use Rattle.dj_names.specs.declared.descriptor.Ty.{Ty}
 use Rattle.dj_names.specs.declared.run.Value.{Value}
 use Rattle.dj_names.specs.declared.run.Outcome.{Outcome}
-use Rattle.dj_names.specs.Heaps.{Instance}
+use Rattle.dj_names.specs.trusted.Heaps.{Instance}
 use Rattle.dj_names.specs.declared.descriptor.Desc.{Desc}
-use Rattle.dj_names.specs.Types.{Name, field_kind, type_map, desc_map}
-use Rattle.dj_model.specs.Types.{Prefix, Member}
-use Rattle.dj_model.specs.Instructions.{Named, Instruction, Nop, Push, PushText, Load, Store, Increment, LoadElement, StoreElement, Move, Compute, Convert, Branch, Goto, Switch, Return, GetStatic, PutStatic, GetField, PutField, Invoke, New, NewArray, ArrayLength, Throw, CheckCast, InstanceOf, Monitor, Other, Mode, Virtual, Special, Static, Interface, instruction_map}
-use Rattle.dj_model.specs.Program.{Program, Code, class_at, class_map}
-use Rattle.dj_model.specs.Linking.{FoundMethod, FoundField, field_count, member_class, resolve_field, resolve_method, static_place}
-use Rattle.dj_model.specs.State.{Way, Terms, Part, part_map, effect_map}
-use Rattle.dj_model.specs.Values.{Values, on_values}
-use Rattle.dj_model.specs.Arrays.{OnHeap, on_heap_map, load_element, store_element, array_length, make_array, make}
-use Rattle.dj_model.specs.Performing.{takes}
-use Rattle.dj_model.specs.Members.{with_literal}
-use Rattle.dj_model.specs.Effects.{values_effect, heap_effect, new_object, effect, pays, field_class, method_class, used_class}
+use Rattle.dj_names.specs.trusted.Types.{Name, field_kind}
+use Rattle.dj_names.specs.Types.{type_map, desc_map}
+use Rattle.dj_model.specs.trusted.Types.{Prefix, Member}
+use Rattle.dj_model.specs.trusted.Instructions.{Named, Instruction, Nop, Push, PushText, Load, Store, Increment, LoadElement, StoreElement, Move, Compute, Convert, Branch, Goto, Switch, Return, GetStatic, PutStatic, GetField, PutField, Invoke, New, NewArray, ArrayLength, Throw, CheckCast, InstanceOf, Monitor, Other, Mode, Virtual, Special, Static, Interface}
+use Rattle.dj_model.specs.Instructions.{instruction_map}
+use Rattle.dj_model.specs.trusted.Program.{Program, Code, class_at}
+use Rattle.dj_model.specs.Program.{class_map}
+use Rattle.dj_model.specs.trusted.Linking.{FoundMethod, FoundField, field_count, member_class, resolve_field, resolve_method, static_place}
+use Rattle.dj_model.specs.trusted.State.{Way, Terms, Part}
+use Rattle.dj_model.specs.State.{part_map, effect_map}
+use Rattle.dj_model.specs.trusted.Values.{Values, on_values}
+use Rattle.dj_model.specs.trusted.Arrays.{OnHeap, load_element, store_element, array_length, make_array, make}
+use Rattle.dj_model.specs.Arrays.{on_heap_map}
+use Rattle.dj_model.specs.trusted.Performing.{takes}
+use Rattle.dj_model.specs.trusted.Members.{with_literal}
+use Rattle.dj_model.specs.trusted.Effects.{values_effect, heap_effect, new_object, effect, field_class, method_class, used_class}
+use Rattle.dj_model.specs.Effects.{pays}
 use Rattle.dj_model.specs.Mapping.{IsNameMap}
 use Rattle.dj_model.proofs.MappedNames as names
 use Rattle.dj_model.proofs.MappedHeaps.{load_mapped, store_mapped, length_mapped, make_mapped, make_array_mapped}

@@ -1,4 +1,4 @@
--- Instructions on arrays, and what native methods see and do, whatever tells the classes of objects.
+-- Instructions on arrays, and what native methods see and do, whatever stands for the classes of objects.
 use Rattle.std.proofs.Common.{◌≡◌, ℕ, ◌+◌, ◌-◌, Bool, true, false, ℤ, pos, negsuc, List, [], ◌∷◌, map, replicate, Option, Some, None, nat_eq, refl, ap, ◌∙◌, inl, inr}
 use Rattle.std.proofs.lemmas.List.{map-append, map-set, length-map}
 use Rattle.std.proofs.lemmas.Option.{slice_get-map}
@@ -7,10 +7,12 @@ use Rattle.std.specs.Prelude.{slice_get}
 use Rattle.dj_names.specs.declared.run.Value.{Value}
 use Rattle.dj_names.specs.declared.run.Value.TheVariants as values
 use Rattle.dj_names.specs.declared.run.Element.{Element}
-use Rattle.dj_names.specs.Heaps.{Object, Instance, Array, Text, Heap, class_of, object_map, heap_map, object_at, object_size, with_new, with_object, next_number, element_at, with_element, kept, value_number, array_size}
-use Rattle.dj_model.specs.Instructions.{Access}
-use Rattle.dj_model.specs.Numbers.{is_of_kind}
-use Rattle.dj_model.specs.Arrays.{on_heap_map, reaches, access_kind, Found, Null, NoArray, IsArray, array_in, array_at, only, load_at, load_from, load_element, store_at, store_in, is_taken, store_element, length_of, array_length, passes_limit, make, make_elements, make_array}
+use Rattle.dj_names.specs.trusted.Heaps.{Object, Instance, Array, Text, Heap, class_of, object_at, object_size, with_new, with_object, next_number, element_at, with_element, kept, value_number, array_size}
+use Rattle.dj_names.specs.Heaps.{object_map, heap_map}
+use Rattle.dj_model.specs.trusted.Instructions.{Access}
+use Rattle.dj_model.specs.trusted.Numbers.{is_of_kind}
+use Rattle.dj_model.specs.trusted.Arrays.{reaches, access_kind, Found, Null, NoArray, IsArray, array_in, array_at, only, load_at, load_from, load_element, store_at, store_in, is_taken, store_element, length_of, array_length, passes_limit, make, make_elements, make_array}
+use Rattle.dj_model.specs.Arrays.{on_heap_map}
 use Rattle.dj_model.proofs.MappedNames.{either}
 
 module _ {C D : Type 0} (h : C → D) where

@@ -14,20 +14,25 @@ use Rattle.dj_names.specs.declared.run.Raised.TheVariants as raises
 use Rattle.dj_names.specs.declared.run.Charge.{Charge}
 use Rattle.dj_names.specs.declared.run.Charge.TheVariants as charges
 use Rattle.dj_names.specs.declared.native.NativeId.{NativeId}
-use Rattle.dj_names.specs.Heaps.{Object, Instance, Array, Text, Heap, class_of, object_map, heap_map, object_at, object_size, text_size, field_bits}
-use Rattle.dj_names.specs.Types.{Name, class_type, component_type, parameters_of, of_map, type_map, desc_map}
+use Rattle.dj_names.specs.trusted.Heaps.{Object, Instance, Array, Text, Heap, class_of, object_at, object_size, text_size, field_bits}
+use Rattle.dj_names.specs.Heaps.{object_map, heap_map}
+use Rattle.dj_names.specs.trusted.Types.{Name, class_type, component_type, parameters_of, of_map}
+use Rattle.dj_names.specs.Types.{type_map, desc_map}
 use Rattle.dj_edge.specs.declared.host.HostAnswer.{HostAnswer}
-use Rattle.dj_model.specs.Types.{Prefix, Member, member_map, throwable_name, is_stop}
-use Rattle.dj_model.specs.Instructions.{Mode, Virtual, Special, Static, Interface}
-use Rattle.dj_model.specs.Numbers.{is_of_kind}
-use Rattle.dj_model.specs.Program.{Program, Code, Body, Abstract, Native, Runs, body_map, class_at, class_map}
-use Rattle.dj_model.specs.Linking.{is_among, chain, member_class, FoundMethod, FoundField, resolve_method, select, special_method, place_of, static_place}
-use Rattle.dj_model.specs.State.{Terms, Counting, Uncounted, Metered, Accounted, Literal, Part, Raise, Goes, Catch, goes, Effect, part_map, effect_map}
-use Rattle.dj_model.specs.Arrays.{passes_limit}
-use Rattle.dj_model.specs.Charging.{Charged, Fine, Over, charge_one}
-use Rattle.dj_model.specs.Natives.{Answer, Returns, Raises, MakesText, KeepsText, MakesChars, SetsFields, SetsElements, Adds, Rethrows, Question, asks, answered, answer, host_answer, plain_class, class_text, with_dots}
-use Rattle.dj_model.specs.Performing.{class_in, class_at_number, is_instance, takes, units_in, is_text_in, field_in, elements_in, shown_in, seen, Counted, Within, Halts, ended_by, thrown_by, counted, Making, Made, NotMade, making, making_then, made_charged, text_object, chars_object, with_fields_in, with_elements_in, set_object, set_fields, set_elements, returns, raises_after, returns_made, keeps_made, goes_on, perform, with_answer, host_asked, native_asked, native}
-use Rattle.dj_model.specs.Members.{broken, get_static, put_static, Holder, NullHolder, NoHolder, Holds, holder_in, holder_at, get_from, put_in, get_field, put_field, literal_in, Kept, kept_or_made, with_literal, push_kept, check_cast, instance_of, throw_top, kinds_of, Arguments, arguments_of, are_instances, run_body, run_method, received, call_special, call_virtual, call, call_with, invoke}
+use Rattle.dj_model.specs.trusted.Types.{Prefix, Member, throwable_name, is_stop}
+use Rattle.dj_model.specs.Types.{member_map}
+use Rattle.dj_model.specs.trusted.Instructions.{Mode, Virtual, Special, Static, Interface}
+use Rattle.dj_model.specs.trusted.Numbers.{is_of_kind}
+use Rattle.dj_model.specs.trusted.Program.{Program, Code, Body, Abstract, Native, Runs, class_at}
+use Rattle.dj_model.specs.Program.{body_map, class_map}
+use Rattle.dj_model.specs.trusted.Linking.{is_among, chain, member_class, FoundMethod, FoundField, resolve_method, select, special_method, place_of, static_place}
+use Rattle.dj_model.specs.trusted.State.{Terms, Counting, Uncounted, Metered, Accounted, Literal, Part, Raise, Goes, Catch, goes, Effect}
+use Rattle.dj_model.specs.State.{part_map, effect_map}
+use Rattle.dj_model.specs.trusted.Arrays.{passes_limit}
+use Rattle.dj_model.specs.trusted.Charging.{Charged, Fine, Over, charge_one}
+use Rattle.dj_model.specs.trusted.Natives.{Answer, Returns, Raises, MakesText, KeepsText, MakesChars, SetsFields, SetsElements, Adds, Rethrows, Question, asks, answered, answer, host_answer, plain_class, class_text, with_dots}
+use Rattle.dj_model.specs.trusted.Performing.{class_in, class_at_number, is_instance, takes, units_in, is_text_in, field_in, elements_in, shown_in, seen, Counted, Within, Halts, ended_by, thrown_by, counted, Making, Made, NotMade, making, making_then, made_charged, text_object, chars_object, with_fields_in, with_elements_in, set_object, set_fields, set_elements, returns, raises_after, returns_made, keeps_made, goes_on, perform, with_answer, host_asked, native_asked, native}
+use Rattle.dj_model.specs.trusted.Members.{broken, get_static, put_static, Holder, NullHolder, NoHolder, Holds, holder_in, holder_at, get_from, put_in, get_field, put_field, literal_in, Kept, kept_or_made, with_literal, push_kept, check_cast, instance_of, throw_top, kinds_of, Arguments, arguments_of, are_instances, run_body, run_method, received, call_special, call_virtual, call, call_with, invoke}
 use Rattle.dj_model.specs.Mapping.{IsNameMap}
 use Rattle.dj_model.proofs.MappedNames as names
 use Rattle.dj_model.proofs.MappedNames.{either}

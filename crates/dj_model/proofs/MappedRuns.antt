@@ -5,16 +5,21 @@ use Rattle.std.specs.Option.{option_map}
 use Rattle.dj_names.specs.declared.run.Value.TheVariants as values
 use Rattle.dj_names.specs.declared.run.Outcome.TheVariants as outcomes
 use Rattle.dj_names.specs.declared.descriptor.Ty.{Ty}
-use Rattle.dj_names.specs.Heaps.{Heap, heap_map, object_size}
-use Rattle.dj_names.specs.Types.{Name, type_map}
+use Rattle.dj_names.specs.trusted.Heaps.{Heap, object_size}
+use Rattle.dj_names.specs.Heaps.{heap_map}
+use Rattle.dj_names.specs.trusted.Types.{Name}
+use Rattle.dj_names.specs.Types.{type_map}
 use Rattle.dj_edge.specs.declared.host.HostAnswer.{HostAnswer}
-use Rattle.dj_model.specs.Types.{Prefix, Declared, declared_map}
-use Rattle.dj_model.specs.Program.{Program, code_map, class_map}
-use Rattle.dj_model.specs.State.{Terms, State, state_map}
-use Rattle.dj_model.specs.Arrays.{passes_limit}
-use Rattle.dj_model.specs.Initialisation.{Initialised, Ready, Waits, Fails, initialise}
-use Rattle.dj_model.specs.Step.{Answer, Went, Ended, IllFormed, step}
-use Rattle.dj_model.specs.Runs.{input_array, empty_heap, input_heap, start_state, begun, begin, Ran, Going, Finished, NoStep, one_more, then_steps, steps, from_start, report_of, plain_run}
+use Rattle.dj_model.specs.trusted.Types.{Prefix, Declared}
+use Rattle.dj_model.specs.Types.{declared_map}
+use Rattle.dj_model.specs.trusted.Program.{Program}
+use Rattle.dj_model.specs.Program.{code_map, class_map}
+use Rattle.dj_model.specs.trusted.State.{Terms, State}
+use Rattle.dj_model.specs.State.{state_map}
+use Rattle.dj_model.specs.trusted.Arrays.{passes_limit}
+use Rattle.dj_model.specs.trusted.Initialisation.{Initialised, Ready, Waits, Fails, initialise}
+use Rattle.dj_model.specs.trusted.Step.{Answer, Went, Ended, IllFormed, step}
+use Rattle.dj_model.specs.trusted.Runs.{input_array, empty_heap, input_heap, start_state, begun, begin, Ran, Going, Finished, NoStep, one_more, then_steps, steps, from_start, report_of, plain_run}
 use Rattle.dj_model.specs.Mapping.{IsNameMap, KeepsStop, outcome_map, initialised_map, answer_map, report_map}
 use Rattle.dj_model.proofs.MappedNames as names
 use Rattle.dj_model.proofs.MappedNames.{either}

@@ -14,21 +14,27 @@ use Rattle.dj_names.specs.declared.run.Charge.{Charge}
 use Rattle.dj_names.specs.declared.run.Raised.{Raised}
 use Rattle.dj_names.specs.declared.run.Outcome.{Outcome}
 use Rattle.dj_names.specs.declared.run.Outcome.TheVariants as outcomes
-use Rattle.dj_names.specs.Values.{raised_class}
-use Rattle.dj_names.specs.Heaps.{Object, Instance, Array, Text, Heap, class_of, object_map, heap_map, object_at, object_size, with_new, next_number}
-use Rattle.dj_names.specs.Types.{Name, class_type, type_map, desc_map}
-use Rattle.dj_names.specs.Library.{stop_class}
-use Rattle.dj_model.specs.Types.{Prefix, Declared, declared_map, is_stop}
-use Rattle.dj_model.specs.Instructions.{Named, Nothing, AnInt, ALong, AText, AClass, AField, AMethod, AnInterfaceMethod, Another, named_map, Instruction, instruction_map}
-use Rattle.dj_model.specs.Program.{Program, Code, Range, Field, Constant, Int, Long, Text as TextConstant, Unfit, class_at, fields_of, is_static, code_of, is_initialiser, initialiser_of, has_initialiser, program_map, code_map, range_map, field_map, class_map}
-use Rattle.dj_model.specs.Linking.{member_class, chain, static_place}
-use Rattle.dj_model.specs.State.{Terms, Frame, frame_map, State, state_map, instruction_in, instruction_at, Way, Next, To, Raise, Back, Flow, Goes, Catch, Stop, Call, End, flow_map, Effect, effect_map}
-use Rattle.dj_model.specs.Arrays.{Found, Null, NoArray, IsArray, array_at, passes_limit}
-use Rattle.dj_model.specs.Performing.{class_at_number, field_in}
-use Rattle.dj_model.specs.Members.{Kept, with_literal}
-use Rattle.dj_model.specs.Effects.{effect, used_class}
-use Rattle.dj_model.specs.Initialisation.{locals_for, new_frame, most_frames, is_initialised, mark, mark_all, not_initialised, Initialised, Ready, Waits, Fails, then_ready, with_text, with_constant, with_constants, constants_of, initialiser_frames, with_frames, initialise_all, initialise}
-use Rattle.dj_model.specs.Step.{Answer, Went, Ended, text_in, message_of, catches_named, catches, handler_in, handler_of, caught, stopped_by, ends_with, leaves_frame, at_handler, unwound, throw, throw_new, new_exception, new_stop, stop_from, throw_stop_or, called, bytes_in, result_outcome, resumed, returned, settle_way, settle, part_of, with_part, frame_with, settled, prepared, done, act, step_of, step}
+use Rattle.dj_names.specs.trusted.Values.{raised_class}
+use Rattle.dj_names.specs.trusted.Heaps.{Object, Instance, Array, Text, Heap, class_of, object_at, object_size, with_new, next_number}
+use Rattle.dj_names.specs.Heaps.{object_map, heap_map}
+use Rattle.dj_names.specs.trusted.Types.{Name, class_type}
+use Rattle.dj_names.specs.Types.{type_map, desc_map}
+use Rattle.dj_names.specs.trusted.Library.{stop_class}
+use Rattle.dj_model.specs.trusted.Types.{Prefix, Declared, is_stop}
+use Rattle.dj_model.specs.Types.{declared_map}
+use Rattle.dj_model.specs.trusted.Instructions.{Named, Nothing, AnInt, ALong, AText, AClass, AField, AMethod, AnInterfaceMethod, Another, Instruction}
+use Rattle.dj_model.specs.Instructions.{named_map, instruction_map}
+use Rattle.dj_model.specs.trusted.Program.{Program, Code, Range, Field, Constant, Int, Long, Text as TextConstant, Unfit, class_at, fields_of, is_static, code_of, is_initialiser, initialiser_of, has_initialiser}
+use Rattle.dj_model.specs.Program.{program_map, code_map, range_map, field_map, class_map}
+use Rattle.dj_model.specs.trusted.Linking.{member_class, chain, static_place}
+use Rattle.dj_model.specs.trusted.State.{Terms, Frame, State, instruction_in, instruction_at, Way, Next, To, Raise, Back, Flow, Goes, Catch, Stop, Call, End, Effect}
+use Rattle.dj_model.specs.State.{frame_map, state_map, flow_map, effect_map}
+use Rattle.dj_model.specs.trusted.Arrays.{Found, Null, NoArray, IsArray, array_at, passes_limit}
+use Rattle.dj_model.specs.trusted.Performing.{class_at_number, field_in}
+use Rattle.dj_model.specs.trusted.Members.{Kept, with_literal}
+use Rattle.dj_model.specs.trusted.Effects.{effect, used_class}
+use Rattle.dj_model.specs.trusted.Initialisation.{locals_for, new_frame, most_frames, is_initialised, mark, mark_all, not_initialised, Initialised, Ready, Waits, Fails, then_ready, with_text, with_constant, with_constants, constants_of, initialiser_frames, with_frames, initialise_all, initialise}
+use Rattle.dj_model.specs.trusted.Step.{Answer, Went, Ended, text_in, message_of, catches_named, catches, handler_in, handler_of, caught, stopped_by, ends_with, leaves_frame, at_handler, unwound, throw, throw_new, new_exception, new_stop, stop_from, throw_stop_or, called, bytes_in, result_outcome, resumed, returned, settle_way, settle, part_of, with_part, frame_with, settled, prepared, done, act, step_of, step}
 use Rattle.dj_model.specs.Mapping.{IsNameMap, KeepsStop, outcome_map, initialised_map, answer_map}
 use Rattle.dj_model.proofs.MappedNames as names
 use Rattle.dj_model.proofs.MappedNames.{either}

@@ -6,15 +6,21 @@ use Rattle.dj_names.specs.declared.descriptor.Of.TheVariants as ofs
 use Rattle.dj_names.specs.declared.descriptor.Ty.{Ty}
 use Rattle.dj_names.specs.declared.descriptor.Desc.{Desc}
 use Rattle.dj_names.specs.declared.descriptor.Desc.TheVariants as descs
-use Rattle.dj_names.specs.Heaps.{Object, Instance, Array, Text, object_map, Heap, heap_map}
-use Rattle.dj_names.specs.Library.{below_object, stop_class, accounter_class, accounter_methods}
-use Rattle.dj_names.specs.Types.{Name, of_map, type_map, desc_map, sandbox_prefix, in_sandbox}
-use Rattle.dj_model.specs.Types.{Prefix, Member, member_map, Declared, declared_map, is_stop}
-use Rattle.dj_model.specs.Instructions.{Named, Nothing, AnInt, ALong, AText, AClass, AField, AMethod, AnInterfaceMethod, Another, named_map, Instruction, Nop, Push, PushText, Load, Store, Increment, LoadElement, StoreElement, Move, Compute, Convert, Branch, Goto, Switch, Return, GetStatic, PutStatic, GetField, PutField, Invoke, New, NewArray, ArrayLength, Throw, CheckCast, InstanceOf, Monitor, Other, instruction_map}
-use Rattle.dj_model.specs.Program.{Program, class_at}
-use Rattle.dj_model.specs.Linking.{static_place}
-use Rattle.dj_model.specs.Libraries.{library_class}
-use Rattle.dj_model.specs.State.{Part, part_map, Flow, Goes, Catch, Stop, Call, End, flow_map, Effect, effect_map}
+use Rattle.dj_names.specs.trusted.Heaps.{Object, Instance, Array, Text, Heap}
+use Rattle.dj_names.specs.Heaps.{object_map, heap_map}
+use Rattle.dj_names.specs.trusted.Library.{stop_class}
+use Rattle.dj_names.specs.Library.{below_object, accounter_class, accounter_methods}
+use Rattle.dj_names.specs.trusted.Types.{Name, of_map}
+use Rattle.dj_names.specs.Types.{type_map, desc_map, sandbox_prefix, in_sandbox}
+use Rattle.dj_model.specs.trusted.Types.{Prefix, Member, Declared, is_stop}
+use Rattle.dj_model.specs.Types.{member_map, declared_map}
+use Rattle.dj_model.specs.trusted.Instructions.{Named, Nothing, AnInt, ALong, AText, AClass, AField, AMethod, AnInterfaceMethod, Another, Instruction, Nop, Push, PushText, Load, Store, Increment, LoadElement, StoreElement, Move, Compute, Convert, Branch, Goto, Switch, Return, GetStatic, PutStatic, GetField, PutField, Invoke, New, NewArray, ArrayLength, Throw, CheckCast, InstanceOf, Monitor, Other}
+use Rattle.dj_model.specs.Instructions.{named_map, instruction_map}
+use Rattle.dj_model.specs.trusted.Program.{Program, class_at}
+use Rattle.dj_model.specs.trusted.Linking.{static_place}
+use Rattle.dj_model.specs.trusted.Libraries.{library_class}
+use Rattle.dj_model.specs.trusted.State.{Part, Flow, Goes, Catch, Stop, Call, End, Effect}
+use Rattle.dj_model.specs.State.{part_map, flow_map, effect_map}
 use Rattle.dj_model.specs.Mapping.{IsNameMap, same_names_map, AreApart}
 use Rattle.dj_model.proofs.MappedNames.{either}
 

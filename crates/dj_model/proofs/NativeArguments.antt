@@ -8,26 +8,29 @@ use Rattle.dj_names.specs.declared.run.Value.{Value}
 use Rattle.dj_names.specs.declared.run.Value.TheVariants as values
 use Rattle.dj_names.specs.declared.native.NativeId.{NativeId}
 use Rattle.dj_names.specs.declared.native.NativeId.TheVariants as natives
-use Rattle.dj_names.specs.Heaps.{Instance, Text, Heap}
-use Rattle.dj_names.specs.Types.{class_type, array_type}
-use Rattle.dj_names.specs.Library.{string, builder, throwable, char, int}
-use Rattle.dj_model.specs.Instructions.{Instruction, AText}
-use Rattle.dj_model.specs.Opcodes.{instruction_of, simple}
-use Rattle.dj_model.specs.Program.{code_of, has_initialiser}
-use Rattle.dj_model.specs.Linking.{most_classes, chain_of, interfaces_from, interfaces_above, is_subclass, is_subtype, field_order, resolve_method, resolve_field, select, special_method, field_count, place_of, static_place}
+use Rattle.dj_names.specs.trusted.Heaps.{Instance, Text, Heap}
+use Rattle.dj_names.specs.trusted.Types.{class_type, array_type}
+use Rattle.dj_names.specs.trusted.Library.{string, builder, throwable, char, int}
+use Rattle.dj_model.specs.trusted.Instructions.{Instruction, AText}
+use Rattle.dj_model.specs.trusted.Opcodes.{instruction_of, simple}
+use Rattle.dj_model.specs.trusted.Program.{code_of, has_initialiser}
+use Rattle.dj_model.specs.trusted.Linking.{most_classes, chain_of, interfaces_from, interfaces_above, is_subclass, is_subtype, field_order, resolve_method, resolve_field, select, special_method, field_count, place_of, static_place}
 use Rattle.dj_model.specs.Libraries.{metered_program, raw_program, sandbox_program}
-use Rattle.dj_model.specs.Numbers.{compute, convert}
-use Rattle.dj_model.specs.Values.{moved, on_values}
-use Rattle.dj_model.specs.Arrays.{load_element, store_element, array_length, make_array}
-use Rattle.dj_model.specs.Charging.{charge_one, charge_all}
-use Rattle.dj_model.specs.Natives.{Answer, Returns, MakesText, KeepsText, MakesChars, answer, host_answer}
-use Rattle.dj_model.specs.Performing.{seen, perform, native}
-use Rattle.dj_model.specs.Members.{with_literal, invoke}
-use Rattle.dj_model.specs.Effects.{effect, pays, used_class}
-use Rattle.dj_model.specs.Initialisation.{is_initialised, mark, with_constants, constants_of, initialise}
-use Rattle.dj_model.specs.Step.{unwound, settle, step}
-use Rattle.dj_model.specs.Runs.{Run, Ends, begin, amounts, turn, turns, metered_run, steps, plain_run}
-use Rattle.dj_model.specs.Rows.{op, push, ldc, newarray, class, method, construct, entry, verify_with, a_with, costs, usual, lang_name}
+use Rattle.dj_model.specs.trusted.Numbers.{compute, convert}
+use Rattle.dj_model.specs.trusted.Values.{moved, on_values}
+use Rattle.dj_model.specs.trusted.Arrays.{load_element, store_element, array_length, make_array}
+use Rattle.dj_model.specs.trusted.Charging.{charge_one}
+use Rattle.dj_model.specs.Charging.{charge_all}
+use Rattle.dj_model.specs.trusted.Natives.{Answer, Returns, MakesText, KeepsText, MakesChars, answer, host_answer}
+use Rattle.dj_model.specs.trusted.Performing.{seen, perform, native}
+use Rattle.dj_model.specs.trusted.Members.{with_literal, invoke}
+use Rattle.dj_model.specs.trusted.Effects.{effect, used_class}
+use Rattle.dj_model.specs.Effects.{pays}
+use Rattle.dj_model.specs.trusted.Initialisation.{is_initialised, mark, with_constants, constants_of, initialise}
+use Rattle.dj_model.specs.trusted.Step.{unwound, settle, step}
+use Rattle.dj_model.specs.trusted.Runs.{begin, steps, plain_run}
+use Rattle.dj_model.specs.Runs.{Run, Ends, amounts, turn, turns, metered_run}
+use Rattle.dj_model.specs.SmallRuns.{op, push, ldc, newarray, class, method, construct, entry, verify_with, a_with, costs, usual, lang_name}
 
 -- a builder of the text z, the text, and one of the units 0061 ffff
 abbrev heap : Heap Ty

@@ -11,15 +11,16 @@ use Rattle.dj_names.specs.declared.run.Element.TheVariants as elements
 use Rattle.dj_names.specs.declared.run.Raised.TheVariants as raises
 use Rattle.dj_names.specs.declared.native.NativeId.{NativeId}
 use Rattle.dj_names.specs.declared.native.NativeId.TheVariants as natives
-use Rattle.dj_names.specs.Heaps.{Instance, Array, Text, Heap}
-use Rattle.dj_names.specs.Library.{object, string, builder, lang}
-use Rattle.dj_names.specs.Tests.{units_read}
-use Rattle.dj_names.specs.UnitReading.{two_read, three_read, long_read, unit_read}
-use Rattle.dj_names.specs.Types.{class_type, base_array, array_type, sandbox_prefix}
-use Rattle.dj_model.specs.Linking.{most_classes, chain_of, interfaces_from, interfaces_above, is_subclass, is_subtype}
+use Rattle.dj_names.specs.trusted.Heaps.{Instance, Array, Text, Heap}
+use Rattle.dj_names.specs.trusted.Library.{object, string, builder, lang}
+use Rattle.dj_names.specs.trusted.Tests.{units_read}
+use Rattle.dj_names.specs.trusted.UnitReading.{two_read, three_read, long_read, unit_read}
+use Rattle.dj_names.specs.trusted.Types.{class_type, base_array, array_type}
+use Rattle.dj_names.specs.Types.{sandbox_prefix}
+use Rattle.dj_model.specs.trusted.Linking.{most_classes, chain_of, interfaces_from, interfaces_above, is_subclass, is_subtype}
 use Rattle.dj_model.specs.Libraries.{metered_program}
-use Rattle.dj_model.specs.Natives.{Answer, Returns, Raises, MakesText, KeepsText, MakesChars, SetsFields, SetsElements, Adds, Rethrows, Word, Nanos, Millis, asks, answer, host_answer, shown_class}
-use Rattle.dj_model.specs.Performing.{seen}
+use Rattle.dj_model.specs.trusted.Natives.{Answer, Returns, Raises, MakesText, KeepsText, MakesChars, SetsFields, SetsElements, Adds, Rethrows, Word, Nanos, Millis, asks, answer, host_answer, shown_class}
+use Rattle.dj_model.specs.trusted.Performing.{seen}
 
 abbrev heap : Heap Ty
 heap = record {

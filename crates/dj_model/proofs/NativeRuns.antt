@@ -4,27 +4,30 @@ use Rattle.std.specs.Int.{int_wrap}
 use Rattle.std.specs.Fmt.{digits}
 use Rattle.dj_names.specs.declared.descriptor.Ty.{Ty}
 use Rattle.dj_names.specs.declared.run.Outcome.TheVariants as outcomes
-use Rattle.dj_names.specs.Tests.{units_read}
-use Rattle.dj_names.specs.UnitReading.{two_read, three_read, long_read, unit_read}
-use Rattle.dj_names.specs.Types.{Name, class_type, array_type}
-use Rattle.dj_names.specs.Library.{object, string, builder, throwable, boolean, char, int, long}
-use Rattle.dj_model.specs.Instructions.{Instruction, AText}
-use Rattle.dj_model.specs.Opcodes.{instruction_of, simple}
-use Rattle.dj_model.specs.Program.{code_of, has_initialiser}
-use Rattle.dj_model.specs.Linking.{most_classes, chain_of, interfaces_from, interfaces_above, is_subclass, is_subtype, field_order, resolve_method, resolve_field, select, special_method, field_count, place_of, static_place}
+use Rattle.dj_names.specs.trusted.Tests.{units_read}
+use Rattle.dj_names.specs.trusted.UnitReading.{two_read, three_read, long_read, unit_read}
+use Rattle.dj_names.specs.trusted.Types.{Name, class_type, array_type}
+use Rattle.dj_names.specs.trusted.Library.{object, string, builder, throwable, boolean, char, int, long}
+use Rattle.dj_model.specs.trusted.Instructions.{Instruction, AText}
+use Rattle.dj_model.specs.trusted.Opcodes.{instruction_of, simple}
+use Rattle.dj_model.specs.trusted.Program.{code_of, has_initialiser}
+use Rattle.dj_model.specs.trusted.Linking.{most_classes, chain_of, interfaces_from, interfaces_above, is_subclass, is_subtype, field_order, resolve_method, resolve_field, select, special_method, field_count, place_of, static_place}
 use Rattle.dj_model.specs.Libraries.{metered_program, raw_program, sandbox_program}
-use Rattle.dj_model.specs.Numbers.{compute, convert}
-use Rattle.dj_model.specs.Values.{moved, on_values}
-use Rattle.dj_model.specs.Arrays.{load_element, store_element, array_length, make_array}
-use Rattle.dj_model.specs.Charging.{charge_one, charge_all}
-use Rattle.dj_model.specs.Natives.{answer, host_answer}
-use Rattle.dj_model.specs.Performing.{perform, native}
-use Rattle.dj_model.specs.Members.{with_literal, invoke}
-use Rattle.dj_model.specs.Effects.{effect, pays, used_class}
-use Rattle.dj_model.specs.Initialisation.{is_initialised, mark, with_constants, constants_of, initialise}
-use Rattle.dj_model.specs.Step.{unwound, settle, step}
-use Rattle.dj_model.specs.Runs.{Run, Ends, begin, amounts, turn, turns, metered_run, steps, plain_run}
-use Rattle.dj_model.specs.Rows.{op, push, ldc, newarray, class, method, invokeinterface, construct, entry, verify_with, a_with, costs, usual, lang_name, throws_plainly}
+use Rattle.dj_model.specs.trusted.Numbers.{compute, convert}
+use Rattle.dj_model.specs.trusted.Values.{moved, on_values}
+use Rattle.dj_model.specs.trusted.Arrays.{load_element, store_element, array_length, make_array}
+use Rattle.dj_model.specs.trusted.Charging.{charge_one}
+use Rattle.dj_model.specs.Charging.{charge_all}
+use Rattle.dj_model.specs.trusted.Natives.{answer, host_answer}
+use Rattle.dj_model.specs.trusted.Performing.{perform, native}
+use Rattle.dj_model.specs.trusted.Members.{with_literal, invoke}
+use Rattle.dj_model.specs.trusted.Effects.{effect, used_class}
+use Rattle.dj_model.specs.Effects.{pays}
+use Rattle.dj_model.specs.trusted.Initialisation.{is_initialised, mark, with_constants, constants_of, initialise}
+use Rattle.dj_model.specs.trusted.Step.{unwound, settle, step}
+use Rattle.dj_model.specs.trusted.Runs.{begin, steps, plain_run}
+use Rattle.dj_model.specs.Runs.{Run, Ends, amounts, turn, turns, metered_run}
+use Rattle.dj_model.specs.SmallRuns.{op, push, ldc, newarray, class, method, invokeinterface, construct, entry, verify_with, a_with, costs, usual, lang_name, throws_plainly}
 
 -- how the run of A's verify ends, after a hundred turns at most
 abbrev of_code : List Instruction → Run

@@ -6,20 +6,20 @@ use Rattle.std.specs.Prelude.{⊤, ◌⊎◌}
 use Rattle.std.specs.List.{AllByRecursion}
 use Rattle.dj_names.specs.declared.descriptor.Ty.{Ty}
 use Rattle.dj_names.specs.declared.run.Value.{Value}
-use Rattle.dj_names.specs.Heaps.{Object, object_size}
-use Rattle.dj_names.specs.Types.{Name, same_name}
+use Rattle.dj_names.specs.trusted.Heaps.{Object, object_size}
+use Rattle.dj_names.specs.trusted.Types.{Name, same_name}
 use Rattle.dj_edge.specs.declared.host.HostAnswer.{HostAnswer}
-use Rattle.dj_model.specs.Types.{Prefix, Declared}
-use Rattle.dj_model.specs.Instructions.{Instruction}
-use Rattle.dj_model.specs.Program.{Program, is_initialiser, code_of}
-use Rattle.dj_model.specs.Linking.{chain}
-use Rattle.dj_model.specs.State.{Terms, Frame, State, Way, Next, To, Raise, Back, Flow, Goes, Catch, Stop, Call, End, Effect, instruction_at}
-use Rattle.dj_model.specs.Arrays.{passes_limit}
-use Rattle.dj_model.specs.Effects.{effect, used_class}
-use Rattle.dj_model.specs.Initialisation.{most_frames, is_initialised, mark, mark_all, not_initialised, Initialised, Ready, Waits, Fails, then_ready, constants_of, initialiser_frames, with_frames, initialise}
-use Rattle.dj_model.specs.Step.{Answer, Went, Ended, IllFormed, handler_of, leaves_frame, at_handler, unwound, throw_new, new_exception, new_stop, stop_from, throw_stop_or, returned, settle_way, settle, with_part, frame_with, part_of, settled, prepared, done, act, step_of, step}
-use Rattle.dj_model.specs.Runs as runs
-use Rattle.dj_model.specs.Runs.{input_array, input_heap, start_state, begin}
+use Rattle.dj_model.specs.trusted.Types.{Prefix, Declared}
+use Rattle.dj_model.specs.trusted.Instructions.{Instruction}
+use Rattle.dj_model.specs.trusted.Program.{Program, is_initialiser, code_of}
+use Rattle.dj_model.specs.trusted.Linking.{chain}
+use Rattle.dj_model.specs.trusted.State.{Terms, Frame, State, Way, Next, To, Raise, Back, Flow, Goes, Catch, Stop, Call, End, Effect, instruction_at}
+use Rattle.dj_model.specs.trusted.Arrays.{passes_limit}
+use Rattle.dj_model.specs.trusted.Effects.{effect, used_class}
+use Rattle.dj_model.specs.trusted.Initialisation.{most_frames, is_initialised, mark, mark_all, not_initialised, Initialised, Ready, Waits, Fails, then_ready, constants_of, initialiser_frames, with_frames, initialise}
+use Rattle.dj_model.specs.trusted.Step.{Answer, Went, Ended, IllFormed, handler_of, leaves_frame, at_handler, unwound, throw_new, new_exception, new_stop, stop_from, throw_stop_or, returned, settle_way, settle, with_part, frame_with, part_of, settled, prepared, done, act, step_of, step}
+use Rattle.dj_model.specs.trusted.Runs as runs
+use Rattle.dj_model.specs.trusted.Runs.{input_array, input_heap, start_state, begin}
 use Rattle.dj_model.specs.Laws.{DifferFrom, AllDiffer}
 use Rattle.dj_model.proofs.Frames.{KeepsMore, all_constants_keep, marked, stays_marked, all_stay_marked}
 use Rattle.dj_model.proofs.Flows.{either_way}

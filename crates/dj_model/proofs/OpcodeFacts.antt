@@ -5,13 +5,13 @@ use Rattle.dj_names.specs.declared.descriptor.Base.TheVariants as bases
 use Rattle.dj_names.specs.declared.run.Value.TheVariants as values
 use Rattle.dj_names.specs.declared.run.Element.TheVariants as elements
 use Rattle.dj_names.specs.declared.descriptor.Desc.TheVariants as descs
-use Rattle.dj_names.specs.Types.{base_array}
-use Rattle.dj_names.specs.Library.{object, int}
+use Rattle.dj_names.specs.trusted.Types.{base_array}
+use Rattle.dj_names.specs.trusted.Library.{object, int}
 use Rattle.dj_ops.specs.declared.instruction.Instr.{Instr}
 use Rattle.dj_ops.specs.declared.instruction.Instr.TheVariants as instrs
-use Rattle.dj_model.specs.Types.{Member}
-use Rattle.dj_model.specs.Instructions.{Named, Nothing, AnInt, ALong, AText, AClass, AField, AMethod, AnInterfaceMethod, Another, Instruction, Nop, Push, PushText, Load, Store, Increment, LoadElement, StoreElement, Move, Compute, Convert, Branch, Goto, Switch, Return, GetStatic, PutStatic, GetField, PutField, Invoke, New, NewArray, ArrayLength, Throw, CheckCast, InstanceOf, Monitor, Other, Add, Subtract, Multiply, Divide, Remainder, ShiftLeft, ShiftRight, ShiftRightUnsigned, And, Or, Xor, CompareLongs, Negate, IntToLong, LongToInt, IntToByte, IntToChar, IntToShort, Pop, Pop2, Dup, DupX1, DupX2, Dup2, Dup2X1, Dup2X2, Swap, Bytes, Chars, Shorts, Ints, Longs, References, Equal, NotEqual, Less, GreaterOrEqual, Greater, LessOrEqual, WithZero, OfInts, OfReferences, OfNull, Virtual, Special, Static, Interface}
-use Rattle.dj_model.specs.Opcodes.{simple, instruction_of}
+use Rattle.dj_model.specs.trusted.Types.{Member}
+use Rattle.dj_model.specs.trusted.Instructions.{Named, Nothing, AnInt, ALong, AText, AClass, AField, AMethod, AnInterfaceMethod, Another, Instruction, Nop, Push, PushText, Load, Store, Increment, LoadElement, StoreElement, Move, Compute, Convert, Branch, Goto, Switch, Return, GetStatic, PutStatic, GetField, PutField, Invoke, New, NewArray, ArrayLength, Throw, CheckCast, InstanceOf, Monitor, Other, Add, Subtract, Multiply, Divide, Remainder, ShiftLeft, ShiftRight, ShiftRightUnsigned, And, Or, Xor, CompareLongs, Negate, IntToLong, LongToInt, IntToByte, IntToChar, IntToShort, Pop, Pop2, Dup, DupX1, DupX2, Dup2, Dup2X1, Dup2X2, Swap, Bytes, Chars, Shorts, Ints, Longs, References, Equal, NotEqual, Less, GreaterOrEqual, Greater, LessOrEqual, WithZero, OfInts, OfReferences, OfNull, Virtual, Special, Static, Interface}
+use Rattle.dj_model.specs.trusted.Opcodes.{simple, instruction_of}
 
 abbrev plainly : Instr → Instruction
 plainly i = instruction_of i Nothing

@@ -4,18 +4,19 @@ use Rattle.std.specs.Prelude.{⊤}
 use Rattle.dj_names.specs.declared.descriptor.Ty.{Ty}
 use Rattle.dj_names.specs.declared.run.Value.{Value}
 use Rattle.dj_names.specs.declared.run.Thresholds.{Thresholds}
-use Rattle.dj_names.specs.Heaps.{Object, object_size, with_new, next_number}
-use Rattle.dj_names.specs.Types.{Name}
-use Rattle.dj_model.specs.Types.{Prefix, Declared}
-use Rattle.dj_model.specs.Instructions.{Instruction}
-use Rattle.dj_model.specs.Program.{Program, code_of, is_initialiser, initialiser_of, has_initialiser}
-use Rattle.dj_model.specs.Linking.{chain}
-use Rattle.dj_model.specs.State.{Terms, Frame, State, instruction_at, Next, To, Raise, Back, Flow, Goes, Catch, Stop, Call, End, Effect}
-use Rattle.dj_model.specs.Arrays.{passes_limit}
-use Rattle.dj_model.specs.Effects.{effect, used_class}
-use Rattle.dj_model.specs.Charging.{Charged, Fine, Over, charge_all}
-use Rattle.dj_model.specs.Initialisation.{most_frames, Initialised, Ready, Waits, Fails, then_ready, constants_of, mark_all, not_initialised, initialiser_frames, with_frames, initialise, new_frame}
-use Rattle.dj_model.specs.Step.{Answer, handler_of, at_handler, unwound, throw_new, new_exception, new_stop, stop_from, throw_stop_or, returned, settle, part_of, with_part, frame_with, settled, prepared, done, act, step_of, step}
+use Rattle.dj_names.specs.trusted.Heaps.{Object, object_size, with_new, next_number}
+use Rattle.dj_names.specs.trusted.Types.{Name}
+use Rattle.dj_model.specs.trusted.Types.{Prefix, Declared}
+use Rattle.dj_model.specs.trusted.Instructions.{Instruction}
+use Rattle.dj_model.specs.trusted.Program.{Program, code_of, is_initialiser, initialiser_of, has_initialiser}
+use Rattle.dj_model.specs.trusted.Linking.{chain}
+use Rattle.dj_model.specs.trusted.State.{Terms, Frame, State, instruction_at, Next, To, Raise, Back, Flow, Goes, Catch, Stop, Call, End, Effect}
+use Rattle.dj_model.specs.trusted.Arrays.{passes_limit}
+use Rattle.dj_model.specs.trusted.Effects.{effect, used_class}
+use Rattle.dj_model.specs.trusted.Charging.{Charged, Fine, Over}
+use Rattle.dj_model.specs.Charging.{charge_all}
+use Rattle.dj_model.specs.trusted.Initialisation.{most_frames, Initialised, Ready, Waits, Fails, then_ready, constants_of, mark_all, not_initialised, initialiser_frames, with_frames, initialise, new_frame}
+use Rattle.dj_model.specs.trusted.Step.{Answer, handler_of, at_handler, unwound, throw_new, new_exception, new_stop, stop_from, throw_stop_or, returned, settle, part_of, with_part, frame_with, settled, prepared, done, act, step_of, step}
 use Rattle.dj_model.specs.Runs.{top_is_paid, amounts, paid_run, answer_run, metered_terms, turn}
 use Rattle.dj_model.specs.Laws.{AnswerClears, RunPays}
 use Rattle.dj_model.proofs.MappedNames.{either}

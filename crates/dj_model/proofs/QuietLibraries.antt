@@ -5,10 +5,12 @@ use Rattle.std.specs.List.{list_all}
 use Rattle.dj_names.specs.declared.run.Value.{Value}
 use Rattle.dj_names.specs.declared.native.NativeId.{NativeId}
 use Rattle.dj_names.specs.declared.native.NativeId.TheVariants as natives
-use Rattle.dj_names.specs.Library.{deterministic_library, sandbox_library}
-use Rattle.dj_model.specs.Program.{Program, Class, Method, Body, Native}
-use Rattle.dj_model.specs.Libraries.{library_class, is_name_before, inserted, joined, metered_program, sandbox_program}
-use Rattle.dj_model.specs.Natives.{asks}
+use Rattle.dj_names.specs.trusted.Library.{deterministic_library}
+use Rattle.dj_names.specs.Library.{sandbox_library}
+use Rattle.dj_model.specs.trusted.Program.{Program, Class, Method, Body, Native}
+use Rattle.dj_model.specs.trusted.Libraries.{library_class, is_name_before, inserted, joined}
+use Rattle.dj_model.specs.Libraries.{metered_program, sandbox_program}
+use Rattle.dj_model.specs.trusted.Natives.{asks}
 use Rattle.dj_model.specs.Standing.{AsksNothing}
 use Rattle.dj_model.proofs.Flows.{either_way}
 use Rattle.dj_model.proofs.SoundLinks.{both_parts}

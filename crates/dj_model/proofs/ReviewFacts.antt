@@ -1,4 +1,4 @@
--- Class names in texts are units, no operand names a field by the initialiser's name, and what is told as exceeded is above its threshold, by plain values.
+-- Class names in texts are units, no operand names a field by the initialiser's name, and what is reported as exceeded is above its threshold, by plain values.
 use Rattle.std.proofs.Common.{◌≡◌, true, false, pos, ℕ, List, [], ◌∷◌, ◌++◌, map, Option, Some, None, codes, refl, arith}
 use Rattle.std.specs.Fmt.{digits}
 use Rattle.std.specs.Option.{option_map}
@@ -11,22 +11,23 @@ use Rattle.dj_names.specs.declared.run.Element.TheVariants as elements
 use Rattle.dj_names.specs.declared.run.Outcome.TheVariants as outcomes
 use Rattle.dj_names.specs.declared.run.Value.TheVariants as values
 use Rattle.dj_names.specs.declared.native.NativeId.TheVariants as natives
-use Rattle.dj_names.specs.Heaps.{Object, Instance, Array, Text, Heap}
-use Rattle.dj_names.specs.Library.{int, string}
-use Rattle.dj_names.specs.Tests.{units_read}
-use Rattle.dj_names.specs.Types.{Name, class_type, array_type, in_sandbox, sandbox_prefix}
-use Rattle.dj_names.specs.UnitReading.{two_read, three_read, long_read, unit_read}
-use Rattle.dj_model.specs.Types.{Member}
-use Rattle.dj_model.specs.Instructions.{GetStatic, PutStatic}
-use Rattle.dj_model.specs.Program.{Program}
-use Rattle.dj_model.specs.Linking.{most_classes, chain_of, interfaces_from, interfaces_above, resolve_field, field_order}
+use Rattle.dj_names.specs.trusted.Heaps.{Object, Instance, Array, Text, Heap}
+use Rattle.dj_names.specs.trusted.Library.{int, string}
+use Rattle.dj_names.specs.trusted.Tests.{units_read}
+use Rattle.dj_names.specs.trusted.Types.{Name, class_type, array_type}
+use Rattle.dj_names.specs.Types.{in_sandbox, sandbox_prefix}
+use Rattle.dj_names.specs.trusted.UnitReading.{two_read, three_read, long_read, unit_read}
+use Rattle.dj_model.specs.trusted.Types.{Member}
+use Rattle.dj_model.specs.trusted.Instructions.{GetStatic, PutStatic}
+use Rattle.dj_model.specs.trusted.Program.{Program}
+use Rattle.dj_model.specs.trusted.Linking.{most_classes, chain_of, interfaces_from, interfaces_above, resolve_field, field_order}
 use Rattle.dj_model.specs.Libraries.{metered_program}
-use Rattle.dj_model.specs.State.{Metered, Account, Flow, Next, Goes, End, Effect}
-use Rattle.dj_model.specs.Charging.{charge_one, new_account}
-use Rattle.dj_model.specs.Natives.{MakesText, answer, host_answer, name_units, shown_class}
-use Rattle.dj_model.specs.Performing.{seen, perform, native}
+use Rattle.dj_model.specs.trusted.State.{Metered, Account, Flow, Next, Goes, End, Effect}
+use Rattle.dj_model.specs.trusted.Charging.{charge_one, new_account}
+use Rattle.dj_model.specs.trusted.Natives.{MakesText, answer, host_answer, name_units, shown_class}
+use Rattle.dj_model.specs.trusted.Performing.{seen, perform, native}
 use Rattle.dj_model.specs.Laws.{IsTold, IsEndTold}
-use Rattle.dj_model.specs.Rows.{class_with, field_with}
+use Rattle.dj_model.specs.SmallRuns.{class_with, field_with}
 use Rattle.dj_model.specs.Sound.{is_linked}
 
 -- ---- class names in texts
@@ -97,7 +98,7 @@ linked_by_name : map (is_linked fields_program []) (GetStatic (int_field (codes 
 unfolding metered_program is_linked resolve_field field_order most_classes chain_of interfaces_from interfaces_above
 linked_by_name = refl
 
--- ---- what is told as exceeded
+-- ---- what is reported as exceeded
 
 abbrev fours : Thresholds
 fours = record { alloc = 4; invoke = 4; jump = 4; throw = 4 }
@@ -105,18 +106,18 @@ fours = record { alloc = 4; invoke = 4; jump = 4; throw = 4 }
 abbrev told_after : ℕ → ℕ → Option Charge → Account
 told_after alloc invoke exceeded = record { costs = record { alloc = alloc; invoke = invoke; jump = 4; throw = 0 }; exceeded = exceeded }
 
--- none is above its threshold and none is told, or the one that is
+-- none is above its threshold and none is reported, or the one that is
 told_ones : IsTold fours (told_after 4 0 None) × IsTold fours (told_after 5 4 (Some charges.Alloc))
 told_ones = (
   record { alloc = omega arith; invoke = omega arith; jump = omega arith; throw = omega arith },
   (omega arith, omega arith, omega arith, omega arith),
 )
 
--- not one that is above without being told, one that is told but isn't above, another one than the one that is, nor two that are
+-- not one that is above without being reported, one that is reported but isn't above, another one than the one that is, nor two that are
 untold_ones : (IsTold fours (told_after 5 0 None) → ⊥) × (IsTold fours (told_after 4 0 (Some charges.Alloc)) → ⊥) × (IsTold fours (told_after 5 0 (Some charges.Invoke)) → ⊥)
     × (IsTold fours (told_after 5 5 (Some charges.Alloc)) → ⊥)
 untold_ones = ((λ t. omega (arith, t.alloc)), (λ t. omega (arith, t.0)), (λ t. omega (arith, t.0)), (λ t. omega (arith, t.1)))
 
--- a stop is by the one that is told
+-- a stop is by the one that is reported
 stops : IsEndTold (Some charges.Alloc) (outcomes.Stopped charges.Alloc) × (IsEndTold (Some charges.Alloc) (outcomes.Stopped charges.Jump) → ⊥) × (IsEndTold None (outcomes.Stopped charges.Alloc) → ⊥)
 stops = (refl, (λ e. absurd cc), (λ e. absurd cc))

@@ -4,25 +4,25 @@ use Rattle.dj_names.specs.declared.descriptor.Kind.{Kind}
 use Rattle.dj_names.specs.declared.descriptor.Kind.TheVariants as kinds
 use Rattle.dj_names.specs.declared.descriptor.Base.TheVariants as bases
 use Rattle.dj_names.specs.declared.descriptor.Ty.{Ty}
-use Rattle.dj_names.specs.Types.{base_type}
-use Rattle.dj_names.specs.Library.{object, int, long}
+use Rattle.dj_names.specs.trusted.Types.{base_type}
+use Rattle.dj_names.specs.trusted.Library.{object, int, long}
 use Rattle.dj_ops.specs.declared.frames.VType.{VType}
 use Rattle.dj_ops.specs.declared.frames.VType.TheVariants as types
 use Rattle.dj_ops.specs.declared.frames.Form.{Form}
 use Rattle.dj_ops.specs.declared.frames.Form.TheVariants as forms
 use Rattle.dj_ops.specs.declared.frames.Frame.{Frame}
 use Rattle.dj_ops.specs.declared.instruction.Instr.TheVariants as instrs
-use Rattle.dj_model.specs.Instructions.{Nothing, Instruction}
-use Rattle.dj_model.specs.Opcodes.{instruction_of, simple}
-use Rattle.dj_model.specs.Numbers.{is_wide}
-use Rattle.dj_model.specs.Program.{Code, Range}
-use Rattle.dj_model.specs.Values.{in_slots, moved}
-use Rattle.dj_model.specs.Kinds.{Signature, signature_of, Placed, Map, Read, Faulty, NoMap, frames_after, map_of}
-use Rattle.dj_model.specs.Shape.{after, state_before}
-use Rattle.dj_model.specs.Rows.{op, iinc, jump, class, field, method, invokeinterface, catch_all, method_desc}
+use Rattle.dj_model.specs.trusted.Instructions.{Nothing, Instruction}
+use Rattle.dj_model.specs.trusted.Opcodes.{instruction_of, simple}
+use Rattle.dj_model.specs.trusted.Numbers.{is_wide}
+use Rattle.dj_model.specs.trusted.Program.{Code, Range}
+use Rattle.dj_model.specs.trusted.Values.{in_slots, moved}
+use Rattle.dj_model.specs.trusted.Kinds.{Signature, signature_of, Placed, Map, Read, Faulty, NoMap, frames_after, map_of}
+use Rattle.dj_model.specs.trusted.Shape.{after, state_before}
+use Rattle.dj_model.specs.SmallRuns.{op, iinc, jump, class, field, method, invokeinterface, catch_all, method_desc}
 use Rattle.dj_model.proofs.Shapes.{holds_test}
 
--- the number of the first of so many instructions that doesn't hold, from this one on
+-- the number of the first of this many instructions that doesn't hold, from this one on
 abbrev first_from : Signature → Code → List Placed → ℕ → ℕ → Option ℕ
 first_from signature code placed n zero = None
 first_from signature code placed n (suc more) = if holds_test signature code placed n then first_from signature code placed (suc n) more else Some n
@@ -125,7 +125,7 @@ first_frames : of (op 42 ∷ op 176 ∷ []) (frame 0 (forms.Append (types.Intege
 unfolding after instruction_of simple state_before frames_after moved
 first_frames = refl
 
--- frames that tell no kinds, or don't fit; two slots each for two longs
+-- frames that declare no kinds, or don't fit; two slots each for two longs
 abbrev before_end : Form → Judged
 before_end form = of (op 0 ∷ op 0 ∷ op 1 ∷ op 176 ∷ []) (frame 2 form ∷ []) []
 
@@ -146,7 +146,7 @@ uninitialised : made_at 3 ∷ made_at 1 ∷ made_at 7 ∷ [] ≡ Shape ∷ Fault
 unfolding after instruction_of simple state_before frames_after moved
 uninitialised = refl
 
--- frames are told from the one before, and the first from the parameters
+-- frames start from the one before, and the first from the parameters
 abbrev two_frames : Form → Form → Judged
 two_frames a b = of (op 3 ∷ op 60 ∷ op 0 ∷ op 0 ∷ op 42 ∷ op 176 ∷ []) (frame 2 a ∷ frame 3 b ∷ []) []
 
@@ -156,7 +156,7 @@ frames_in_order : two_frames (forms.Append (types.Integer ∷ [])) (forms.Chop 2
 unfolding after instruction_of simple state_before frames_after moved
 frames_in_order = refl
 
--- operands of a frame stand as it tells them, the last on top; a long takes two slots and two operands
+-- operands of a frame stand as it declares them, the last on top; a long takes two slots and two operands
 abbrev with_operands : List VType → List Instruction → Judged
 with_operands stack instructions = of (jump 167 1 ∷ instructions) (frame 1 (forms.Full (types.Null ∷ []) stack) ∷ []) []
 

@@ -5,12 +5,13 @@ use Rattle.std.specs.List.{list_all}
 use Rattle.std.specs.Prelude.{slice_get}
 use Rattle.dj_names.specs.declared.descriptor.Kind.{Kind}
 use Rattle.dj_ops.specs.declared.frames.Frame.{Frame}
-use Rattle.dj_model.specs.Program.{Code, Range}
-use Rattle.dj_model.specs.Instructions.{Instruction, ends, targets}
-use Rattle.dj_model.specs.Numbers.{is_wide}
-use Rattle.dj_model.specs.Values.{in_slots}
-use Rattle.dj_model.specs.Kinds.{Signature, Kinds, Entries, stack_of, form_entries, fitting, Placed, Map, Read, Faulty, NoMap, with_fitting, with_frame, parameter_entries, frames_after, frames_in, map_of, placed_at}
-use Rattle.dj_model.specs.Shape.{first_kinds, after, flows_to, flows_to_frame, locals_flow_to, is_handler_frame, covers, state_before, Holds, HasShape, AllHold, IsFirstFault, IsFrameOrFault, IsNumberedFault, IsShapeFault}
+use Rattle.dj_model.specs.trusted.Program.{Code, Range}
+use Rattle.dj_model.specs.trusted.Instructions.{Instruction, ends, targets}
+use Rattle.dj_model.specs.trusted.Numbers.{is_wide}
+use Rattle.dj_model.specs.trusted.Values.{in_slots}
+use Rattle.dj_model.specs.trusted.Kinds.{Signature, Kinds, Entries, stack_of, form_entries, fitting, Placed, Map, Read, Faulty, NoMap, with_fitting, with_frame, parameter_entries, frames_after, frames_in, map_of, placed_at}
+use Rattle.dj_model.specs.trusted.Shape.{first_kinds, after, flows_to, flows_to_frame, locals_flow_to, is_handler_frame, covers, state_before, Holds, IsFirstFault, IsFrameOrFault, IsNumberedFault, IsShapeFault}
+use Rattle.dj_model.specs.Shape.{HasShape, AllHold}
 use Rattle.dj_model.proofs.MappedNames.{either}
 
 -- ---- one fault
@@ -218,7 +219,7 @@ has_map code before [] e = absurd cc
 has_map code before (f ∷ rest) e =
     frame_map code f.at (form_entries code before f.form) (λ locals. frames_after code locals rest) (λ locals. has_map code locals rest) e
 
--- so many instructions hold, or one of them is the first that doesn't
+-- this many instructions hold, or one of them is the first that doesn't
 abbrev AllOrFirst : Signature → Code → List Placed → ℕ → Type 0
 AllOrFirst signature code placed count =
     ((number : ℕ) → number < count → Holds signature code placed number)

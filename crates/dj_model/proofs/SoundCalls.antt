@@ -12,22 +12,23 @@ use Rattle.dj_names.specs.declared.run.Value.TheVariants as values
 use Rattle.dj_names.specs.declared.native.NativeId.{NativeId}
 use Rattle.dj_names.specs.declared.native.NativeId.TheVariants as natives
 use Rattle.dj_names.specs.declared.run.Raised.TheVariants as raises
-use Rattle.dj_names.specs.Descriptors.{type_kind}
-use Rattle.dj_names.specs.Values.{value_kind}
-use Rattle.dj_names.specs.Types.{Name, same_name, same_desc, class_type, parameters_of}
+use Rattle.dj_names.specs.trusted.Descriptors.{type_kind}
+use Rattle.dj_names.specs.trusted.Values.{value_kind}
+use Rattle.dj_names.specs.trusted.Types.{Name, same_name, same_desc, class_type, parameters_of}
 use Rattle.dj_edge.specs.declared.host.HostAnswer.{HostAnswer}
-use Rattle.dj_model.specs.Types.{Prefix, Member, initialiser_name, no_parameters}
-use Rattle.dj_model.specs.Instructions.{Mode, Virtual, Special, Static, Interface, Instruction, Nop, Push, PushText, Load, Store, Increment, LoadElement, StoreElement, Move, Compute, Convert, Branch, Goto, Switch, Return, GetStatic, PutStatic, GetField, PutField, Invoke, New, NewArray, ArrayLength, Throw, CheckCast, InstanceOf, Monitor, Other, calls}
-use Rattle.dj_model.specs.Program.{Program, Class, Method, Body, Abstract, Native, Runs, Code, is_static, is_initialiser}
-use Rattle.dj_model.specs.Linking.{FoundMethod, resolve_method, select, special_method, declared_of}
-use Rattle.dj_model.specs.State.{Terms, Part, Raise, Goes, Effect, goes}
-use Rattle.dj_model.specs.Natives.{Seen, Question, asks, answered, answer, host_answer}
+use Rattle.dj_model.specs.trusted.Types.{Prefix, Member, initialiser_name, no_parameters}
+use Rattle.dj_model.specs.trusted.Instructions.{Mode, Virtual, Special, Static, Interface, Instruction, Nop, Push, PushText, Load, Store, Increment, LoadElement, StoreElement, Move, Compute, Convert, Branch, Goto, Switch, Return, GetStatic, PutStatic, GetField, PutField, Invoke, New, NewArray, ArrayLength, Throw, CheckCast, InstanceOf, Monitor, Other}
+use Rattle.dj_model.specs.Instructions.{calls}
+use Rattle.dj_model.specs.trusted.Program.{Program, Class, Method, Body, Abstract, Native, Runs, Code, is_static, is_initialiser}
+use Rattle.dj_model.specs.trusted.Linking.{FoundMethod, resolve_method, select, special_method, declared_of}
+use Rattle.dj_model.specs.trusted.State.{Terms, Part, Raise, Goes, Effect, goes}
+use Rattle.dj_model.specs.trusted.Natives.{Seen, Question, asks, answered, answer, host_answer}
 use Rattle.dj_model.specs.NativeKinds.{native_signature}
-use Rattle.dj_model.specs.Performing.{is_instance, seen, class_at_number, perform, with_answer, host_asked, native_asked, native}
-use Rattle.dj_model.specs.Members.{broken, kinds_of, Arguments, with_last, taken_from, arguments_of, are_instances, run_body, run_method, received, asked_class, call_special, call_virtual, call, invoke}
-use Rattle.dj_model.specs.Effects.{effect}
-use Rattle.dj_model.specs.Kinds.{Signature, Kinds, signature_with, with_result, call_signature, with_receiver, signature_of}
-use Rattle.dj_model.specs.Shape.{is_static_mode, counts, call_kinds, gives, after}
+use Rattle.dj_model.specs.trusted.Performing.{is_instance, seen, class_at_number, perform, with_answer, host_asked, native_asked, native}
+use Rattle.dj_model.specs.trusted.Members.{broken, kinds_of, Arguments, with_last, taken_from, arguments_of, are_instances, run_body, run_method, received, asked_class, call_special, call_virtual, call, invoke}
+use Rattle.dj_model.specs.trusted.Effects.{effect}
+use Rattle.dj_model.specs.trusted.Kinds.{Signature, Kinds, signature_with, with_result, call_signature, with_receiver, signature_of}
+use Rattle.dj_model.specs.trusted.Shape.{is_static_mode, counts, call_kinds, gives, after}
 use Rattle.dj_model.specs.Sound.{is_class_of, is_method_found, is_method_linked, is_linked, IsNative, IsSoundBody, IsSound}
 use Rattle.dj_model.specs.Standing.{LocalsHave, HasKinds, with_given, IsSoundFlow, HasSoundEffect, IsUnanswered, IsStarved, AnswerKind}
 use Rattle.dj_model.proofs.MappedNames.{either}
@@ -267,7 +268,7 @@ module _ (program : Program) (prefix : Prefix) (is : IsSound program prefix) (te
       (method_sound (values.Ref r ∷ []) args rest types takes ready (select program prefix resolved (class_at_number x.heap r))
       (λ f e. let s = selected_there program prefix m.name m.desc resolved (class_at_number x.heap r) f found.0 (found.1 ∙ instance) e in (s.0, s.1 ∙ sym instance)))
 
--- ---- what a descriptor tells
+-- ---- what a descriptor says
 
 given_same : (result : Option Kind) (rest : List Kind) → given result rest ≡ with_given result rest
 given_same None rest = refl

@@ -1,4 +1,4 @@
--- Each instruction but a call has an effect in a sound program, which keeps the kinds that shape tells.
+-- Each instruction but a call has an effect in a sound program, which keeps the kinds that shape says.
 use Rattle.std.proofs.Common.{◌≡◌, ℕ, ◌+◌, ◌&&◌, Bool, true, false, not, ℤ, pos, negsuc, List, [], ◌∷◌, length, map, Option, Some, None, Result, Ok, Err, nat_eq, refl, ap, subst, ◌∙◌, if◌then◌else◌, inl, inr, IsTrue, IsFalse}
 use Rattle.std.specs.Option.{option_map}
 use Rattle.std.specs.Prelude.{⊤, slice_index}
@@ -11,21 +11,22 @@ use Rattle.dj_names.specs.declared.run.Element.{Element}
 use Rattle.dj_names.specs.declared.run.Element.TheVariants as elements
 use Rattle.dj_names.specs.declared.run.Raised.TheVariants as raises
 use Rattle.dj_names.specs.declared.run.Outcome.{Outcome}
-use Rattle.dj_names.specs.Values.{value_kind}
-use Rattle.dj_names.specs.Heaps.{Object, Heap, object_size, array_size, element_at, element_value, field_value}
-use Rattle.dj_names.specs.Types.{same_name, Name, field_kind, class_type}
-use Rattle.dj_model.specs.Types.{initialiser_name, Prefix, Member, throwable_name}
-use Rattle.dj_model.specs.Instructions.{Access, Bytes, Chars, Shorts, Ints, Longs, References, Instruction, Nop, Push, PushText, Load, Store, Increment, LoadElement, StoreElement, Move, Compute, Convert, Branch, Goto, Switch, Return, GetStatic, PutStatic, GetField, PutField, Invoke, New, NewArray, ArrayLength, Throw, CheckCast, InstanceOf, Monitor, Other, ends, calls}
-use Rattle.dj_model.specs.Program.{Program, Code}
-use Rattle.dj_model.specs.Linking.{FoundField, resolve_field, place_of, place_of_static}
-use Rattle.dj_model.specs.State.{Terms, Part, Way, Next, To, Raise, Back, Goes, Catch, Effect, goes, pushes}
-use Rattle.dj_model.specs.Values.{Values, local_at, on_values}
-use Rattle.dj_model.specs.Arrays.{OnHeap, Found, Null, NoArray, IsArray, array_at, only, reaches, access_kind, load_at, load_from, load_element, store_at, store_in, is_taken, store_element, length_of, array_length, passes_limit, make, make_elements, make_array}
-use Rattle.dj_model.specs.Performing.{is_instance, takes}
-use Rattle.dj_model.specs.Members.{broken, get_static, put_static, Holder, NullHolder, NoHolder, Holds, holder_at, get_from, put_in, get_field, put_field, Kept, push_kept, check_cast, instance_of, throw_top}
-use Rattle.dj_model.specs.Effects.{values_effect, flow_of, heap_effect, new_object, effect}
-use Rattle.dj_model.specs.Kinds.{Signature, Kinds}
-use Rattle.dj_model.specs.Shape.{is_kind, gives, get_kind, put_kind, same_result, result_list, after}
+use Rattle.dj_names.specs.trusted.Values.{value_kind}
+use Rattle.dj_names.specs.trusted.Heaps.{Object, Heap, object_size, array_size, element_at, element_value, field_value}
+use Rattle.dj_names.specs.trusted.Types.{same_name, Name, field_kind, class_type}
+use Rattle.dj_model.specs.trusted.Types.{initialiser_name, Prefix, Member, throwable_name}
+use Rattle.dj_model.specs.trusted.Instructions.{Access, Bytes, Chars, Shorts, Ints, Longs, References, Instruction, Nop, Push, PushText, Load, Store, Increment, LoadElement, StoreElement, Move, Compute, Convert, Branch, Goto, Switch, Return, GetStatic, PutStatic, GetField, PutField, Invoke, New, NewArray, ArrayLength, Throw, CheckCast, InstanceOf, Monitor, Other, ends}
+use Rattle.dj_model.specs.Instructions.{calls}
+use Rattle.dj_model.specs.trusted.Program.{Program, Code}
+use Rattle.dj_model.specs.trusted.Linking.{FoundField, resolve_field, place_of, place_of_static}
+use Rattle.dj_model.specs.trusted.State.{Terms, Part, Way, Next, To, Raise, Back, Goes, Catch, Effect, goes, pushes}
+use Rattle.dj_model.specs.trusted.Values.{Values, local_at, on_values}
+use Rattle.dj_model.specs.trusted.Arrays.{OnHeap, Found, Null, NoArray, IsArray, array_at, only, reaches, access_kind, load_at, load_from, load_element, store_at, store_in, is_taken, store_element, length_of, array_length, passes_limit, make, make_elements, make_array}
+use Rattle.dj_model.specs.trusted.Performing.{is_instance, takes}
+use Rattle.dj_model.specs.trusted.Members.{broken, get_static, put_static, Holder, NullHolder, NoHolder, Holds, holder_at, get_from, put_in, get_field, put_field, Kept, push_kept, check_cast, instance_of, throw_top}
+use Rattle.dj_model.specs.trusted.Effects.{values_effect, flow_of, heap_effect, new_object, effect}
+use Rattle.dj_model.specs.trusted.Kinds.{Signature, Kinds}
+use Rattle.dj_model.specs.trusted.Shape.{is_kind, gives, get_kind, put_kind, same_result, result_list, after}
 use Rattle.dj_model.specs.Sound.{is_class_of, is_field_found, is_field_linked, is_linked}
 use Rattle.dj_model.specs.Standing.{LocalsHave, HasKinds, Leaves, Keeps, IsSoundFlow, HasSoundEffect}
 use Rattle.dj_model.proofs.MappedNames.{either}

@@ -6,15 +6,16 @@ use Rattle.dj_names.specs.declared.descriptor.Desc.{Desc}
 use Rattle.dj_names.specs.declared.descriptor.Desc.TheVariants as descs
 use Rattle.dj_names.specs.declared.descriptor.Ty.{Ty}
 use Rattle.dj_names.specs.declared.run.Element.TheVariants as elements
-use Rattle.dj_names.specs.Types.{Name, class_type, base_array, array_type, sandbox_prefix, in_sandbox}
-use Rattle.dj_names.specs.Library.{object, string, int, long, stop_class, lang}
-use Rattle.dj_model.specs.Types.{Member}
-use Rattle.dj_model.specs.Instructions.{Instruction, AText, AClass, Nop, GetStatic, PutStatic, GetField, PutField, Invoke, New, NewArray, CheckCast, InstanceOf, Other, Nothing, Static, Virtual, Special, Interface}
-use Rattle.dj_model.specs.Program.{Program, Constant, Int, Long, Text, Abstract}
-use Rattle.dj_model.specs.Linking.{most_classes, chain_of, interfaces_from, interfaces_above, resolve_method, resolve_field, field_order}
+use Rattle.dj_names.specs.trusted.Types.{Name, class_type, base_array, array_type}
+use Rattle.dj_names.specs.Types.{sandbox_prefix, in_sandbox}
+use Rattle.dj_names.specs.trusted.Library.{object, string, int, long, stop_class, lang}
+use Rattle.dj_model.specs.trusted.Types.{Member}
+use Rattle.dj_model.specs.trusted.Instructions.{Instruction, AText, AClass, Nop, GetStatic, PutStatic, GetField, PutField, Invoke, New, NewArray, CheckCast, InstanceOf, Other, Nothing, Static, Virtual, Special, Interface}
+use Rattle.dj_model.specs.trusted.Program.{Program, Constant, Int, Long, Text, Abstract}
+use Rattle.dj_model.specs.trusted.Linking.{most_classes, chain_of, interfaces_from, interfaces_above, resolve_method, resolve_field, field_order}
 use Rattle.dj_model.specs.Libraries.{metered_program, sandbox_program}
 use Rattle.dj_model.specs.Sound.{names_rise, fields_differ, methods_differ, is_there, is_new, is_linked, is_caught, is_constant, is_sound_field, is_interface_name}
-use Rattle.dj_model.specs.Rows.{class_with, field_with, method_with}
+use Rattle.dj_model.specs.SmallRuns.{class_with, field_with, method_with}
 
 abbrev constants : List (Option Constant)
 constants = None ∷ Some (Int (pos 1)) ∷ Some (Long (pos 1)) ∷ Some (Text []) ∷ []
@@ -92,7 +93,7 @@ unlinked_methods : linked (Invoke Static (nothing_taken (codes "m")) ∷ Invoke 
 unfolding metered_program is_linked resolve_method most_classes chain_of interfaces_from interfaces_above
 unlinked_methods = refl
 
--- an array of 256 dimensions isn't made; an operand that isn't told is allowed nowhere
+-- an array of 256 dimensions isn't made; an instruction that isn't supported is linked nowhere
 linked_classes : linked (New (plain (codes "A")) ∷ New string ∷ CheckCast (plain (codes "A")) ∷ CheckCast (plain (codes "B")) ∷ InstanceOf (base_array bases.Int) ∷ InstanceOf (plain (codes "B")) ∷ Nop ∷ Other 197 Nothing ∷ Other 18 (AClass object) ∷ [])
     ≡ true ∷ false ∷ true ∷ false ∷ true ∷ false ∷ true ∷ false ∷ false ∷ []
 unfolding metered_program is_linked

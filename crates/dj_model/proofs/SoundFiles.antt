@@ -7,8 +7,8 @@ use Rattle.dj_names.specs.declared.descriptor.Kind.TheVariants as kinds
 use Rattle.dj_names.specs.declared.descriptor.Ty.{Ty}
 use Rattle.dj_names.specs.declared.run.Outcome.TheVariants as outcomes
 use Rattle.dj_names.specs.declared.run.Thresholds.{Thresholds}
-use Rattle.dj_names.specs.Types.{class_type}
-use Rattle.dj_names.specs.Library.{object, string, int, long}
+use Rattle.dj_names.specs.trusted.Types.{class_type}
+use Rattle.dj_names.specs.trusted.Library.{object, string, int, long}
 use Rattle.dj_edge.specs.declared.host.HostAnswer.{HostAnswer}
 use Rattle.dj_edge.specs.declared.host.HostAnswer.TheVariants as host
 use Rattle.dj_ops.specs.declared.instruction.Instr.TheVariants as instrs
@@ -17,29 +17,32 @@ use Rattle.dj_ops.specs.declared.frames.VType.TheVariants as types
 use Rattle.dj_ops.specs.declared.frames.Form.{Form}
 use Rattle.dj_ops.specs.declared.frames.Form.TheVariants as forms
 use Rattle.dj_ops.specs.declared.frames.Frame.{Frame}
-use Rattle.dj_model.specs.Instructions.{Instruction, Nothing, AText}
-use Rattle.dj_model.specs.Opcodes.{instruction_of, simple}
-use Rattle.dj_model.specs.Program.{Class, Method, Body, Abstract, Runs, Range, Long, code_of, has_initialiser}
-use Rattle.dj_model.specs.Linking.{most_classes, chain_of, interfaces_from, interfaces_above, is_subclass, is_subtype, field_order, resolve_method, resolve_field, select, special_method, field_count, place_of, static_place}
+use Rattle.dj_model.specs.trusted.Instructions.{Instruction, Nothing, AText}
+use Rattle.dj_model.specs.trusted.Opcodes.{instruction_of, simple}
+use Rattle.dj_model.specs.trusted.Program.{Class, Method, Body, Abstract, Runs, Range, Long, code_of, has_initialiser}
+use Rattle.dj_model.specs.trusted.Linking.{most_classes, chain_of, interfaces_from, interfaces_above, is_subclass, is_subtype, field_order, resolve_method, resolve_field, select, special_method, field_count, place_of, static_place}
 use Rattle.dj_model.specs.Libraries.{metered_program, raw_program, sandbox_program}
 use Rattle.dj_model.specs.NativeKinds.{native_signature}
-use Rattle.dj_model.specs.Numbers.{compute, convert}
-use Rattle.dj_model.specs.Values.{moved, on_values}
-use Rattle.dj_model.specs.Arrays.{load_element, store_element, array_length, make_array}
-use Rattle.dj_model.specs.Charging.{charge_one, charge_all}
-use Rattle.dj_model.specs.Natives.{answer, host_answer}
-use Rattle.dj_model.specs.Performing.{perform, native}
-use Rattle.dj_model.specs.Members.{with_literal, invoke}
-use Rattle.dj_model.specs.Effects.{effect, pays, used_class}
-use Rattle.dj_model.specs.Initialisation.{is_initialised, mark, with_constants, constants_of, initialise}
-use Rattle.dj_model.specs.Step.{unwound, settle, step}
-use Rattle.dj_model.specs.Kinds.{frames_after}
-use Rattle.dj_model.specs.Shape.{after, state_before}
+use Rattle.dj_model.specs.trusted.Numbers.{compute, convert}
+use Rattle.dj_model.specs.trusted.Values.{moved, on_values}
+use Rattle.dj_model.specs.trusted.Arrays.{load_element, store_element, array_length, make_array}
+use Rattle.dj_model.specs.trusted.Charging.{charge_one}
+use Rattle.dj_model.specs.Charging.{charge_all}
+use Rattle.dj_model.specs.trusted.Natives.{answer, host_answer}
+use Rattle.dj_model.specs.trusted.Performing.{perform, native}
+use Rattle.dj_model.specs.trusted.Members.{with_literal, invoke}
+use Rattle.dj_model.specs.trusted.Effects.{effect, used_class}
+use Rattle.dj_model.specs.Effects.{pays}
+use Rattle.dj_model.specs.trusted.Initialisation.{is_initialised, mark, with_constants, constants_of, initialise}
+use Rattle.dj_model.specs.trusted.Step.{unwound, settle, step}
+use Rattle.dj_model.specs.trusted.Kinds.{frames_after}
+use Rattle.dj_model.specs.trusted.Shape.{after, state_before}
 use Rattle.dj_model.specs.Sound.{IsSound, is_linked}
 use Rattle.dj_model.specs.Standing.{RunStands, IsEntry, Starves}
-use Rattle.dj_model.specs.State.{Terms, Uncounted}
-use Rattle.dj_model.specs.Runs.{Ends, Report, begin, amounts, turn, turns, metered_run, steps, plain_run}
-use Rattle.dj_model.specs.Rows.{op, ldc, jump, newarray, class, field, method, invokeinterface, construct, a_class, a_type, method_with, plain_constructor, class_with, field_with, catch, bytes, entry, costs, usual, lang_name}
+use Rattle.dj_model.specs.trusted.State.{Terms, Uncounted}
+use Rattle.dj_model.specs.trusted.Runs.{Report, begin, steps, plain_run}
+use Rattle.dj_model.specs.Runs.{Ends, amounts, turn, turns, metered_run}
+use Rattle.dj_model.specs.SmallRuns.{op, ldc, jump, newarray, class, field, method, invokeinterface, construct, a_class, a_type, method_with, plain_constructor, class_with, field_with, catch, bytes, entry, costs, usual, lang_name}
 use Rattle.dj_model.proofs.SoundPrograms.{sound_test, sound_from}
 use Rattle.dj_model.proofs.SoundRuns.{metered_stands, plain_stands}
 use Rattle.dj_model.proofs.QuietLibraries.{quiet_all, to_asks, metered_asks_nothing}
@@ -164,7 +167,7 @@ entry_of_asking = record {
   takes = refl;
 }
 
--- whatever the host answers, a plain run tells how it ended, or it comes to where an answer is missing
+-- whatever the host answers, a plain run reports how it ended, or it comes to where an answer is missing
 ends_or_starves : (terms : Terms) (input : List ℕ) (answers : List HostAnswer) (most : ℕ)
     → IsSome (plain_run (raw_program asking) [] terms entry input answers most) ⊎ Starves (raw_program asking) [] terms entry input answers most
 ends_or_starves terms input answers most = plain_stands (raw_program asking) [] asking_is_sound terms entry input answers most entry_of_asking

@@ -1,4 +1,4 @@
--- Frames that stand as shape tells: where an instruction leaves them, at a handler, and where they begin.
+-- Frames that have the kinds that shape says: where an instruction leaves them, at a handler, and where they begin.
 use Rattle.std.proofs.Common.{◌≡◌, ℕ, zero, suc, ◌+◌, ◌-◌, ◌<◌, ◌≤◌, ◌&&◌, ◌||◌, Bool, true, false, not, List, [], ◌∷◌, ◌++◌, length, map, replicate, Option, Some, None, nat_eq, nat_lt, nat_le, refl, sym, ap, subst, ◌∙◌, inl, inr, arith, IsTrue, Contains}
 use Rattle.std.specs.Prelude.{slice_get}
 use Rattle.std.specs.Option.{option_map}
@@ -12,18 +12,19 @@ use Rattle.dj_names.specs.declared.descriptor.Kind.TheVariants as kinds
 use Rattle.dj_names.specs.declared.descriptor.Desc.{Desc}
 use Rattle.dj_names.specs.declared.run.Value.{Value}
 use Rattle.dj_names.specs.declared.run.Value.TheVariants as values
-use Rattle.dj_names.specs.Values.{value_kind}
-use Rattle.dj_names.specs.Types.{Name}
+use Rattle.dj_names.specs.trusted.Values.{value_kind}
+use Rattle.dj_names.specs.trusted.Types.{Name}
 use Rattle.dj_ops.specs.declared.frames.Frame.{Frame as MapFrame}
-use Rattle.dj_model.specs.Types.{Prefix, Declared, no_parameters}
-use Rattle.dj_model.specs.Instructions.{Instruction, ends, targets}
-use Rattle.dj_model.specs.Program.{Program, Class, Method, Body, Abstract, Native, Runs, Code, Range, class_at, method_of, method_at, code_of, code_in, is_static, initialiser_of, body_code, has_code, runs_static, has_initialiser}
-use Rattle.dj_model.specs.State.{Frame}
-use Rattle.dj_model.specs.Numbers.{same_kind, is_wide, is_long}
-use Rattle.dj_model.specs.Values.{in_slots}
-use Rattle.dj_model.specs.Initialisation.{padded, locals_for, new_frame}
-use Rattle.dj_model.specs.Kinds.{Signature, Kinds, signature_of, depth, entry_slots, fitting, Entries, form_entries, stack_of, Placed, Map, Read, Faulty, NoMap, and_then, with_fitting, with_frame, frames_after, frames_in, parameter_entries, map_of, placed_at}
-use Rattle.dj_model.specs.Shape.{locals_flow, locals_flow_to, flows_into, flows_to, flows_to_frame, is_handler_frame, state_before, after, first_kinds, covers, Holds, AllHold, HasShape}
+use Rattle.dj_model.specs.trusted.Types.{Prefix, Declared, no_parameters}
+use Rattle.dj_model.specs.trusted.Instructions.{Instruction, ends, targets}
+use Rattle.dj_model.specs.trusted.Program.{Program, Class, Method, Body, Abstract, Native, Runs, Code, Range, class_at, method_of, method_at, code_of, code_in, is_static, initialiser_of, body_code, has_code, runs_static, has_initialiser}
+use Rattle.dj_model.specs.trusted.State.{Frame}
+use Rattle.dj_model.specs.trusted.Numbers.{same_kind, is_wide, is_long}
+use Rattle.dj_model.specs.trusted.Values.{in_slots}
+use Rattle.dj_model.specs.trusted.Initialisation.{padded, locals_for, new_frame}
+use Rattle.dj_model.specs.trusted.Kinds.{Signature, Kinds, signature_of, depth, entry_slots, fitting, Entries, form_entries, stack_of, Placed, Map, Read, Faulty, NoMap, and_then, with_fitting, with_frame, frames_after, frames_in, parameter_entries, map_of, placed_at}
+use Rattle.dj_model.specs.trusted.Shape.{locals_flow, locals_flow_to, flows_into, flows_to, flows_to_frame, is_handler_frame, state_before, after, first_kinds, covers, Holds}
+use Rattle.dj_model.specs.Shape.{AllHold, HasShape}
 use Rattle.dj_model.specs.Sound.{is_linked, IsCode, IsBody, IsSoundCode, IsSoundBody, IsSound}
 use Rattle.dj_model.specs.Standing.{LocalsHave, HasKinds, IsAmong, IsAt, IsReady}
 use Rattle.dj_model.proofs.MappedNames.{either}
@@ -210,7 +211,7 @@ held program prefix is m method code signature placed there body described map_i
 
 -- ---- where a frame stands
 
--- before an instruction with a frame stands what the frame tells
+-- before an instruction with a frame stands what the frame declares
 placed_state : (signature : Signature) (code : Code) (placed : List Placed) (number : ℕ) (told : Kinds) → placed_at placed number ≡ Some told
     → state_before signature code placed number ≡ Some told
 unfolding state_before

@@ -9,10 +9,10 @@ use Rattle.dj_names.specs.declared.descriptor.Of.TheVariants as ofs
 use Rattle.dj_names.specs.declared.descriptor.Ty.{Ty}
 use Rattle.dj_names.specs.declared.descriptor.Desc.{Desc}
 use Rattle.dj_names.specs.declared.descriptor.Desc.TheVariants as descs
-use Rattle.dj_names.specs.Types.{Name, same_name, same_base, same_of, same_type, same_result, same_desc}
-use Rattle.dj_model.specs.Types.{Prefix, Member, constructor_name}
-use Rattle.dj_model.specs.Program.{Program, Class, Method, class_at, method_in, method_of, method_at, is_named, is_static, is_private}
-use Rattle.dj_model.specs.Linking.{FoundMethod, method_or, first_method, or_else, any_method, is_plain, is_not_static, member_class, method_chain, interfaces_above, resolve_method, with_body, has_body, chain, superclasses, is_among, select, special_method, declared_of}
+use Rattle.dj_names.specs.trusted.Types.{Name, same_name, same_base, same_of, same_type, same_result, same_desc}
+use Rattle.dj_model.specs.trusted.Types.{Prefix, Member, constructor_name}
+use Rattle.dj_model.specs.trusted.Program.{Program, Class, Method, class_at, method_in, method_of, method_at, is_named, is_static, is_private}
+use Rattle.dj_model.specs.trusted.Linking.{FoundMethod, method_or, first_method, or_else, any_method, is_plain, is_not_static, member_class, method_chain, interfaces_above, resolve_method, with_body, has_body, chain, superclasses, is_among, select, special_method, declared_of}
 use Rattle.dj_model.proofs.MappedNames.{either}
 
 -- ---- tests of equality

@@ -12,19 +12,19 @@ use Rattle.dj_names.specs.declared.run.Charge.{Charge}
 use Rattle.dj_names.specs.declared.run.Charge.TheVariants as charges
 use Rattle.dj_names.specs.declared.native.NativeId.{NativeId}
 use Rattle.dj_names.specs.declared.native.NativeId.TheVariants as natives
-use Rattle.dj_names.specs.Values.{value_kind}
-use Rattle.dj_names.specs.Heaps.{Object, object_at, object_size, same_element}
-use Rattle.dj_model.specs.Types.{Prefix, is_stop}
-use Rattle.dj_model.specs.Instructions.{Instruction, ends}
-use Rattle.dj_model.specs.Program.{Program, Code}
-use Rattle.dj_model.specs.Linking.{option_list}
-use Rattle.dj_model.specs.State.{Terms, Counting, Uncounted, Metered, Accounted, Part, Flow, Goes, Catch, Stop, Call, End, Effect}
-use Rattle.dj_model.specs.Arrays.{passes_limit}
-use Rattle.dj_model.specs.Charging.{Charged, Fine, Over, charge_one}
-use Rattle.dj_model.specs.Natives.{Answer, Returns, Raises, MakesText, KeepsText, MakesChars, SetsFields, SetsElements, Adds, Rethrows, Seen, Elements, reference, number, unit_answer, unit_at, part_between, joined_text, compared_text, builder_units, unless_null, copy_within, copy_between, answer, host_answer}
+use Rattle.dj_names.specs.trusted.Values.{value_kind}
+use Rattle.dj_names.specs.trusted.Heaps.{Object, object_at, object_size, same_element}
+use Rattle.dj_model.specs.trusted.Types.{Prefix, is_stop}
+use Rattle.dj_model.specs.trusted.Instructions.{Instruction, ends}
+use Rattle.dj_model.specs.trusted.Program.{Program, Code}
+use Rattle.dj_model.specs.trusted.Linking.{option_list}
+use Rattle.dj_model.specs.trusted.State.{Terms, Counting, Uncounted, Metered, Accounted, Part, Flow, Goes, Catch, Stop, Call, End, Effect}
+use Rattle.dj_model.specs.trusted.Arrays.{passes_limit}
+use Rattle.dj_model.specs.trusted.Charging.{Charged, Fine, Over, charge_one}
+use Rattle.dj_model.specs.trusted.Natives.{Answer, Returns, Raises, MakesText, KeepsText, MakesChars, SetsFields, SetsElements, Adds, Rethrows, Seen, Elements, reference, number, unit_answer, unit_at, part_between, joined_text, compared_text, builder_units, unless_null, copy_within, copy_between, answer, host_answer}
 use Rattle.dj_model.specs.NativeKinds.{native_signature}
-use Rattle.dj_model.specs.Performing.{class_at_number, Counted, Within, Halts, ended_by, thrown_by, counted, Making, Made, NotMade, making_then, made_charged, text_object, chars_object, with_fields_in, with_elements_in, set_object, set_fields, set_elements, raises_after, returns_made, keeps_made, goes_on, perform}
-use Rattle.dj_model.specs.Kinds.{Signature, Kinds}
+use Rattle.dj_model.specs.trusted.Performing.{class_at_number, Counted, Within, Halts, ended_by, thrown_by, counted, Making, Made, NotMade, making_then, made_charged, text_object, chars_object, with_fields_in, with_elements_in, set_object, set_fields, set_elements, raises_after, returns_made, keeps_made, goes_on, perform}
+use Rattle.dj_model.specs.trusted.Kinds.{Signature, Kinds}
 use Rattle.dj_model.specs.Standing.{LocalsHave, Leaves, Keeps, with_given, IsSoundFlow, AnswerKind}
 use Rattle.dj_model.proofs.Flows.{either_way}
 

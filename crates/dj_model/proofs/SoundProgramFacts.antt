@@ -5,27 +5,28 @@ use Rattle.dj_names.specs.declared.descriptor.Kind.TheVariants as kinds
 use Rattle.dj_names.specs.declared.native.NativeId.TheVariants as natives
 use Rattle.dj_names.specs.declared.descriptor.Desc.TheVariants as descs
 use Rattle.dj_names.specs.declared.run.Thresholds.{Thresholds}
-use Rattle.dj_names.specs.Types.{Name, class_type, sandbox_prefix, in_sandbox}
+use Rattle.dj_names.specs.trusted.Types.{Name, class_type}
+use Rattle.dj_names.specs.Types.{sandbox_prefix, in_sandbox}
 use Rattle.dj_edge.specs.declared.host.HostAnswer.TheVariants as host
-use Rattle.dj_names.specs.Library.{int, stop_class}
+use Rattle.dj_names.specs.trusted.Library.{int, stop_class}
 use Rattle.dj_ops.specs.declared.frames.VType.TheVariants as types
 use Rattle.dj_ops.specs.declared.frames.Form.{Form}
 use Rattle.dj_ops.specs.declared.frames.Form.TheVariants as forms
 use Rattle.dj_ops.specs.declared.frames.Frame.{Frame}
-use Rattle.dj_model.specs.Instructions.{Instruction}
-use Rattle.dj_model.specs.Opcodes.{instruction_of, simple}
-use Rattle.dj_model.specs.Program.{Program, Class, Field, Method, Body, Abstract, Native, Runs, Code, Range, Int, Text, class_at}
-use Rattle.dj_model.specs.Linking.{most_classes, chain_of, interfaces_from, interfaces_above, field_order, resolve_method, resolve_field}
+use Rattle.dj_model.specs.trusted.Instructions.{Instruction}
+use Rattle.dj_model.specs.trusted.Opcodes.{instruction_of, simple}
+use Rattle.dj_model.specs.trusted.Program.{Program, Class, Field, Method, Body, Abstract, Native, Runs, Code, Range, Int, Text, class_at}
+use Rattle.dj_model.specs.trusted.Linking.{most_classes, chain_of, interfaces_from, interfaces_above, field_order, resolve_method, resolve_field}
 use Rattle.dj_model.specs.Libraries.{metered_program, raw_program, sandbox_program}
 use Rattle.dj_model.specs.NativeKinds.{native_signature}
-use Rattle.dj_model.specs.Values.{moved}
-use Rattle.dj_model.specs.Kinds.{frames_after}
-use Rattle.dj_model.specs.Shape.{after, state_before}
+use Rattle.dj_model.specs.trusted.Values.{moved}
+use Rattle.dj_model.specs.trusted.Kinds.{frames_after}
+use Rattle.dj_model.specs.trusted.Shape.{after, state_before}
 use Rattle.dj_model.specs.Sound.{Ends, top, below, IsCode, IsClass, IsSoundClass, IsSound, is_linked}
-use Rattle.dj_model.specs.Natives.{Word, Nanos, Millis}
+use Rattle.dj_model.specs.trusted.Natives.{Word, Nanos, Millis}
 use Rattle.dj_model.specs.Runs.{metered_run}
 use Rattle.dj_model.specs.Standing.{result_of, IsUnanswered, AsksNothing, RunStands, IsEntry}
-use Rattle.dj_model.specs.Rows.{op, jump, iinc, class, construct, method, a_class, a_type, method_with, plain_constructor, class_with, field_with, catch_all, catch, bytes, entry}
+use Rattle.dj_model.specs.SmallRuns.{op, jump, iinc, class, construct, method, a_class, a_type, method_with, plain_constructor, class_with, field_with, catch_all, catch, bytes, entry}
 use Rattle.dj_model.proofs.SoundPrograms.{sound_test, sound_from, code_test}
 use Rattle.dj_model.proofs.SoundRuns.{metered_stands}
 use Rattle.dj_model.proofs.QuietLibraries.{quiet_all, to_asks, metered_asks_nothing}

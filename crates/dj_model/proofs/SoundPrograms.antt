@@ -6,19 +6,21 @@ use Rattle.std.specs.Cmp.Lexicographic.{pointwise}
 use Rattle.std.proofs.lemmas.Bool.{cases_lt}
 use Rattle.std.proofs.lemmas.Bool.Decides.{nat_tests}
 use Rattle.dj_names.specs.declared.descriptor.Kind.{Kind}
-use Rattle.dj_names.specs.Types.{Name, class_type, sandbox_prefix}
+use Rattle.dj_names.specs.trusted.Types.{Name, class_type}
+use Rattle.dj_names.specs.Types.{sandbox_prefix}
 use Rattle.dj_ops.specs.declared.frames.Frame.{Frame}
-use Rattle.dj_model.specs.Types.{Prefix, string_name, is_stop}
-use Rattle.dj_model.specs.Instructions.{Instruction, targets}
-use Rattle.dj_model.specs.Program.{Program, Class, Method, Body, Abstract, Native, Runs, Code, Range, class_at, superclass_of, is_static, is_interface}
-use Rattle.dj_model.specs.Linking.{chain, superclasses, is_among}
+use Rattle.dj_model.specs.trusted.Types.{Prefix, string_name, is_stop}
+use Rattle.dj_model.specs.trusted.Instructions.{Instruction, targets}
+use Rattle.dj_model.specs.trusted.Program.{Program, Class, Method, Body, Abstract, Native, Runs, Code, Range, class_at, superclass_of, is_static, is_interface}
+use Rattle.dj_model.specs.trusted.Linking.{chain, superclasses, is_among}
 use Rattle.dj_model.specs.Libraries.{metered_program, raw_program, sandbox_program}
-use Rattle.dj_model.specs.Linking.{most_classes, chain_of}
+use Rattle.dj_model.specs.trusted.Linking.{most_classes, chain_of}
 use Rattle.dj_model.specs.Laws.{LibrariesAreSound}
-use Rattle.dj_model.specs.Numbers.{same_kind, is_wide}
-use Rattle.dj_model.specs.Values.{in_slots}
-use Rattle.dj_model.specs.Kinds.{Signature, signature_of, Placed, Map, Read, Faulty, NoMap, map_of}
-use Rattle.dj_model.specs.Shape.{HasShape, Holds, AllHold}
+use Rattle.dj_model.specs.trusted.Numbers.{same_kind, is_wide}
+use Rattle.dj_model.specs.trusted.Values.{in_slots}
+use Rattle.dj_model.specs.trusted.Kinds.{Signature, signature_of, Placed, Map, Read, Faulty, NoMap, map_of}
+use Rattle.dj_model.specs.trusted.Shape.{Holds}
+use Rattle.dj_model.specs.Shape.{HasShape, AllHold}
 use Rattle.dj_model.specs.NativeKinds.{native_signature}
 use Rattle.dj_model.specs.Sound.{names_rise, fields_differ, methods_differ, Ends, top as ends_top, below as ends_below, IsCode, IsBody, IsClass, is_linked, is_caught, IsSoundCode, IsSoundBody, is_sound_field, is_interface_name, is_object_or_none, IsSoundClass, IsSound}
 use Rattle.dj_model.proofs.Shapes.{holds_test, holds_from_test}
@@ -68,7 +70,7 @@ code_from code e =
       frames_within = frames_from (length code.instructions) code.frames s.1;
     }
 
--- so many instructions hold
+-- this many instructions hold
 abbrev pub hold_test : Signature → Code → List Placed → ℕ → Bool
 hold_test signature code placed zero = true
 hold_test signature code placed (suc n) = holds_test signature code placed n && hold_test signature code placed n
@@ -154,7 +156,7 @@ formed_from Abstract e = tt
 formed_from (Native id) e = tt
 formed_from (Runs code) e = code_from code e
 
--- the class is there, and so are its superclasses, at most so many levels
+-- the class is there, and so are its superclasses, at most this many levels
 abbrev pub ends_in : ℕ → Program → Option Name → Bool
 ends_in zero program class = false
 ends_in (suc n) program None = true

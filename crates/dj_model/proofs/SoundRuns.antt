@@ -1,4 +1,4 @@
--- The frames of a run of a sound program stand as shape tells, and no step or turn of it is ill-formed.
+-- The frames of a run of a sound program have the kinds that shape says, and no step or turn of it is ill-formed.
 use Rattle.std.proofs.Common.{◌≡◌, ℕ, zero, suc, ◌+◌, ◌<◌, ◌&&◌, Bool, true, false, List, [], ◌∷◌, ◌++◌, length, map, reverse, Option, Some, None, nat_le, nat_lt, refl, sym, ap, subst, ◌∙◌, if◌then◌else◌, inl, inr, arith, IsTrue, IsFalse, Contains}
 use Rattle.std.specs.Prelude.{⊤, ◌⊎◌, IsSome}
 use Rattle.std.specs.Option.{option_map}
@@ -10,24 +10,27 @@ use Rattle.dj_names.specs.declared.descriptor.Desc.{Desc}
 use Rattle.dj_names.specs.declared.run.Value.{Value}
 use Rattle.dj_names.specs.declared.run.Value.TheVariants as values
 use Rattle.dj_names.specs.declared.run.Thresholds.{Thresholds}
-use Rattle.dj_names.specs.Values.{value_kind}
-use Rattle.dj_names.specs.Heaps.{Object, object_size, with_new, next_number}
-use Rattle.dj_names.specs.Types.{Name}
+use Rattle.dj_names.specs.trusted.Values.{value_kind}
+use Rattle.dj_names.specs.trusted.Heaps.{Object, object_size, with_new, next_number}
+use Rattle.dj_names.specs.trusted.Types.{Name}
 use Rattle.dj_edge.specs.declared.host.HostAnswer.{HostAnswer}
-use Rattle.dj_model.specs.Types.{Prefix, Declared}
-use Rattle.dj_model.specs.Instructions.{Instruction, Invoke, ends, calls}
-use Rattle.dj_model.specs.Program.{Program, Code, Range, is_static, is_initialiser, initialiser_of, has_initialiser, code_of}
-use Rattle.dj_model.specs.Linking.{chain, option_list}
-use Rattle.dj_model.specs.State.{Terms, Frame, State, Part, Way, Next, To, Raise, Back, Flow, Goes, Catch, Stop, Call, End, instruction_in, instruction_at}
-use Rattle.dj_model.specs.Arrays.{passes_limit}
-use Rattle.dj_model.specs.Effects.{used_class}
-use Rattle.dj_model.specs.Charging.{Charged, Fine, Over, charge_all}
-use Rattle.dj_model.specs.Initialisation.{most_frames, Initialised, Ready, Waits, Fails, then_ready, constants_of, mark_all, not_initialised, initialiser_frames, with_frames, initialise, new_frame}
-use Rattle.dj_model.specs.Step.{Answer, Went, Ended, IllFormed, catches, handler_in, handler_of, caught, at_handler, unwound, throw_new, new_exception, new_stop, stop_from, throw_stop_or, called, returned, settle_way, settle, part_of, with_part, frame_with, prepared, done, act, step_of, step}
+use Rattle.dj_model.specs.trusted.Types.{Prefix, Declared}
+use Rattle.dj_model.specs.trusted.Instructions.{Instruction, Invoke, ends}
+use Rattle.dj_model.specs.Instructions.{calls}
+use Rattle.dj_model.specs.trusted.Program.{Program, Code, Range, is_static, is_initialiser, initialiser_of, has_initialiser, code_of}
+use Rattle.dj_model.specs.trusted.Linking.{chain, option_list}
+use Rattle.dj_model.specs.trusted.State.{Terms, Frame, State, Part, Way, Next, To, Raise, Back, Flow, Goes, Catch, Stop, Call, End, instruction_in, instruction_at}
+use Rattle.dj_model.specs.trusted.Arrays.{passes_limit}
+use Rattle.dj_model.specs.trusted.Effects.{used_class}
+use Rattle.dj_model.specs.trusted.Charging.{Charged, Fine, Over}
+use Rattle.dj_model.specs.Charging.{charge_all}
+use Rattle.dj_model.specs.trusted.Initialisation.{most_frames, Initialised, Ready, Waits, Fails, then_ready, constants_of, mark_all, not_initialised, initialiser_frames, with_frames, initialise, new_frame}
+use Rattle.dj_model.specs.trusted.Step.{Answer, Went, Ended, IllFormed, catches, handler_in, handler_of, caught, at_handler, unwound, throw_new, new_exception, new_stop, stop_from, throw_stop_or, called, returned, settle_way, settle, part_of, with_part, frame_with, prepared, done, act, step_of, step}
 use Rattle.dj_model.specs.Runs as run
-use Rattle.dj_model.specs.Runs.{input_array, input_heap, start_state, begun, begin, Run, Stuck, amounts, with_paid, top_is_paid, paid_run, pay, answer_run, metered_terms, turn, then_turn, turns, metered_run, Ran, Going, Finished, NoStep, one_more, then_steps, steps, from_start, report_of, plain_run}
-use Rattle.dj_model.specs.Kinds.{Signature, Kinds, signature_with, call_signature, with_receiver, signature_of}
-use Rattle.dj_model.specs.Shape.{after, covers}
+use Rattle.dj_model.specs.trusted.Runs.{input_array, input_heap, start_state, begun, begin, Ran, Going, Finished, NoStep, one_more, then_steps, steps, from_start, report_of, plain_run}
+use Rattle.dj_model.specs.Runs.{Run, Stuck, amounts, with_paid, top_is_paid, paid_run, pay, answer_run, metered_terms, turn, then_turn, turns, metered_run}
+use Rattle.dj_model.specs.trusted.Kinds.{Signature, Kinds, signature_with, call_signature, with_receiver, signature_of}
+use Rattle.dj_model.specs.trusted.Shape.{after, covers}
 use Rattle.dj_model.specs.Sound.{is_linked, IsSound}
 use Rattle.dj_model.specs.Standing.{LocalsHave, Keeps, with_given, CallFits, IsSoundFlow, IsStarvedAt, AsksNothing, IsAt, IsReady, result_of, IsCaller, AreCallers, AreStanding, AnswerStands, RunStands, IsEntry, Starves}
 use Rattle.dj_model.proofs.MappedNames.{either}

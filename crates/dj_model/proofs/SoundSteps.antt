@@ -2,18 +2,18 @@
 use Rattle.std.proofs.Common.{◌≡◌, ℕ, ◌+◌, List, [], ◌∷◌, length, Option, Some, None, nat_le, refl, sym, subst, inl, inr, IsTrue}
 use Rattle.std.specs.Prelude.{◌⊎◌}
 use Rattle.dj_names.specs.declared.descriptor.Ty.{Ty}
-use Rattle.dj_names.specs.Heaps.{Object, object_size, with_new, next_number}
-use Rattle.dj_model.specs.Types.{Prefix, Declared}
-use Rattle.dj_model.specs.Instructions.{Instruction}
-use Rattle.dj_model.specs.Program.{Program, Code, is_initialiser, code_of}
-use Rattle.dj_model.specs.State.{Terms, Frame, State, instruction_at, Next, To, Raise, Back, Flow, Goes, Catch, Stop, Call, End}
-use Rattle.dj_model.specs.Arrays.{passes_limit}
-use Rattle.dj_model.specs.Performing.{class_at_number}
-use Rattle.dj_model.specs.Effects.{used_class}
-use Rattle.dj_model.specs.Initialisation.{most_frames, Initialised, Ready, Waits, Fails}
-use Rattle.dj_model.specs.Step.{handler_of, at_handler, unwound, throw_new, new_exception, new_stop, stop_from, throw_stop_or, returned, settle, part_of, with_part, frame_with, prepared, done, act, step_of, step}
-use Rattle.dj_model.specs.Kinds.{Signature, Kinds}
-use Rattle.dj_model.specs.Shape.{after}
+use Rattle.dj_names.specs.trusted.Heaps.{Object, object_size, with_new, next_number}
+use Rattle.dj_model.specs.trusted.Types.{Prefix, Declared}
+use Rattle.dj_model.specs.trusted.Instructions.{Instruction}
+use Rattle.dj_model.specs.trusted.Program.{Program, Code, is_initialiser, code_of}
+use Rattle.dj_model.specs.trusted.State.{Terms, Frame, State, instruction_at, Next, To, Raise, Back, Flow, Goes, Catch, Stop, Call, End}
+use Rattle.dj_model.specs.trusted.Arrays.{passes_limit}
+use Rattle.dj_model.specs.trusted.Performing.{class_at_number}
+use Rattle.dj_model.specs.trusted.Effects.{used_class}
+use Rattle.dj_model.specs.trusted.Initialisation.{most_frames, Initialised, Ready, Waits, Fails}
+use Rattle.dj_model.specs.trusted.Step.{handler_of, at_handler, unwound, throw_new, new_exception, new_stop, stop_from, throw_stop_or, returned, settle, part_of, with_part, frame_with, prepared, done, act, step_of, step}
+use Rattle.dj_model.specs.trusted.Kinds.{Signature, Kinds}
+use Rattle.dj_model.specs.trusted.Shape.{after}
 use Rattle.dj_model.specs.Sound.{is_linked, IsSound}
 use Rattle.dj_model.specs.Standing.{HasKinds, IsStarved, IsFormed, IsStarvedAt}
 use Rattle.dj_model.proofs.Flows.{either_way}

@@ -1,4 +1,4 @@
--- Instructions on values keep the kinds that shape tells.
+-- Instructions on values keep the kinds that shape says.
 use Rattle.std.proofs.Common.{◌≡◌, ℕ, Bool, true, false, ℤ, pos, List, [], ◌∷◌, ◌++◌, length, map, set, Option, Some, None, Result, Ok, Err, nat_eq, nat_lt, nat_le, refl, sym, ap, subst, ◌∙◌, inl, inr, length-set, IsTrue, IsFalse}
 use Rattle.std.proofs.lemmas.List.{map-append}
 use Rattle.std.specs.Option.{option_map}
@@ -9,15 +9,15 @@ use Rattle.dj_names.specs.declared.descriptor.Kind.TheVariants as kinds
 use Rattle.dj_names.specs.declared.run.Value.{Value}
 use Rattle.dj_names.specs.declared.run.Value.TheVariants as values
 use Rattle.dj_names.specs.declared.run.Raised.{Raised}
-use Rattle.dj_names.specs.Values.{value_kind}
-use Rattle.dj_names.specs.Heaps.{value_number, number_value}
-use Rattle.dj_model.specs.Instructions.{Instruction, Load, Store, Increment, Move, Compute, Convert, Branch, Switch, Return, Monitor, StackOperation, Pop, Pop2, Dup, DupX1, DupX2, Dup2, Dup2X1, Dup2X2, Swap, BinaryOperation, UnaryOperation, Test, WithZero, OfInts, OfReferences, OfNull, ends, targets}
-use Rattle.dj_model.specs.Numbers.{is_wide, is_long, left_kind, right_kind, given_kind, compute, taken_kind, converted_kind, convert, holds, agrees, target_of, same_number, tested_kinds}
-use Rattle.dj_model.specs.Program.{Code}
-use Rattle.dj_model.specs.State.{Way, Next, To, Raise, Back}
-use Rattle.dj_model.specs.Values.{Values, pushed, left, local_at, last_slot, stored, load_value, store_top, increment, Cut, one_slot, on_top, two_slots, dropped, doubled, under, under_one, under_two, below, swapped, moved, with_moved, computed, compute_two, convert_one, jumps_if, branch, switch, return_top, unlock}
-use Rattle.dj_model.specs.Kinds.{Signature, Kinds, depth}
-use Rattle.dj_model.specs.Shape.{is_kind, leaving, gives, store_kind, same_result, result_list, after}
+use Rattle.dj_names.specs.trusted.Values.{value_kind}
+use Rattle.dj_names.specs.trusted.Heaps.{value_number, number_value}
+use Rattle.dj_model.specs.trusted.Instructions.{Instruction, Load, Store, Increment, Move, Compute, Convert, Branch, Switch, Return, Monitor, StackOperation, Pop, Pop2, Dup, DupX1, DupX2, Dup2, Dup2X1, Dup2X2, Swap, BinaryOperation, UnaryOperation, Test, WithZero, OfInts, OfReferences, OfNull, ends, targets}
+use Rattle.dj_model.specs.trusted.Numbers.{is_wide, is_long, left_kind, right_kind, given_kind, compute, taken_kind, converted_kind, convert, holds, agrees, target_of, same_number, tested_kinds}
+use Rattle.dj_model.specs.trusted.Program.{Code}
+use Rattle.dj_model.specs.trusted.State.{Way, Next, To, Raise, Back}
+use Rattle.dj_model.specs.trusted.Values.{Values, pushed, left, local_at, last_slot, stored, load_value, store_top, increment, Cut, one_slot, on_top, two_slots, dropped, doubled, under, under_one, under_two, below, swapped, moved, with_moved, computed, compute_two, convert_one, jumps_if, branch, switch, return_top, unlock}
+use Rattle.dj_model.specs.trusted.Kinds.{Signature, Kinds, depth}
+use Rattle.dj_model.specs.trusted.Shape.{is_kind, leaving, gives, store_kind, same_result, result_list, after}
 use Rattle.dj_model.specs.Standing.{LocalsHave, Leaves, Keeps, IsAmong}
 use Rattle.dj_model.proofs.MappedNames.{either}
 use Rattle.dj_model.proofs.Flows.{either_way}

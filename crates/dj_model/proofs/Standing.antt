@@ -1,14 +1,14 @@
--- Local variables and operands of the kinds that are told.
+-- Local variables and operands of the kinds that are known.
 use Rattle.std.proofs.Common.{◌≡◌, ℕ, zero, suc, ◌+◌, ◌-◌, Bool, true, false, List, [], ◌∷◌, length, map, set, Option, Some, None, nat_eq, nat_le, refl, sym, ap, subst, ◌∙◌, if◌then◌else◌, inl, inr, length-set}
 use Rattle.dj_names.specs.declared.descriptor.Kind.{Kind}
 use Rattle.dj_names.specs.declared.descriptor.Kind.TheVariants as kinds
 use Rattle.dj_names.specs.declared.run.Value.{Value}
-use Rattle.dj_names.specs.Values.{value_kind}
-use Rattle.dj_model.specs.Numbers.{same_kind, is_of_kind, is_wide, is_long}
-use Rattle.dj_model.specs.Program.{Code}
-use Rattle.dj_model.specs.Values.{local_at, is_some_wide, without_half, stored}
-use Rattle.dj_model.specs.Kinds.{Kinds, depth}
-use Rattle.dj_model.specs.Shape.{is_kind, taken, leaving, with_result, gives}
+use Rattle.dj_names.specs.trusted.Values.{value_kind}
+use Rattle.dj_model.specs.trusted.Numbers.{same_kind, is_of_kind, is_wide, is_long}
+use Rattle.dj_model.specs.trusted.Program.{Code}
+use Rattle.dj_model.specs.trusted.Values.{local_at, is_some_wide, without_half, stored}
+use Rattle.dj_model.specs.trusted.Kinds.{Kinds, depth}
+use Rattle.dj_model.specs.trusted.Shape.{is_kind, taken, leaving, with_result, gives}
 use Rattle.dj_model.specs.Standing.{LocalsHave}
 use Rattle.dj_model.proofs.MappedNames.{either}
 
@@ -34,7 +34,7 @@ of_kind kind v e = rw e (same_kind_self kind)
 
 -- ---- local variables
 
--- where a kind is told there is a value of it
+-- where a kind is known there is a value of it
 pub record HasLocal (vs : List (Option Value)) (slot : ℕ) (kind : Kind) : Type 0 where
   pub value : Value
   pub found : local_at vs slot ≡ Some value

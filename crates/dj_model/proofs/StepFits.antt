@@ -10,22 +10,25 @@ use Rattle.dj_names.specs.declared.run.Costs.{Costs}
 use Rattle.dj_names.specs.declared.run.Thresholds.{Thresholds}
 use Rattle.dj_names.specs.declared.run.Outcome.{Outcome}
 use Rattle.dj_names.specs.declared.run.Outcome.TheVariants as outcomes
-use Rattle.dj_names.specs.Heaps.{Object, Heap, object_size, with_new}
-use Rattle.dj_names.specs.Types.{Name}
+use Rattle.dj_names.specs.trusted.Heaps.{Object, Heap, object_size, with_new}
+use Rattle.dj_names.specs.trusted.Types.{Name}
 use Rattle.dj_edge.specs.declared.host.HostAnswer.{HostAnswer}
-use Rattle.dj_model.specs.Types.{Prefix, Declared, is_stop}
-use Rattle.dj_model.specs.Instructions.{Instruction}
-use Rattle.dj_model.specs.Program.{Program, Field, Constant, Int, Long, Text, Unfit, class_at, fields_of, is_static, is_initialiser, code_of}
-use Rattle.dj_model.specs.Linking.{chain, static_place}
-use Rattle.dj_model.specs.State.{Terms, Counting, Uncounted, Metered, Accounted, Account, Frame, State, Way, Next, To, Raise, Back, Flow, Goes, Catch, Stop, Call, End, Effect, instruction_at}
-use Rattle.dj_model.specs.Arrays.{Found, Null, NoArray, IsArray, array_at, passes_limit}
-use Rattle.dj_model.specs.Charging.{Amount, Charged, Fine, Over, charge_one, then_charge, charge_all, no_costs}
-use Rattle.dj_model.specs.Members.{Kept, with_literal}
-use Rattle.dj_model.specs.Effects.{effect, used_class}
-use Rattle.dj_model.specs.Initialisation.{most_frames, mark_all, not_initialised, Initialised, Ready, Waits, Fails, then_ready, with_text, with_constant, with_constants, constants_of, initialiser_frames, with_frames, initialise}
-use Rattle.dj_model.specs.Step.{Answer, Went, Ended, IllFormed, stopped_by, ends_with, handler_of, leaves_frame, at_handler, unwound, throw_new, new_exception, new_stop, stop_from, throw_stop_or, bytes_in, result_outcome, returned, settle_way, settle, with_part, frame_with, part_of, settled, prepared, done, act, step_of, step}
-use Rattle.dj_model.specs.Runs as runs
-use Rattle.dj_model.specs.Runs.{input_array, empty_heap, input_heap, start_state, begun, begin, amounts, Run, Stuck, Ran, paid_run, pay, top_is_paid, answer_run, metered_terms, turn, turns, then_turn, metered_run}
+use Rattle.dj_model.specs.trusted.Types.{Prefix, Declared, is_stop}
+use Rattle.dj_model.specs.trusted.Instructions.{Instruction}
+use Rattle.dj_model.specs.trusted.Program.{Program, Field, Constant, Int, Long, Text, Unfit, class_at, fields_of, is_static, is_initialiser, code_of}
+use Rattle.dj_model.specs.trusted.Linking.{chain, static_place}
+use Rattle.dj_model.specs.trusted.State.{Terms, Counting, Uncounted, Metered, Accounted, Account, Frame, State, Way, Next, To, Raise, Back, Flow, Goes, Catch, Stop, Call, End, Effect, instruction_at}
+use Rattle.dj_model.specs.trusted.Arrays.{Found, Null, NoArray, IsArray, array_at, passes_limit}
+use Rattle.dj_model.specs.trusted.Charging.{Charged, Fine, Over, charge_one, no_costs}
+use Rattle.dj_model.specs.Charging.{Amount, then_charge, charge_all}
+use Rattle.dj_model.specs.trusted.Members.{Kept, with_literal}
+use Rattle.dj_model.specs.trusted.Effects.{effect, used_class}
+use Rattle.dj_model.specs.trusted.Initialisation.{most_frames, mark_all, not_initialised, Initialised, Ready, Waits, Fails, then_ready, with_text, with_constant, with_constants, constants_of, initialiser_frames, with_frames, initialise}
+use Rattle.dj_model.specs.trusted.Step.{Answer, Went, Ended, IllFormed, stopped_by, ends_with, handler_of, leaves_frame, at_handler, unwound, throw_new, new_exception, new_stop, stop_from, throw_stop_or, bytes_in, result_outcome, returned, settle_way, settle, with_part, frame_with, part_of, settled, prepared, done, act, step_of, step}
+use Rattle.dj_model.specs.trusted.Runs as runs
+use Rattle.dj_model.specs.Runs as more_runs
+use Rattle.dj_model.specs.trusted.Runs.{input_array, empty_heap, input_heap, start_state, begun, begin, Ran}
+use Rattle.dj_model.specs.Runs.{amounts, Run, Stuck, paid_run, pay, top_is_paid, answer_run, metered_terms, turn, turns, then_turn, metered_run}
 use Rattle.dj_model.specs.Laws.{Grows, IsLess, IsPaid, AnswerGrows, IsEndWithin, RunWithin, IsToldBy, IsTold, IsEndTold, AnswerTold, IsStopOver, accounted_terms}
 use Rattle.dj_model.proofs.Flows.{either_way}
 use Rattle.dj_model.proofs.Growth.{grows_same, grows_new, grows_then}
@@ -340,14 +343,14 @@ turn_within program most s paid = either_way (RunWithin most s.account.costs) (t
     (pay_within most s (charge_all most (amounts program [] s) s.account) (all_fit most (amounts program [] s) s.account paid))
 
 later_within : (most : Thresholds) (c d : Costs) (r : Run) → IsLess c d → RunWithin most d r → RunWithin most c r
-later_within most c d (runs.Goes s) less k = (k.0, less_then c d s.account.costs less k.1)
-later_within most c d (runs.Ends outcome e) less k = (k.0, less_then c d e less k.1)
+later_within most c d (more_runs.Goes s) less k = (k.0, less_then c d s.account.costs less k.1)
+later_within most c d (more_runs.Ends outcome e) less k = (k.0, less_then c d e less k.1)
 later_within most c d Stuck less k = tt
 
 mutual_within : (most : Thresholds) (c : Costs) (more : State → Run) → ((s : State) → IsPaid most s.account → RunWithin most s.account.costs (more s)) → (r : Run) → RunWithin most c r
     → RunWithin most c (then_turn more r)
-mutual_within most c more each (runs.Goes s) k = later_within most c s.account.costs (more s) k.1 (each s k.0)
-mutual_within most c more each (runs.Ends outcome d) k = k
+mutual_within most c more each (more_runs.Goes s) k = later_within most c s.account.costs (more s) k.1 (each s k.0)
+mutual_within most c more each (more_runs.Ends outcome d) k = k
 mutual_within most c more each Stuck k = tt
 
 turns_within : (program : Program) (most : Thresholds) (n : ℕ) (s : State) → IsPaid most s.account → RunWithin most s.account.costs (turns program most n s)

@@ -8,14 +8,14 @@ use Rattle.dj_names.specs.declared.run.Value.{Value}
 use Rattle.dj_names.specs.declared.run.Value.TheVariants as values
 use Rattle.dj_names.specs.declared.run.Raised.TheVariants as raises
 use Rattle.dj_ops.specs.declared.instruction.Instr.TheVariants as instrs
-use Rattle.dj_model.specs.Instructions.{Nothing, Instruction, Increment, Load, Store}
-use Rattle.dj_model.specs.Opcodes.{simple, instruction_of}
-use Rattle.dj_model.specs.Program.{Code}
-use Rattle.dj_model.specs.State.{Way, Next, To, Raise, Back}
-use Rattle.dj_model.specs.Numbers.{compute, convert}
-use Rattle.dj_model.specs.Values.{Values, moved, on_values, pushed, left}
-use Rattle.dj_model.specs.Kinds.{Signature}
-use Rattle.dj_model.specs.Shape.{after}
+use Rattle.dj_model.specs.trusted.Instructions.{Nothing, Instruction, Increment, Load, Store}
+use Rattle.dj_model.specs.trusted.Opcodes.{simple, instruction_of}
+use Rattle.dj_model.specs.trusted.Program.{Code}
+use Rattle.dj_model.specs.trusted.State.{Way, Next, To, Raise, Back}
+use Rattle.dj_model.specs.trusted.Numbers.{compute, convert}
+use Rattle.dj_model.specs.trusted.Values.{Values, moved, on_values, pushed, left}
+use Rattle.dj_model.specs.trusted.Kinds.{Signature}
+use Rattle.dj_model.specs.trusted.Shape.{after}
 
 abbrev code : Code
 code = record { max_stack = 7; max_locals = 6; instructions = []; ranges = []; frames = Some [] }

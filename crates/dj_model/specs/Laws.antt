@@ -11,32 +11,43 @@ use Rattle.dj_names.specs.declared.run.Outcome.TheVariants as outcomes
 use Rattle.dj_names.specs.declared.run.Charge.{Charge}
 use Rattle.dj_names.specs.declared.run.Charge.TheVariants as charges
 use Rattle.dj_names.specs.declared.descriptor.Ty.{Ty}
-use Rattle.dj_names.specs.Heaps.{Object, Instance, Array, Text, Heap, object_size}
-use Rattle.dj_names.specs.Types.{Name, in_sandbox, sandbox_prefix}
-use Rattle.dj_names.specs.Library.{below_object, accounter_class, accounter_methods, stop_class}
-use Rattle.dj_model.specs.Types.{Prefix, Declared, declared_map}
-use Rattle.dj_model.specs.Instructions.{Instruction, instruction_map}
-use Rattle.dj_model.specs.Program.{Program, Class, Code, is_initialiser, code_map, program_map}
-use Rattle.dj_model.specs.Linking.{chain}
-use Rattle.dj_model.specs.Libraries.{library_class, metered_program, raw_program, sandbox_program}
-use Rattle.dj_model.specs.State.{Terms, Accounted, Frame, State, instruction_at, state_map, Part, part_map, effect_map, Account}
-use Rattle.dj_model.specs.Effects.{effect, pays, used_class}
+use Rattle.dj_names.specs.trusted.Heaps.{Object, Instance, Array, Text, Heap, object_size}
+use Rattle.dj_names.specs.trusted.Types.{Name}
+use Rattle.dj_names.specs.Types.{in_sandbox, sandbox_prefix}
+use Rattle.dj_names.specs.trusted.Library.{stop_class}
+use Rattle.dj_names.specs.Library.{below_object, accounter_class, accounter_methods}
+use Rattle.dj_model.specs.trusted.Types.{Prefix, Declared}
+use Rattle.dj_model.specs.Types.{declared_map}
+use Rattle.dj_model.specs.trusted.Instructions.{Instruction}
+use Rattle.dj_model.specs.Instructions.{instruction_map}
+use Rattle.dj_model.specs.trusted.Program.{Program, Class, Code, is_initialiser}
+use Rattle.dj_model.specs.Program.{code_map, program_map}
+use Rattle.dj_model.specs.trusted.Linking.{chain}
+use Rattle.dj_model.specs.trusted.Libraries.{library_class}
+use Rattle.dj_model.specs.Libraries.{metered_program, raw_program, sandbox_program}
+use Rattle.dj_model.specs.trusted.State.{Terms, Accounted, Frame, State, instruction_at, Part, Account}
+use Rattle.dj_model.specs.State.{state_map, part_map, effect_map}
+use Rattle.dj_model.specs.trusted.Effects.{effect, used_class}
+use Rattle.dj_model.specs.Effects.{pays}
 use Rattle.dj_model.specs.Mapping.{IsNameMap, same_names_map, AreApart, KeepsStop, answer_map, report_map}
-use Rattle.dj_model.specs.Initialisation.{most_frames, is_initialised, mark, not_initialised, initialiser_frames}
-use Rattle.dj_model.specs.Step.{Answer, Went, Ended, IllFormed, step}
-use Rattle.dj_model.specs.Charging.{Charged, Fine, Over, charge_all, no_costs}
-use Rattle.dj_model.specs.Runs.{begin, RunsTo, empty_heap, Run, Goes, Ends, Stuck, amounts, with_paid, top_is_paid, answer_run, metered_terms, turn, metered_run, plain_run}
-use Rattle.dj_model.specs.Kinds.{Signature, Kinds}
-use Rattle.dj_model.specs.Shape.{HasShape, IsShapeFault, after}
+use Rattle.dj_model.specs.trusted.Initialisation.{most_frames, is_initialised, mark, not_initialised, initialiser_frames}
+use Rattle.dj_model.specs.trusted.Step.{Answer, Went, Ended, IllFormed, step}
+use Rattle.dj_model.specs.trusted.Charging.{Charged, Fine, Over, no_costs}
+use Rattle.dj_model.specs.Charging.{charge_all}
+use Rattle.dj_model.specs.trusted.Runs.{begin, empty_heap, plain_run}
+use Rattle.dj_model.specs.Runs.{RunsTo, Run, Goes, Ends, Stuck, amounts, with_paid, top_is_paid, answer_run, metered_terms, turn, metered_run}
+use Rattle.dj_model.specs.trusted.Kinds.{Signature, Kinds}
+use Rattle.dj_model.specs.trusted.Shape.{IsShapeFault, after}
+use Rattle.dj_model.specs.Shape.{HasShape}
 use Rattle.dj_names.specs.declared.native.NativeId.{NativeId}
-use Rattle.dj_model.specs.Natives.{Seen, answer}
+use Rattle.dj_model.specs.trusted.Natives.{Seen, answer}
 use Rattle.dj_model.specs.NativeKinds.{native_signature}
 use Rattle.dj_model.specs.Sound.{is_linked, IsSound}
 use Rattle.dj_model.specs.Standing.{HasKinds, HasSoundEffect, IsStarved, AnswerKind, IsFormed, IsStarvedAt, AsksNothing, AreStanding, AnswerStands, RunStands, IsEntry, Starves}
 
 -- ---- names and code
 
--- what an instruction does, pays and uses where each class has another name, each method other code, and more classes stand in front, is what
+-- what an instruction does, pays and uses where each class has another name, each method other code, and more classes come before the others, is what
 -- it does, pays and uses, with the other names
 pub record IsMapped (f : Name → Name) (p q : Prefix) (program other : Program) : Type 0 where
   pub does : (terms : Terms) (own : Name) (i : Instruction) (x : Part)
@@ -83,7 +94,7 @@ AnswerFew (Went s) = length s.frames ≤ most_frames
 AnswerFew (Ended outcome s) = ⊤
 AnswerFew IllFormed = ⊤
 
--- never more than 1,024 frames stand above each other
+-- there are never more than 1,024 frames
 pub record HasFewFrames : Type 0 where
   pub begins : (program : Program) (prefix : Prefix) (terms : Terms) (entry : Declared) (input : List ℕ) (answers : List HostAnswer)
       → AnswerFew (begin program prefix terms entry input answers)
@@ -105,11 +116,11 @@ pub record InitialisesOnce : Type 0 where
   pub marked : (program : Program) (class : Name) (flags : List Bool) → IsTrue (is_initialised program (mark program class flags) class)
   pub stays : (program : Program) (prefix : Prefix) (terms : Terms) (class : Name) (s t : State) → step program prefix terms s ≡ Went t
       → IsTrue (is_initialised program s.initialised class) → IsTrue (is_initialised program t.initialised class)
-  -- after a step whose instruction uses a class, that one and its superclasses count as initialised, whether their initialisers stand above now or not
+  -- after a step whose instruction uses a class, that class and its superclasses count as initialised, whether frames of their initialisers were pushed or not
   pub begun : (program : Program) (prefix : Prefix) (terms : Terms) (s t : State) (top : Frame Declared) (below : List (Frame Declared)) (i : Instruction) (used : Name)
       → s.frames ≡ top ∷ below → instruction_at program top ≡ Some i → used_class program prefix i ≡ Some used → step program prefix terms s ≡ Went t
       → AllByRecursion (λ class. IsTrue (is_initialised program t.initialised class)) (chain program used)
-  -- and where any of those that weren't before has an initialiser, these stand above now, each once, and nothing else does
+  -- and where any of those that weren't initialised before has an initialiser, the frames of these are pushed, each once, and no others
   pub pushed : (program : Program) (prefix : Prefix) (terms : Terms) (s : State) (f : Frame Declared) (frames : List (Frame Declared)) (t : State) (top : Frame Declared)
       (below : List (Frame Declared)) (i : Instruction) (used : Name)
       → s.frames ≡ top ∷ below → instruction_at program top ≡ Some i → used_class program prefix i ≡ Some used
@@ -256,7 +267,8 @@ accounted_terms limit most = record { limit = limit; counting = Accounted most }
 pub record CostsStayWithin : Type 0 where
   pub turns : (program : Program) (most : Thresholds) (s : State) → IsPaid most s.account → RunWithin most s.account.costs (turn program most s)
   pub runs : (program : Program) (entry : Declared) (input : List ℕ) (most : Thresholds) (n : ℕ) → RunWithin most no_costs (metered_run program entry input most n)
-  -- a step of a run whose charges the accounter counts only adds to the sums; none passes its threshold but the one that is told as exceeded, and no other one stops the run
+  -- a step of a run whose charges the accounter counts only adds to the sums; none passes its threshold but the one that the account has as exceeded, and no other
+  -- one stops the run
   pub accounted : (program : Program) (prefix : Prefix) (limit : Option ℕ) (most : Thresholds) (s : State) → IsTold most s.account
       → AnswerTold most s.account.costs (step program prefix (accounted_terms limit most) s)
   pub accounted_begins : (program : Program) (prefix : Prefix) (limit : Option ℕ) (most : Thresholds) (entry : Declared) (input : List ℕ) (answers : List HostAnswer)
@@ -294,14 +306,14 @@ pub record PaysFirst : Type 0 where
 
 -- ---- kinds
 
--- in a sound program, an instruction whose kinds are told has an effect, and what may follow it finds the kinds that are told there; but a call of a method that asks the host may
--- find no answer
+-- in a sound program, an instruction that finds the kinds that shape says has an effect, and what may follow it finds the kinds that shape says there; but a
+-- call of a method that asks the host may find no answer
 abbrev pub KeepsKinds : Type 0
 KeepsKinds = (program : Program) (prefix : Prefix) (terms : Terms) (own : Name) (signature : Signature) (code : Code) (i : Instruction) (k left : Kinds) (x : Part)
     → IsSound program prefix → IsTrue (is_linked program prefix i) → HasKinds x.locals x.operands k → length x.locals ≡ code.max_locals → after signature code i k ≡ Some left
     → HasSoundEffect program prefix terms own signature code i k left x ⊎ IsStarved program prefix terms own i x
 
--- where the top frame of a sound program stands at an instruction that finds its kinds, there is a step, but for an answer that the host doesn't give
+-- where the top frame of a sound program is at an instruction that finds its kinds, the step is made, unless the host's answer is missing or of another kind
 abbrev pub StepsAreMade : Type 0
 StepsAreMade = (program : Program) (prefix : Prefix) (terms : Terms) (s : State) (f : Frame Declared) (below : List (Frame Declared)) (i : Instruction)
     (signature : Signature) (code : Code) (k left : Kinds)
@@ -309,8 +321,9 @@ StepsAreMade = (program : Program) (prefix : Prefix) (terms : Terms) (s : State)
     → HasKinds f.locals f.operands k → length f.locals ≡ code.max_locals → after signature code i k ≡ Some left
     → IsFormed (step program prefix terms s) ⊎ IsStarvedAt program prefix terms s
 
--- In a sound program, frames that stand as shape tells stay so, and there is each step, but for an answer that the host doesn't give; so no run is ill-formed. A program that asks
--- nothing never comes to such an answer, and files without host calls make one with the deterministic library, and with that of rewritten classes.
+-- In a sound program, frames that have the kinds that shape says keep them, and each step is made, unless the host's answer is missing or of another kind; so no
+-- run is ill-formed. A program that asks nothing never comes to such an answer, and files without host calls make one with the deterministic library, and with
+-- that of rewritten classes.
 pub record RunsStaySound : Type 0 where
   pub begins : (program : Program) (prefix : Prefix) (terms : Terms) (entry : Declared) (input : List ℕ) (answers : List HostAnswer)
       → IsSound program prefix → IsEntry program entry → AnswerStands program (begin program prefix terms entry input answers)

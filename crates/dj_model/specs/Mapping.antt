@@ -3,16 +3,18 @@ use Rattle.std.specs.Prelude.{◌≡◌, ⊤, List, [], ◌∷◌, ◌++◌, tru
 use Rattle.dj_names.specs.declared.descriptor.Ty.{Ty}
 use Rattle.dj_names.specs.declared.run.Outcome.{Outcome}
 use Rattle.dj_names.specs.declared.run.Outcome.TheVariants as outcomes
-use Rattle.dj_names.specs.Types.{Name, same_name, type_map}
-use Rattle.dj_model.specs.Program.{Class}
-use Rattle.dj_model.specs.Linking.{count_fields}
-use Rattle.dj_names.specs.Library.{stop_class}
-use Rattle.dj_model.specs.Types.{Prefix, is_stop}
-use Rattle.dj_model.specs.State.{state_map, Counting, Uncounted, Metered, Accounted}
-use Rattle.dj_model.specs.Natives.{plain_name}
-use Rattle.dj_model.specs.Initialisation.{Initialised, Ready, Waits, Fails}
-use Rattle.dj_model.specs.Step.{Answer, Went, Ended, IllFormed}
-use Rattle.dj_model.specs.Runs.{Report}
+use Rattle.dj_names.specs.trusted.Types.{Name, same_name}
+use Rattle.dj_names.specs.Types.{type_map}
+use Rattle.dj_model.specs.trusted.Program.{Class}
+use Rattle.dj_model.specs.trusted.Linking.{count_fields}
+use Rattle.dj_names.specs.trusted.Library.{stop_class}
+use Rattle.dj_model.specs.trusted.Types.{Prefix, is_stop}
+use Rattle.dj_model.specs.trusted.State.{Counting, Uncounted, Metered, Accounted}
+use Rattle.dj_model.specs.State.{state_map}
+use Rattle.dj_model.specs.trusted.Natives.{plain_name}
+use Rattle.dj_model.specs.trusted.Initialisation.{Initialised, Ready, Waits, Fails}
+use Rattle.dj_model.specs.trusted.Step.{Answer, Went, Ended, IllFormed}
+use Rattle.dj_model.specs.trusted.Runs.{Report}
 
 -- different names have different images; those of the library's classes get another prefix; and names without their prefix are the same
 pub record IsNameMap (f : Name → Name) (p q : Prefix) : Type 0 where

@@ -4,7 +4,7 @@ use Rattle.dj_names.specs.declared.descriptor.Kind.{Kind}
 use Rattle.dj_names.specs.declared.descriptor.Kind.TheVariants as kinds
 use Rattle.dj_names.specs.declared.native.NativeId.{NativeId}
 use Rattle.dj_names.specs.declared.native.NativeId.TheVariants as natives
-use Rattle.dj_model.specs.Kinds.{Signature}
+use Rattle.dj_model.specs.trusted.Kinds.{Signature}
 
 abbrev pub takes_and_gives : List Kind → Option Kind → Signature
 takes_and_gives parameters result = record { parameters = parameters; result = result }

@@ -7,17 +7,18 @@ use Rattle.dj_names.specs.declared.descriptor.Of.{Of}
 use Rattle.dj_names.specs.declared.descriptor.Of.TheVariants as ofs
 use Rattle.dj_names.specs.declared.descriptor.Ty.{Ty}
 use Rattle.dj_names.specs.declared.native.NativeId.{NativeId}
-use Rattle.dj_names.specs.Types.{Name, same_name, class_type, field_kind}
+use Rattle.dj_names.specs.trusted.Types.{Name, same_name, class_type, field_kind}
 use Rattle.dj_ops.specs.declared.frames.Frame.{Frame}
-use Rattle.dj_model.specs.Types.{Member, Prefix, object_name, string_name, initialiser_name, is_stop}
-use Rattle.dj_model.specs.Instructions.{Named, AClass, Instruction, GetStatic, PutStatic, GetField, PutField, Invoke, New, NewArray, CheckCast, InstanceOf, Other, targets}
-use Rattle.dj_model.specs.Program.{Program, Class, Method, Field, Constant, Int, Long, Text, Body, Abstract, Native, Runs, Code, Range, class_at, is_named, is_static, is_interface, flags_of}
-use Rattle.dj_model.specs.Linking.{chain, superclasses, is_among, member_class, resolve_field, resolve_method, FoundField, FoundMethod}
-use Rattle.dj_model.specs.Libraries.{is_name_before}
-use Rattle.dj_model.specs.Kinds.{Signature, signature_of}
+use Rattle.dj_model.specs.trusted.Types.{Member, Prefix, object_name, string_name, initialiser_name, is_stop}
+use Rattle.dj_model.specs.trusted.Instructions.{Named, AClass, Instruction, GetStatic, PutStatic, GetField, PutField, Invoke, New, NewArray, CheckCast, InstanceOf, Other, targets}
+use Rattle.dj_model.specs.trusted.Program.{Program, Class, Method, Field, Constant, Int, Long, Text, Body, Abstract, Native, Runs, Code, Range, class_at, is_named, is_static, is_interface, flags_of}
+use Rattle.dj_model.specs.trusted.Linking.{chain, superclasses, is_among, member_class, resolve_field, resolve_method, FoundField, FoundMethod}
+use Rattle.dj_model.specs.trusted.Libraries.{is_name_before}
+use Rattle.dj_model.specs.trusted.Kinds.{Signature, signature_of}
 use Rattle.dj_model.specs.NativeKinds.{native_signature}
-use Rattle.dj_model.specs.Numbers.{agrees}
-use Rattle.dj_model.specs.Shape.{HasShape, is_static_mode}
+use Rattle.dj_model.specs.trusted.Numbers.{agrees}
+use Rattle.dj_model.specs.trusted.Shape.{is_static_mode}
+use Rattle.dj_model.specs.Shape.{HasShape}
 
 -- ---- well-formed programs
 
@@ -98,7 +99,7 @@ abbrev pub is_new : Program → Prefix → Ty → Bool
 is_new program prefix ty =
     is_class_of program ty && nat_eq ty.dims 0 && not (same_name (member_class prefix ty) (string_name prefix)) && not (is_stop prefix ty)
 
--- each operand names what the instruction asks for; one that isn't run is allowed nowhere
+-- each operand names what the instruction requires; an unsupported instruction is allowed nowhere
 unfoldable pub is_linked : Program → Prefix → Instruction → Bool
 is_linked program prefix (GetStatic m) = is_field_linked program prefix true m
 is_linked program prefix (PutStatic m) = is_field_linked program prefix true m

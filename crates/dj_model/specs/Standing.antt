@@ -1,26 +1,28 @@
--- Values of the kinds that code's shape tells, and effects that keep them.
+-- Values of the kinds that shape says, and effects that keep them.
 use Rattle.std.specs.Prelude.{◌≡◌, ℕ, ◌<◌, false, List, [], ◌∷◌, length, map, Option, Some, None, IsTrue, IsFalse, ⊤, ◌⊎◌, Contains, slice_get}
 use Rattle.std.specs.Option.{option_map}
 use Rattle.dj_names.specs.declared.descriptor.Kind.{Kind}
 use Rattle.dj_names.specs.declared.descriptor.Kind.TheVariants as kinds
 use Rattle.dj_names.specs.declared.run.Value.{Value}
-use Rattle.dj_names.specs.Values.{value_kind}
-use Rattle.dj_names.specs.Types.{Name}
+use Rattle.dj_names.specs.trusted.Values.{value_kind}
+use Rattle.dj_names.specs.trusted.Types.{Name}
 use Rattle.dj_names.specs.declared.native.NativeId.{NativeId}
 use Rattle.dj_edge.specs.declared.host.HostAnswer.{HostAnswer}
-use Rattle.dj_model.specs.Types.{Prefix, Declared}
-use Rattle.dj_model.specs.Natives.{Question, asks, answered, Answer, Returns, Raises, MakesText, KeepsText, MakesChars, SetsFields, SetsElements, Adds, Rethrows}
-use Rattle.dj_model.specs.Performing.{native}
-use Rattle.dj_model.specs.Program.{Program, Class, Method, Native, Runs, Code, method_at, is_static, is_initialiser}
-use Rattle.dj_model.specs.Instructions.{Instruction, ends, targets, calls}
-use Rattle.dj_model.specs.State.{Terms, Frame, State, instruction_at, Part, Next, To, Raise, Back, Flow, Goes, Catch, Stop, Call, End, Effect}
-use Rattle.dj_model.specs.Effects.{effect, used_class}
-use Rattle.dj_model.specs.Initialisation.{Ready}
-use Rattle.dj_model.specs.Step.{Answer as StepAnswer, Went, Ended, IllFormed, part_of, prepared}
+use Rattle.dj_model.specs.trusted.Types.{Prefix, Declared}
+use Rattle.dj_model.specs.trusted.Natives.{Question, asks, answered, Answer, Returns, Raises, MakesText, KeepsText, MakesChars, SetsFields, SetsElements, Adds, Rethrows}
+use Rattle.dj_model.specs.trusted.Performing.{native}
+use Rattle.dj_model.specs.trusted.Program.{Program, Class, Method, Native, Runs, Code, method_at, is_static, is_initialiser}
+use Rattle.dj_model.specs.trusted.Instructions.{Instruction, ends, targets}
+use Rattle.dj_model.specs.Instructions.{calls}
+use Rattle.dj_model.specs.trusted.State.{Terms, Frame, State, instruction_at, Part, Next, To, Raise, Back, Flow, Goes, Catch, Stop, Call, End, Effect}
+use Rattle.dj_model.specs.trusted.Effects.{effect, used_class}
+use Rattle.dj_model.specs.trusted.Initialisation.{Ready}
+use Rattle.dj_model.specs.trusted.Step.{Answer as StepAnswer, Went, Ended, IllFormed, part_of, prepared}
 use Rattle.dj_model.specs.Runs as run
-use Rattle.dj_model.specs.Runs.{Run, begin, Going, from_start, steps}
-use Rattle.dj_model.specs.Kinds.{Signature, Kinds, call_signature, signature_of, Placed, Read, map_of}
-use Rattle.dj_model.specs.Shape.{after, state_before}
+use Rattle.dj_model.specs.trusted.Runs.{begin, Going, from_start, steps}
+use Rattle.dj_model.specs.Runs.{Run}
+use Rattle.dj_model.specs.trusted.Kinds.{Signature, Kinds, call_signature, signature_of, Placed, Read, map_of}
+use Rattle.dj_model.specs.trusted.Shape.{after, state_before}
 
 -- as many local variables, and each that has a kind has a value of it
 abbrev pub LocalsHave : List (Option Value) → List (Option Kind) → Type 0
@@ -143,9 +145,9 @@ abbrev pub AsksNothing : Program → Type 0
 AsksNothing program = (class : Class) (method : Method) (id : NativeId) → Contains program class → Contains class.methods method → method.body ≡ Native id
     → (arguments : List Value) → asks id arguments ≡ None
 
--- ---- frames that stand as shape tells
+-- ---- frames that have the kinds that shape says
 
--- the frame is at an instruction of a method with code, and its local variables are of the kinds that stand before it
+-- the frame is at an instruction of a method with code, and its local variables are of the kinds that come before it
 pub record IsAt (program : Program) (f : Frame Declared) : Type 0 where
   pub method : Method
   pub there : method_at program f.method ≡ Some method
@@ -167,7 +169,7 @@ pub record IsReady (program : Program) (f : Frame Declared) : Type 0 where
   pub at : IsAt program f
   pub operands : map value_kind f.operands ≡ at.before.stack
 
--- the instruction is a call under way: with a result of this kind, where there is one, stands what shape tells after it
+-- the instruction is a call under way: once a result of this kind is pushed, where there is one, the kinds are those that shape says after it
 pub record IsWaiting (program : Program) (result : Option Kind) (f : Frame Declared) : Type 0 where
   pub at : IsAt program f
   pub calls : IsTrue (calls at.instruction)
@@ -215,7 +217,7 @@ pub record IsEntry (program : Program) (entry : Declared) : Type 0 where
   pub described : signature_of (is_static method.flags) method.desc ≡ Some signature
   pub takes : signature.parameters ≡ kinds.Ref ∷ []
 
--- a plain run comes within so many steps to one at which the host's answer is missing or of another kind
+-- a plain run comes within this many steps to one at which the host's answer is missing or of another kind
 pub record Starves (program : Program) (prefix : Prefix) (terms : Terms) (entry : Declared) (input : List ℕ) (answers : List HostAnswer) (most : ℕ) : Type 0 where
   pub count : ℕ
   pub within : count < most

@@ -1,12 +1,12 @@
 ghost use Rattle.dj_model.specs.Laws.{CommutesWithNames, ReadsNoCode, StepCommutesWithNames, RunsCommuteWithNames, SandboxHasNames, HasFewFrames, InitialisesOnce, HasOneEnd, IsJudged, HeapsGrow, CostsStayWithin, PaysFirst, KeepsKinds, StepsAreMade, RunsStaySound, LibrariesAreSound, AnswersHaveKinds};
-ghost use Rattle.dj_model.specs.Rows.{WorkedRuns};
+ghost use Rattle.dj_model.specs.SmallRuns.{WorkedRuns};
 
-/// What an instruction does, pays and uses commutes with a map of class names, whatever the code of methods and whatever classes stand in front.
+/// What an instruction does, pays and uses commutes with a map of class names, whatever the code of methods is and whatever classes come before the others.
 pub fn effect_commutes_with_names()
     ensures { CommutesWithNames }
 {}
 
-/// What an instruction does, pays and uses depends on no code.
+/// What an instruction does, pays and uses doesn't depend on the code of methods.
 pub fn effect_reads_no_code()
     ensures { ReadsNoCode }
 {}
@@ -26,7 +26,7 @@ pub fn sandbox_has_names()
     ensures { SandboxHasNames }
 {}
 
-/// Never more than 1,024 frames stand above each other.
+/// There are never more than 1,024 frames.
 pub fn few_frames()
     ensures { HasFewFrames }
 {}
@@ -36,7 +36,7 @@ pub fn initialised_once()
     ensures { InitialisesOnce }
 {}
 
-/// A metered run ends in one way, at one cost.
+/// A metered run ends in one way, at one sum of costs.
 pub fn one_end()
     ensures { HasOneEnd }
 {}
@@ -46,12 +46,12 @@ pub fn heaps_grow()
     ensures { HeapsGrow }
 {}
 
-/// The sums of a metered run, and those that the accounter counts, only grow, and none passes its threshold but the one by which the run is stopped.
+/// The sums of a metered run, and those that the accounter counts, only grow, and no sum passes its threshold but the one by which the run is stopped.
 pub fn costs_stay_within()
     ensures { CostsStayWithin }
 {}
 
-/// A turn adds the charges of the next instruction, or does it where they were added; each instruction is paid anew.
+/// A turn adds the charges of the next instruction or, where they were added, does it; each instruction is paid each time.
 pub fn pays_first()
     ensures { PaysFirst }
 {}
@@ -61,17 +61,17 @@ pub fn shape_is_judged()
     ensures { IsJudged }
 {}
 
-/// In a sound program, what may follow an instruction finds the kinds that are told there.
+/// In a sound program, what may follow an instruction finds the kinds that shape says.
 pub fn keeps_kinds()
     ensures { KeepsKinds }
 {}
 
-/// A step of a sound program is made where kinds are as they are told, but for an answer that the host doesn't give.
+/// A step of a sound program is made where kinds are as shape says, unless the host's answer is missing or of another kind.
 pub fn steps_are_made()
     ensures { StepsAreMade }
 {}
 
-/// The frames of a run of a sound program stand as shape tells, and no step or turn of it is ill-formed, but for an answer that the host doesn't give.
+/// The frames of a run of a sound program have the kinds that shape says, and no step or turn of it is ill-formed, unless an answer of the host is missing or of another kind.
 pub fn runs_stay_sound()
     ensures { RunsStaySound }
 {}
@@ -86,7 +86,7 @@ pub fn answers_have_kinds()
     ensures { AnswersHaveKinds }
 {}
 
-/// The worked runs end as they are told.
+/// The worked runs end as they should.
 pub fn worked_runs()
     ensures { WorkedRuns }
 {}

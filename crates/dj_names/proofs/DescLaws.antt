@@ -5,15 +5,17 @@ use Rattle.std.proofs.lemmas.Bool.{leb-true, le-leb, lt-leb, eqb-true, eqb-false
 use Rattle.std.proofs.lemmas.List.{append-nil, length-append}
 use Rattle.std.proofs.lemmas.List.Sums.{sum_by-cons}
 use Rattle.std.specs.List.{flat_map, AllByRecursion}
-use Rattle.dj_bytes.specs.Options.{◌>>=◌, Fails, Gives}
+use Rattle.dj_bytes.specs.trusted.Options.{◌>>=◌}
+use Rattle.dj_bytes.specs.Options.{Fails, Gives}
 use Rattle.dj_bytes.proofs.Options.{bind_some, some_is, chosen, went_on}
 use Rattle.dj_names.specs.declared.descriptor.Ty.{Ty}
 use Rattle.dj_names.specs.declared.descriptor.Desc.{Desc}
 use Rattle.dj_names.specs.declared.descriptor.Desc.TheVariants as descs
 use Rattle.dj_names.specs.declared.read.DescError.{DescError}
 use Rattle.dj_names.specs.declared.read.DescError.TheVariants as errors
-use Rattle.dj_names.specs.Descriptors.{type_text, return_text, desc_text, type_slots, slots_of, IsType, Describes, IsFieldDescriptor, IsMethodDescriptor, IsArrayDescriptor}
-use Rattle.dj_names.specs.DescReading.{type_read, params_read, ended, field_read, return_read, method_read, opens, desc_read, is_memory}
+use Rattle.dj_names.specs.trusted.Descriptors.{type_text, return_text, desc_text, type_slots, slots_of, IsType, Describes, IsFieldDescriptor, IsMethodDescriptor, IsArrayDescriptor}
+use Rattle.dj_names.specs.trusted.DescReading.{type_read, params_read, ended, field_read, return_read, method_read, opens, desc_read}
+use Rattle.dj_names.specs.DescReading.{is_memory}
 use Rattle.dj_names.proofs.TypeLaws.{type_takes, type_again, type_begins}
 
 -- ---- parameters

@@ -1,4 +1,4 @@
--- What the definitions of specs/Values say of each value, element and exception, written out from JVMS 2.6, 2.11.1 and 6.5.
+-- What the definitions of specs/trusted/Values say of each value, element and exception, written out from JVMS 2.6, 2.11.1 and 6.5.
 use Rattle.std.specs.Prelude.{◌≡◌, ℕ, ℤ, List, [], ◌∷◌, map, codes}
 use Rattle.std.proofs.Common.{refl}
 use Rattle.dj_names.specs.declared.run.Value.TheVariants as values
@@ -6,7 +6,8 @@ use Rattle.dj_names.specs.declared.run.Element.{Element}
 use Rattle.dj_names.specs.declared.run.Element.TheVariants as elements
 use Rattle.dj_names.specs.declared.run.Raised.TheVariants as raises
 use Rattle.dj_names.specs.declared.descriptor.Kind.TheVariants as kinds
-use Rattle.dj_names.specs.Values.{value_kind, element_kind, element_size, raised_class}
+use Rattle.dj_names.specs.trusted.Values.{value_kind, element_size, raised_class}
+use Rattle.dj_names.specs.Values.{element_kind}
 
 value_kinds : (z : ℤ) (r : ℕ) → map value_kind (values.Int z ∷ values.Long z ∷ values.Ref r ∷ []) ≡ kinds.Int ∷ kinds.Long ∷ kinds.Ref ∷ []
 value_kinds z r = refl

@@ -5,3 +5,4 @@ pub mod DescLaws
 pub mod TestLaws
 mod Facts
 mod TextFacts
+mod BaseFacts

@@ -3,8 +3,8 @@ use Rattle.std.proofs.Common.{◌≡◌, ◌≢◌, ℕ, Bool, true, false, cond
 use Rattle.std.proofs.lemmas.Bool.{cases_Bool, eqb-true, eqb-false, ne_eqb, or_parts, or_from}
 use Rattle.std.proofs.lemmas.List.{append-nil}
 use Rattle.std.specs.List.{AllByRecursion, join_with_byte}
-use Rattle.dj_names.specs.Names.{IsNameByte, IsUnqualifiedName, IsClassName}
-use Rattle.dj_names.specs.NameReading.{is_stop, is_refused, reads_class_name}
+use Rattle.dj_names.specs.trusted.Names.{IsNameByte, IsUnqualifiedName, IsClassName}
+use Rattle.dj_names.specs.trusted.NameReading.{is_stop, is_refused, reads_class_name}
 
 -- parts of which the first is unqualified where a part begins
 record HasParts (fresh : Bool) (text : List ℕ) : Type 0 where

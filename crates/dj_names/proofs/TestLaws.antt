@@ -7,16 +7,17 @@ use Rattle.std.proofs.lemmas.Bool.{leb-true, le-leb, eqb-false, ne_eqb, not-true
 use Rattle.std.proofs.lemmas.Bool.Decides.{Decides-and, Decides-or}
 use Rattle.std.proofs.lemmas.List.{length-append}
 use Rattle.std.proofs.lemmas.Slice.Eq.{bytes_eq-Decides}
-use Rattle.dj_bytes.specs.Options.{◌>>=◌}
+use Rattle.dj_bytes.specs.trusted.Options.{◌>>=◌}
 use Rattle.dj_bytes.proofs.Options.{bind_some, some_is}
 use Rattle.dj_names.specs.declared.descriptor.Ty.{Ty}
-use Rattle.dj_names.specs.Names.{IsNameByte, IsUnqualifiedName, IsMethodName, IsClassName, HasNoAngle}
-use Rattle.dj_names.specs.ModifiedUtf8.{unit_text, units_text, Spells, IsModifiedUtf8}
-use Rattle.dj_names.specs.Descriptors.{IsFieldDescriptor, IsMethodDescriptor, IsArrayDescriptor}
-use Rattle.dj_names.specs.UnitReading.{unit_read}
-use Rattle.dj_names.specs.NameReading.{is_stop}
-use Rattle.dj_names.specs.DescReading.{field_read}
-use Rattle.dj_names.specs.Tests.{name_byte_test, no_angle_test, unqualified_name_test, method_name_test, class_name_test, units_read, modified_utf8_test, field_descriptor_test, method_descriptor_test, array_test, array_descriptor_test}
+use Rattle.dj_names.specs.trusted.Names.{IsNameByte, IsUnqualifiedName, IsMethodName, IsClassName, HasNoAngle}
+use Rattle.dj_names.specs.trusted.ModifiedUtf8.{unit_text, units_text, SpellsUnits, IsModifiedUtf8}
+use Rattle.dj_names.specs.trusted.Descriptors.{IsFieldDescriptor, IsMethodDescriptor, IsArrayDescriptor}
+use Rattle.dj_names.specs.trusted.UnitReading.{unit_read}
+use Rattle.dj_names.specs.trusted.NameReading.{is_stop}
+use Rattle.dj_names.specs.trusted.DescReading.{field_read}
+use Rattle.dj_names.specs.trusted.Tests.{units_read}
+use Rattle.dj_names.specs.Tests.{name_byte_test, no_angle_test, unqualified_name_test, method_name_test, class_name_test, modified_utf8_test, field_descriptor_test, method_descriptor_test, array_test, array_descriptor_test}
 use Rattle.dj_names.proofs.UnitLaws.{unit_takes, unit_again, unit_some}
 use Rattle.dj_names.proofs.NameLaws.{is_name_byte, is_no_stop, class_name_read, reads_class}
 use Rattle.dj_names.proofs.DescLaws.{some_there, field_takes, field_again, field_from_test, test_from_field, method_from_test, test_from_method}
@@ -65,17 +66,17 @@ class_name_test-decides text = (class_name_read text, reads_class text)
 
 -- ---- modified UTF-8
 
-units_take : (n : ℕ) (bytes units : List ℕ) → units_read n bytes ≡ Some units → Spells bytes units
+units_take : (n : ℕ) (bytes units : List ℕ) → units_read n bytes ≡ Some units → SpellsUnits bytes units
 unfolding units_read
-units_take zero [] units e = subst (λ (us : List ℕ). Spells [] us) (some_is [] units e) (record { text_is = refl; units_fit = tt })
+units_take zero [] units e = subst (λ (us : List ℕ). SpellsUnits [] us) (some_is [] units e) (record { text_is = refl; units_fit = tt })
 units_take zero (b ∷ more) units e = absurd (cc)
-units_take (suc n) [] units e = subst (λ (us : List ℕ). Spells [] us) (some_is [] units e) (record { text_is = refl; units_fit = tt })
+units_take (suc n) [] units e = subst (λ (us : List ℕ). SpellsUnits [] us) (some_is [] units e) (record { text_is = refl; units_fit = tt })
 units_take (suc n) (b ∷ more) units e =
     let a = bind_some (unit_read (b ∷ more)) (λ x. units_read n x.1 >>= λ us. Some (x.0 ∷ us)) units e in
     let others = bind_some (units_read n a.0.1) (λ us. Some (a.0.0 ∷ us)) units a.2 in
     let t = unit_takes (b ∷ more) a.0 a.1 in
     let r = units_take n a.0.1 others.0 others.1 in
-    subst (λ (us : List ℕ). Spells (b ∷ more) us) (some_is (a.0.0 ∷ others.0) units others.2) (record { text_is = t.0 ∙ ap (λ (x : List ℕ). unit_text a.0.0 ++ x) r.text_is; units_fit = (t.1, r.units_fit) })
+    subst (λ (us : List ℕ). SpellsUnits (b ∷ more) us) (some_is (a.0.0 ∷ others.0) units others.2) (record { text_is = t.0 ∙ ap (λ (x : List ℕ). unit_text a.0.0 ++ x) r.text_is; units_fit = (t.1, r.units_fit) })
 
 units_step : (n : ℕ) (bytes : List ℕ) (u : ℕ) (rest : List ℕ) → unit_read bytes ≡ Some (u, rest) → units_read (suc n) bytes ≡ (units_read n rest >>= λ us. Some (u ∷ us))
 unfolding unit_read units_read

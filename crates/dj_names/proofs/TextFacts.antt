@@ -6,12 +6,13 @@ use Rattle.dj_names.specs.declared.descriptor.Base.TheVariants as bases
 use Rattle.dj_names.specs.declared.descriptor.Of.TheVariants as ofs
 use Rattle.dj_names.specs.declared.descriptor.Ty.{Ty}
 use Rattle.dj_names.specs.declared.descriptor.Desc.TheVariants as descs
-use Rattle.dj_names.specs.Descriptors.{base_letter, return_text, desc_text, type_slots, slots_of}
-use Rattle.dj_names.specs.ModifiedUtf8.{unit_text}
-use Rattle.dj_names.specs.UnitReading.{two_read, three_read, long_read, unit_read}
-use Rattle.dj_names.specs.NameReading.{reads_class_name}
-use Rattle.dj_names.specs.DescReading.{dims_read, name_read, class_read, of_read, type_read, params_read, field_read, return_read, method_read}
-use Rattle.dj_names.specs.Tests.{unqualified_name_test, method_name_test, class_name_test, units_read, modified_utf8_test, field_descriptor_test, method_descriptor_test, array_descriptor_test}
+use Rattle.dj_names.specs.trusted.Descriptors.{base_letter, return_text, desc_text, type_slots, slots_of}
+use Rattle.dj_names.specs.trusted.ModifiedUtf8.{unit_text}
+use Rattle.dj_names.specs.trusted.UnitReading.{two_read, three_read, long_read, unit_read}
+use Rattle.dj_names.specs.trusted.NameReading.{reads_class_name}
+use Rattle.dj_names.specs.trusted.DescReading.{dims_read, name_read, class_read, of_read, type_read, params_read, field_read, return_read, method_read}
+use Rattle.dj_names.specs.trusted.Tests.{units_read}
+use Rattle.dj_names.specs.Tests.{unqualified_name_test, method_name_test, class_name_test, modified_utf8_test, field_descriptor_test, method_descriptor_test, array_descriptor_test}
 
 -- ---- descriptors
 
@@ -69,7 +70,7 @@ field-texts : map field_descriptor_test (codes "La/B;" ∷ codes "[La;" ∷ code
 unfolding field_descriptor_test dims_read name_read class_read of_read type_read field_read reads_class_name
 field-texts = refl
 
--- the same of methods
+-- the same for methods
 method-texts : map method_descriptor_test (codes "()V" ∷ codes "(IJ)La;" ∷ codes "([[DLb;)[I" ∷ codes "(V)V" ∷ codes "(I" ∷ codes "I)V" ∷ codes "()" ∷ codes "()VV" ∷ codes "()[V" ∷ codes "I" ∷ [])
     ≡ true ∷ true ∷ true ∷ false ∷ false ∷ false ∷ false ∷ false ∷ false ∷ false ∷ []
 unfolding method_descriptor_test dims_read name_read class_read of_read type_read params_read field_read return_read method_read reads_class_name

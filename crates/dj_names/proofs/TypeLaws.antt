@@ -4,17 +4,17 @@ use Rattle.std.specs.Prelude.{replicate}
 use Rattle.std.proofs.lemmas.Bool.{ltb-true, lt-ltb, eqb-true, eqb-false, ne_eqb}
 use Rattle.std.proofs.lemmas.List.{append-nil}
 use Rattle.std.specs.List.{AllByRecursion, join_with_byte}
-use Rattle.dj_bytes.specs.Options.{◌>>=◌}
+use Rattle.dj_bytes.specs.trusted.Options.{◌>>=◌}
 use Rattle.dj_bytes.proofs.Options.{bind_some, some_is, chosen, chose_some, went_on}
 use Rattle.dj_names.specs.declared.descriptor.Base.{Base}
 use Rattle.dj_names.specs.declared.descriptor.Base.TheVariants as bases
 use Rattle.dj_names.specs.declared.descriptor.Of.{Of}
 use Rattle.dj_names.specs.declared.descriptor.Of.TheVariants as ofs
 use Rattle.dj_names.specs.declared.descriptor.Ty.{Ty}
-use Rattle.dj_names.specs.Names.{IsNameByte, IsUnqualifiedName, IsClassName}
-use Rattle.dj_names.specs.Descriptors.{base_letter, of_text, type_text, NamesClass, IsType}
-use Rattle.dj_names.specs.NameReading.{reads_class_name}
-use Rattle.dj_names.specs.DescReading.{base_at, dims_read, name_read, class_read, of_read, type_read}
+use Rattle.dj_names.specs.trusted.Names.{IsNameByte, IsUnqualifiedName, IsClassName}
+use Rattle.dj_names.specs.trusted.Descriptors.{base_letter, of_text, type_text, NamesClass, IsType}
+use Rattle.dj_names.specs.trusted.NameReading.{reads_class_name}
+use Rattle.dj_names.specs.trusted.DescReading.{base_at, dims_read, name_read, class_read, of_read, type_read}
 use Rattle.dj_names.proofs.NameLaws.{class_name_read, reads_class}
 
 -- ---- base types

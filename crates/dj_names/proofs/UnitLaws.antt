@@ -5,8 +5,9 @@ use Rattle.std.proofs.lemmas.Bool.Decides.{nat_tests}
 use Rattle.std.proofs.lemmas.List.{append-nil, length-append}
 use Rattle.std.specs.List.{AllByRecursion}
 use Rattle.dj_bytes.proofs.Options.{chose_some, went_on}
-use Rattle.dj_names.specs.ModifiedUtf8.{unit_text, units_text, Spells, IsModifiedUtf8, BeginsNoUnit, BreaksAt}
-use Rattle.dj_names.specs.UnitReading.{two_unit_of, three_unit_of, two_read, three_read, long_read, unit_read}
+use Rattle.dj_names.specs.trusted.ModifiedUtf8.{unit_text, units_text, SpellsUnits, IsModifiedUtf8}
+use Rattle.dj_names.specs.ModifiedUtf8.{BeginsNoUnit, BreaksAt}
+use Rattle.dj_names.specs.trusted.UnitReading.{two_unit_of, three_unit_of, two_read, three_read, long_read, unit_read}
 
 one_text : (u : ℕ) → 1 ≤ u → u < 128 → unit_text u ≡ u ∷ []
 one_text u low high = grind (arith, nat_tests)
@@ -161,7 +162,7 @@ one_list (u ∷ us) (v ∷ vs) fits fit e =
     cc
 
 -- a text spells one list of units only
-pub spelled_once : (text units others : List ℕ) → Spells text units → Spells text others → units ≡ others
+pub spelled_once : (text units others : List ℕ) → SpellsUnits text units → SpellsUnits text others → units ≡ others
 spelled_once text units others s o = one_list units others s.units_fit o.units_fit (sym s.text_is ∙ o.text_is)
 
 -- ---- the loops' steps
@@ -174,7 +175,7 @@ unit_then bytes u rest e m =
     let t = unit_takes bytes (u, rest) e in
     (u ∷ m.0, record { text_is = t.0 ∙ ap (λ (x : List ℕ). unit_text u ++ x) m.1.text_is; units_fit = (t.1, m.1.units_fit) })
 
-modified_rest : (bytes units : List ℕ) (u : ℕ) (rest : List ℕ) → unit_read bytes ≡ Some (u, rest) → Spells bytes units → IsModifiedUtf8 rest
+modified_rest : (bytes units : List ℕ) (u : ℕ) (rest : List ℕ) → unit_read bytes ≡ Some (u, rest) → SpellsUnits bytes units → IsModifiedUtf8 rest
 modified_rest bytes [] u rest e s =
     let t = unit_takes bytes (u, rest) e in
     absurd (unit_some u rest t.1 (sym t.0 ∙ s.text_is))
@@ -186,7 +187,7 @@ modified_rest bytes (v ∷ vs) u rest e s =
 pub unit_before : (bytes : List ℕ) (u : ℕ) (rest : List ℕ) → unit_read bytes ≡ Some (u, rest) → IsModifiedUtf8 bytes → IsModifiedUtf8 rest
 unit_before bytes u rest e m = modified_rest bytes m.0 u rest e m.1
 
-unspelled : (bytes units : List ℕ) → bytes ≢ [] → BeginsNoUnit bytes → Spells bytes units → ⊥
+unspelled : (bytes units : List ℕ) → bytes ≢ [] → BeginsNoUnit bytes → SpellsUnits bytes units → ⊥
 unspelled bytes [] some none s = some s.text_is
 unspelled bytes (u ∷ us) some none s = none u (units_text us) s.units_fit.0 s.text_is
 
@@ -215,7 +216,7 @@ one_more text units rest u after e s =
       fit = AllByRecursion-push units u s.fit t.1;
     }
 
-pub all_spelled : (text units rest : List ℕ) → rest ≡ [] → SpellsUpTo text units rest → Spells text units
+pub all_spelled : (text units rest : List ℕ) → rest ≡ [] → SpellsUpTo text units rest → SpellsUnits text units
 all_spelled text units rest nothing s =
     record { text_is = s.parts ∙ ap (λ (x : List ℕ). units_text units ++ x) nothing ∙ append-nil (units_text units); units_fit = s.fit }
 

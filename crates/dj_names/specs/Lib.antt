@@ -1,11 +1,8 @@
 pub mod ModifiedUtf8
-pub mod Names
-pub mod Descriptors
-pub mod UnitReading
-pub mod NameReading
 pub mod DescReading
 pub mod Tests
 pub mod Values
 pub mod Types
 pub mod Heaps
 pub mod Library
+pub mod trusted

@@ -1,36 +1,18 @@
--- Modified UTF-8 (JVMS 4.4.7): UTF-16 units as bytes, each unit with one spelling.
-use Rattle.std.specs.Prelude.{◌≡◌, ◌≢◌, ℕ, ◌+◌, ◌/◌, ◌%◌, ◌^◌, ◌<◌, ◌&&◌, List, [], ◌∷◌, ◌++◌, length, nat_le, if◌then◌else◌}
-use Rattle.std.specs.List.{flat_map, AllByRecursion}
+-- Beside trusted/ModifiedUtf8.antt: what no clause of the call `djvm` reaches.
+use Rattle.std.specs.Prelude.{◌≡◌, ◌≢◌, ℕ, ◌^◌, ◌<◌, List, [], ◌++◌, length}
+use Rattle.dj_names.specs.trusted.ModifiedUtf8.{unit_text, SpellsUnits}
 
--- a unit from 1 to 007F takes one byte, 0 and those to 07FF two, the others three
-abbrev pub unit_text : ℕ → List ℕ
-unit_text u =
-    if nat_le 1 u && nat_le u 127 then u ∷ []
-    else (if nat_le u 2047 then (192 + u / 64) ∷ (128 + u % 64) ∷ []
-    else (224 + u / 4096) ∷ (128 + u / 64 % 64) ∷ (128 + u % 64) ∷ [])
-
-abbrev pub units_text : List ℕ → List ℕ
-units_text units = flat_map unit_text units
-
--- the text spells these units
-pub record Spells (text units : List ℕ) : Type 0 where
-  pub text_is : text ≡ units_text units
-  pub units_fit : AllByRecursion (λ u. u < 2 ^ 16) units
-
-abbrev pub IsModifiedUtf8 : List ℕ → Type 0
-IsModifiedUtf8 text = (units : List ℕ) × Spells text units
-
--- no unit's spelling stands at the front of these bytes
+-- these bytes don't begin with the spelling of a unit
 abbrev pub BeginsNoUnit : List ℕ → Type 0
 BeginsNoUnit bytes = (u : ℕ) (more : List ℕ) → u < 2 ^ 16 → bytes ≢ unit_text u ++ more
 
--- the text spells units up to this place, where bytes begin that spell none
+-- the text spells units up to this place, and from there on it doesn't begin with the spelling of one
 pub record BreaksAt (text : List ℕ) (place : ℕ) : Type 0 where
   pub front : List ℕ
   pub units : List ℕ
   pub rest : List ℕ
   pub parts : text ≡ front ++ rest
-  pub front_is : Spells front units
+  pub front_is : SpellsUnits front units
   pub place_is : length front ≡ place
   pub left : rest ≢ []
   pub broken : BeginsNoUnit rest

@@ -1,12 +1,11 @@
 -- Whether a whole text is a name, modified UTF-8 or a descriptor (JVMS 4.2 to 4.4), as tests that compute.
 -- proofs/TestLaws says that each decides what its name says.
-use Rattle.std.specs.Prelude.{ℕ, zero, suc, Bool, true, false, not, ◌&&◌, ◌||◌, nat_eq, nat_le, List, [], ◌∷◌, length, Option, Some, None, is_some, bytes_eq, codes}
+use Rattle.std.specs.Prelude.{ℕ, Bool, true, false, not, ◌&&◌, ◌||◌, nat_eq, nat_le, List, [], ◌∷◌, length, Option, Some, None, is_some, bytes_eq, codes}
 use Rattle.std.specs.List.{list_all}
-use Rattle.dj_bytes.specs.Options.{◌>>=◌}
 use Rattle.dj_names.specs.declared.descriptor.Ty.{Ty}
-use Rattle.dj_names.specs.UnitReading.{unit_read}
-use Rattle.dj_names.specs.NameReading.{is_stop, reads_class_name}
-use Rattle.dj_names.specs.DescReading.{field_read, method_read}
+use Rattle.dj_names.specs.trusted.NameReading.{is_stop, reads_class_name}
+use Rattle.dj_names.specs.trusted.DescReading.{field_read, method_read}
+use Rattle.dj_names.specs.trusted.Tests.{units_read}
 
 -- none of  .  ;  [  /
 abbrev pub name_byte_test : ℕ → Bool
@@ -30,14 +29,7 @@ method_name_test text =
 unfoldable pub class_name_test : List ℕ → Bool
 class_name_test text = reads_class_name true text
 
--- the units that take up all the bytes, at most n
-unfoldable pub units_read : ℕ → List ℕ → Option (List ℕ)
-units_read zero [] = Some []
-units_read zero (b ∷ more) = None
-units_read (suc n) [] = Some []
-units_read (suc n) (b ∷ more) = unit_read (b ∷ more) >>= λ x. units_read n x.1 >>= λ units. Some (x.0 ∷ units)
-
--- JVMS 4.4.7: each unit takes a byte or more
+-- JVMS 4.4.7: each unit takes at least one byte
 unfoldable pub modified_utf8_test : List ℕ → Bool
 modified_utf8_test text = is_some (units_read (length text) text)
 
@@ -53,6 +45,6 @@ abbrev pub array_test : Option Ty → Bool
 array_test None = false
 array_test (Some ty) = nat_le 1 ty.dims
 
--- JVMS 4.4.1: a field's descriptor with a dimension or more
+-- JVMS 4.4.1: a field's descriptor with at least one dimension
 unfoldable pub array_descriptor_test : List ℕ → Bool
 array_descriptor_test text = array_test (field_read text)

@@ -32,7 +32,7 @@ pub enum Of {
     Class(Name),
 }
 
-/// A type: an element under so many dimensions.
+/// A type: an element under this many dimensions.
 #[derive(Debug, Drop)]
 pub struct Ty {
     pub dims: u8,
@@ -72,7 +72,7 @@ impl Tys {
         Ok(self.items.push(item)?)
     }
 
-    /// The types, lent.
+    /// The types, borrowed.
     pub fn as_slice(&self) -> &[Ty]
         ensures { result.now ≡ self.now }
     {

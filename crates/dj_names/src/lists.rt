@@ -77,7 +77,7 @@ impl Name {
         Ok(self.bytes.extend_from_slice(items)?)
     }
 
-    /// The bytes, lent.
+    /// The bytes, borrowed.
     pub fn as_slice(&self) -> &[u8]
         ensures { result.now ≡ self.now }
     {
@@ -141,7 +141,7 @@ impl Bytes {
         Ok(self.items.extend_from_slice(items)?)
     }
 
-    /// The bytes, lent.
+    /// The bytes, borrowed.
     pub fn as_slice(&self) -> &[u8]
         ensures { result.now ≡ self.now }
     {
@@ -197,7 +197,7 @@ impl Units {
         Ok(self.items.push(item)?)
     }
 
-    /// The units, lent.
+    /// The units, borrowed.
     pub fn as_slice(&self) -> &[u16]
         ensures { result.now ≡ self.now }
     {

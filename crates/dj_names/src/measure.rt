@@ -1,9 +1,9 @@
 ghost use Rattle.std.specs.Prelude.{◌≡◌, ◌≤◌, sum_by};
-ghost use Rattle.dj_names.specs.Descriptors.{slots_of, type_kind, type_slots};
+ghost use Rattle.dj_names.specs.trusted.Descriptors.{slots_of, type_kind, type_slots};
 
 use crate::descriptor::{Base, Desc, Kind, Of, Ty};
 
-/// The slots of the parameters, without this (JVMS 4.3.3).
+/// The slots of the parameters, without that of `this` (JVMS 4.3.3).
 pub fn slots(desc: &Desc) -> u16
     requires { slots_of desc.now ≤ 65535 }
     ensures { result ≡ slots_of desc.now }
@@ -14,7 +14,7 @@ pub fn slots(desc: &Desc) -> u16
     }
 }
 
-/// The kind of a value of the type, and none for a float or a double.
+/// The kind of a value of the type; none for a float or a double.
 pub fn kind_of(ty: &Ty) -> Option<Kind>
     ensures { result ≡ type_kind ty.now }
 {

@@ -1,6 +1,6 @@
 ghost use Rattle.std.specs.Prelude.{◌≡◌, ◌↔◌, ◌⊎◌, IsTrue, codes, true};
-ghost use Rattle.dj_names.specs.Names.{IsNameByte, IsUnqualifiedName, IsMethodName, IsClassName, HasNoAngle};
-ghost use Rattle.dj_names.specs.NameReading.{reads_class_name, is_refused};
+ghost use Rattle.dj_names.specs.trusted.Names.{IsNameByte, IsUnqualifiedName, IsMethodName, IsClassName, HasNoAngle};
+ghost use Rattle.dj_names.specs.trusted.NameReading.{reads_class_name, is_refused};
 ghost use Rattle.dj_names.specs.Tests.{unqualified_name_test, method_name_test, class_name_test};
 
 /// Whether the text is an unqualified name (JVMS 4.2.2).
@@ -17,7 +17,7 @@ fn unqualified(text: &[u8]) -> bool
     !text.is_empty() && text.iter().all(|b| is_name_byte(*b))
 }
 
-/// Whether a byte may stand in an unqualified name.
+/// Whether a byte may be in an unqualified name.
 fn is_name_byte(byte: u8) -> bool
     ensures { IsTrue result ↔ IsNameByte byte }
 {
@@ -59,7 +59,7 @@ pub fn is_class_name(text: &[u8]) -> bool
 }
 
 /// Whether the text is a class name, by one pass over its bytes.
-#[tactic(auto, unfolding(crate::specs::NameReading::reads_class_name))]
+#[tactic(auto, unfolding(crate::specs::trusted::NameReading::reads_class_name))]
 pub(crate) fn names_class(text: &[u8]) -> bool
     ensures { result ≡ reads_class_name true text.now }
 {
@@ -75,7 +75,7 @@ pub(crate) fn names_class(text: &[u8]) -> bool
     !fresh
 }
 
-/// Whether a name can't go on with this byte, where a part begins or not.
+/// Whether a name can't go on with this byte; `fresh` says whether a part begins here.
 fn refuses(fresh: bool, byte: u8) -> bool
     ensures { result ≡ is_refused fresh byte }
 {

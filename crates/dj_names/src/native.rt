@@ -1,4 +1,4 @@
-/// A native method of the libraries. Two methods of one text of meaning but of different parameters are two.
+/// A native method of the libraries. Methods of one name with different parameters are different natives.
 #[derive(Clone, Copy, Debug, PartialEq, Eq)]
 pub enum NativeId {
     ObjectNew,
@@ -46,7 +46,7 @@ pub enum NativeId {
     MinLongs,
     IdentityHashCode,
     ArrayCopy,
-    /// Answered by the host: a word in place of the object's number.
+    /// The host answers, with a word in place of the object's number.
     HostHashCode,
     HostToString,
     HostIdentityHashCode,

@@ -1,8 +1,9 @@
 ghost use Rattle.std.specs.Prelude.{◌≡◌, ◌≢◌, ◌∷◌, ℕ, List, length, slice_index, IfSome, IfNone, IfOk, IsErrOf};
 ghost use Rattle.dj_bytes.specs.Options.{Gives};
 ghost use Rattle.dj_names.specs.declared.descriptor.Desc.{Desc};
-ghost use Rattle.dj_names.specs.Descriptors.{Describes};
-ghost use Rattle.dj_names.specs.DescReading.{is_memory, element_of, type_read, params_read, field_read, return_read, method_read, opens, desc_read};
+ghost use Rattle.dj_names.specs.trusted.Descriptors.{Describes};
+ghost use Rattle.dj_names.specs.trusted.DescReading.{type_read, params_read, field_read, return_read, method_read, opens, desc_read};
+ghost use Rattle.dj_names.specs.DescReading.{is_memory, element_of};
 
 use crate::descriptor::{Desc, Of, Ty, Tys};
 use crate::lists::{Name, NoMemory};
@@ -43,7 +44,7 @@ pub fn one_descriptor()
     ensures { (text : List ℕ) (a b : Desc) → Describes text a → Describes text b → a ≡ b }
 {}
 
-#[tactic(auto, unfolding(crate::specs::DescReading::desc_read))]
+#[tactic(auto, unfolding(crate::specs::trusted::DescReading::desc_read))]
 fn desc_of(alloc: Global, text: &[u8]) -> Result<Desc, DescError>
     ensures { Gives is_memory (λ d. d) result (desc_read text.now) }
 {
@@ -65,7 +66,7 @@ fn opens_method(text: &[u8]) -> bool
     }
 }
 
-#[tactic(auto, unfolding(crate::specs::DescReading::field_read))]
+#[tactic(auto, unfolding(crate::specs::trusted::DescReading::field_read))]
 fn field_of(alloc: Global, text: &[u8]) -> Result<Ty, DescError>
     ensures { Gives is_memory (λ ty. ty) result (field_read text.now) }
 {
@@ -77,7 +78,7 @@ fn field_of(alloc: Global, text: &[u8]) -> Result<Ty, DescError>
     }
 }
 
-#[tactic(auto, unfolding(crate::specs::DescReading::method_read))]
+#[tactic(auto, unfolding(crate::specs::trusted::DescReading::method_read))]
 fn method_of(alloc: Global, text: &[u8]) -> Result<(Tys, Option<Ty>), DescError>
     ensures { Gives is_memory (λ m. m) result (method_read text.now) }
 {
@@ -94,7 +95,7 @@ fn method_of(alloc: Global, text: &[u8]) -> Result<(Tys, Option<Ty>), DescError>
     }
 }
 
-#[tactic(auto, unfolding(crate::specs::DescReading::return_read))]
+#[tactic(auto, unfolding(crate::specs::trusted::DescReading::return_read))]
 fn return_of(alloc: Global, text: &[u8]) -> Result<Option<Ty>, DescError>
     ensures { Gives is_memory (λ ret. ret) result (return_read text.now) }
 {
@@ -114,7 +115,7 @@ fn return_of(alloc: Global, text: &[u8]) -> Result<Option<Ty>, DescError>
 }
 
 /// The parameters up to their closing parenthesis, and the bytes after it.
-#[tactic(auto, unfolding(crate::specs::DescReading::params_read))]
+#[tactic(auto, unfolding(crate::specs::trusted::DescReading::params_read))]
 fn params_of(alloc: Global, bytes: &[u8]) -> Result<(Tys, &[u8]), DescError>
     ensures { Gives is_memory (λ x. (x.0, x.1.now)) result (params_read (length bytes.now) 0 bytes.now) }
 {
@@ -136,7 +137,7 @@ fn params_of(alloc: Global, bytes: &[u8]) -> Result<(Tys, &[u8]), DescError>
     Err(DescError::NotADescriptor)
 }
 
-/// The bytes after the closing parenthesis, where it stands at the front.
+/// The bytes after the closing parenthesis, where they begin with one.
 fn after_close(bytes: &[u8]) -> Option<&[u8]>
     ensures closed { IfSome result (λ after. bytes.now ≡ 41 ∷ after.now) }
     ensures other { IfNone result (slice_index bytes.now 0 ≢ 41) }

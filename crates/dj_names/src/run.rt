@@ -52,7 +52,7 @@ pub struct Costs {
     pub throw: u64,
 }
 
-/// What a run may be charged at most. A run is stopped by the charge that passes one of them.
+/// The most that a run may be charged. A charge that passes one of these stops the run.
 #[derive(Clone, Copy, Debug, PartialEq, Eq)]
 pub struct Thresholds {
     /// Bytes.
@@ -82,12 +82,12 @@ pub enum Outcome {
     Init(Name, Name, Message),
     /// A reference was of a class that its use doesn't allow, or no code was found for a call.
     Link,
-    /// There were as many frames as there may be, and one more was asked for.
+    /// There were as many frames as there may be, and one more was needed.
     TooDeep,
     /// A charge passed its threshold.
     Stopped(Charge),
     /// An object of this size didn't fit beside the used bytes.
     HeapFull { used: u64, size: u64 },
-    /// The run had not ended after so many steps.
+    /// The run had not ended after this many steps.
     OutOfSteps { steps: u64 },
 }

@@ -1,5 +1,6 @@
 ghost use Rattle.std.specs.Prelude.{◌≡◌, ℕ, ◌^◌, ◌<◌, ◌↔◌, List, length, IsTrue, IfOk, IsErrOf};
-ghost use Rattle.dj_names.specs.ModifiedUtf8.{Spells, IsModifiedUtf8, BreaksAt};
+ghost use Rattle.dj_names.specs.trusted.ModifiedUtf8.{SpellsUnits, IsModifiedUtf8};
+ghost use Rattle.dj_names.specs.ModifiedUtf8.{BreaksAt};
 ghost use Rattle.dj_names.specs.Tests.{modified_utf8_test};
 
 use crate::lists::{NoMemory, Units};
@@ -10,7 +11,7 @@ use thiserror::Error;
 /// Why a text has no units.
 #[derive(Clone, Copy, Debug, PartialEq, Eq, Error)]
 pub enum TextError {
-    /// At this place bytes begin that spell no unit.
+    /// The bytes at this place spell no unit.
     #[error("byte {0} is no modified UTF-8")]
     NotModifiedUtf8(u32),
     #[error("out of memory")]
@@ -51,7 +52,7 @@ fn spells_units(text: &[u8]) -> bool
 /// The units that the text spells (JVMS 4.4.7).
 pub fn units_of(alloc: Global, text: &[u8]) -> Result<Units, TextError>
     requires { length text.now < 2 ^ 32 }
-    ensures ok { IfOk result (λ units. Spells text.now units) }
+    ensures ok { IfOk result (λ units. SpellsUnits text.now units) }
     ensures broken { (place : ℕ) → IsErrOf result (TextError.NotModifiedUtf8 place) → BreaksAt text.now place }
 {
     let mut units = Units::new(alloc);
@@ -70,5 +71,5 @@ pub fn units_of(alloc: Global, text: &[u8]) -> Result<Units, TextError>
 
 /// A text spells one list of units only.
 pub fn one_spelling()
-    ensures { (text units others : List ℕ) → Spells text units → Spells text others → units ≡ others }
+    ensures { (text units others : List ℕ) → SpellsUnits text units → SpellsUnits text others → units ≡ others }
 {}

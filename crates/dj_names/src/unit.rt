@@ -1,9 +1,9 @@
 ghost use Rattle.std.specs.Prelude.{◌≡◌, ◌≤◌, ◌<◌, ℕ, List, length, option_map, IsTrue, IfSome};
-ghost use Rattle.dj_names.specs.UnitReading.{unit_read, long_read, two_read, three_read, is_tail};
+ghost use Rattle.dj_names.specs.trusted.UnitReading.{unit_read, long_read, two_read, three_read, is_tail};
 
 /// The unit at the front, and the bytes after its spelling.
 #[inline]
-#[tactic(auto, unfolding(crate::specs::UnitReading::unit_read))]
+#[tactic(auto, unfolding(crate::specs::trusted::UnitReading::unit_read))]
 pub fn unit_at(bytes: &[u8]) -> Option<(u16, &[u8])>
     ensures reads { option_map (λ x. (x.0, x.1.now)) result ≡ unit_read bytes.now }
     ensures shorter { IfSome result (λ x. length x.1.now < length bytes.now) }
@@ -20,7 +20,7 @@ pub fn unit_at(bytes: &[u8]) -> Option<(u16, &[u8])>
     }
 }
 
-#[tactic(auto, unfolding(crate::specs::UnitReading::long_read))]
+#[tactic(auto, unfolding(crate::specs::trusted::UnitReading::long_read))]
 fn long_unit(first: u8, bytes: &[u8]) -> Option<(u16, &[u8])>
     ensures reads { option_map (λ x. (x.0, x.1.now)) result ≡ long_read first bytes.now }
     ensures shorter { IfSome result (λ x. length x.1.now ≤ length bytes.now) }
@@ -47,7 +47,7 @@ fn tails(byte: u8) -> bool
     128 <= byte && byte < 192
 }
 
-#[tactic(auto, unfolding(crate::specs::UnitReading::two_read))]
+#[tactic(auto, unfolding(crate::specs::trusted::UnitReading::two_read))]
 fn two_bytes(first: u8, second: u8, after: &[u8]) -> Option<(u16, &[u8])>
     requires first { 192 ≤ first }
     requires second { IsTrue (is_tail second) }
@@ -62,7 +62,7 @@ fn two_bytes(first: u8, second: u8, after: &[u8]) -> Option<(u16, &[u8])>
     }
 }
 
-#[tactic(auto, unfolding(crate::specs::UnitReading::three_read))]
+#[tactic(auto, unfolding(crate::specs::trusted::UnitReading::three_read))]
 fn three_bytes(first: u8, second: u8, bytes: &[u8]) -> Option<(u16, &[u8])>
     requires first { 224 ≤ first }
     requires second { IsTrue (is_tail second) }

@@ -1,12 +1,13 @@
 ghost use Rattle.std.specs.Prelude.{◌≡◌, ℕ, [], ◌<◌, ◌↔◌, length, option_map, is_some, IsTrue, IfSome, IfOk};
-ghost use Rattle.dj_names.specs.Descriptors.{IsFieldDescriptor, IsMethodDescriptor, IsArrayDescriptor, type_slots};
-ghost use Rattle.dj_names.specs.DescReading.{element_of, base_at, dims_read, name_read, class_read, of_read, type_read, params_read, field_read, return_read, method_read};
+ghost use Rattle.dj_names.specs.trusted.Descriptors.{IsFieldDescriptor, IsMethodDescriptor, IsArrayDescriptor, type_slots};
+ghost use Rattle.dj_names.specs.trusted.DescReading.{base_at, dims_read, name_read, class_read, of_read, type_read, params_read, field_read, return_read, method_read};
+ghost use Rattle.dj_names.specs.DescReading.{element_of};
 ghost use Rattle.dj_names.specs.Tests.{field_descriptor_test, method_descriptor_test, array_descriptor_test};
 
 use crate::descriptor::Base;
 use crate::name::names_class;
 
-/// What a type or an array's element is, where it stands in the text.
+/// What a type or an array's element is, and where it is in the text.
 #[derive(Clone, Copy)]
 pub enum Element<'a> {
     Base(Base),
@@ -48,7 +49,7 @@ fn reads_field(text: &[u8]) -> bool
 }
 
 /// The dimensions of the one type that the text is.
-#[tactic(auto, unfolding(crate::specs::DescReading::field_read))]
+#[tactic(auto, unfolding(crate::specs::trusted::DescReading::field_read))]
 fn field_dims(text: &[u8]) -> Option<u8>
     ensures { result ≡ option_map (λ ty. ty.dims) (field_read text.now) }
 {
@@ -58,7 +59,7 @@ fn field_dims(text: &[u8]) -> Option<u8>
     }
 }
 
-#[tactic(auto, unfolding(crate::specs::DescReading::method_read))]
+#[tactic(auto, unfolding(crate::specs::trusted::DescReading::method_read))]
 fn reads_method(text: &[u8]) -> bool
     ensures { result ≡ is_some (method_read text.now) }
 {
@@ -76,7 +77,7 @@ fn reads_method(text: &[u8]) -> bool
     }
 }
 
-#[tactic(auto, unfolding(crate::specs::DescReading::return_read))]
+#[tactic(auto, unfolding(crate::specs::trusted::DescReading::return_read))]
 fn reads_return(text: &[u8]) -> bool
     ensures { result ≡ is_some (return_read text.now) }
 {
@@ -93,7 +94,7 @@ fn reads_return(text: &[u8]) -> bool
 }
 
 /// The bytes after the parameters and their closing parenthesis.
-#[tactic(auto, unfolding(crate::specs::DescReading::params_read))]
+#[tactic(auto, unfolding(crate::specs::trusted::DescReading::params_read))]
 fn after_params(bytes: &[u8]) -> Option<&[u8]>
     ensures { option_map (λ x. x.now) result ≡ option_map (λ x. x.1) (params_read (length bytes.now) 0 bytes.now) }
 {
@@ -136,7 +137,7 @@ fn slots_at(dims: u8, element: Element<'_>) -> u16
 }
 
 /// The type at the front, and the bytes after it.
-#[tactic(auto, unfolding(crate::specs::DescReading::type_read))]
+#[tactic(auto, unfolding(crate::specs::trusted::DescReading::type_read))]
 pub fn type_at(bytes: &[u8]) -> Option<(u8, Element<'_>, &[u8])>
     ensures { option_map (λ x. (record { dims = x.0; of = element_of x.1 }, x.2.now)) result ≡ type_read bytes.now }
 {
@@ -150,7 +151,7 @@ pub fn type_at(bytes: &[u8]) -> Option<(u8, Element<'_>, &[u8])>
 }
 
 /// The brackets at the front, and the bytes after them.
-#[tactic(auto, unfolding(crate::specs::DescReading::dims_read))]
+#[tactic(auto, unfolding(crate::specs::trusted::DescReading::dims_read))]
 fn dims_at(bytes: &[u8]) -> Option<(u8, &[u8])>
     ensures { option_map (λ x. (x.0, x.1.now)) result ≡ dims_read 0 bytes.now }
 {
@@ -169,7 +170,7 @@ fn dims_at(bytes: &[u8]) -> Option<(u8, &[u8])>
     Some((dims, rest))
 }
 
-#[tactic(auto, unfolding(crate::specs::DescReading::of_read))]
+#[tactic(auto, unfolding(crate::specs::trusted::DescReading::of_read))]
 fn element_at(bytes: &[u8]) -> Option<(Element<'_>, &[u8])>
     ensures { option_map (λ x. (element_of x.0, x.1.now)) result ≡ of_read bytes.now }
 {
@@ -203,7 +204,7 @@ fn base_of(letter: u8) -> Option<Base>
     }
 }
 
-#[tactic(auto, unfolding(crate::specs::DescReading::class_read))]
+#[tactic(auto, unfolding(crate::specs::trusted::DescReading::class_read))]
 fn class_at(bytes: &[u8]) -> Option<(Element<'_>, &[u8])>
     ensures { option_map (λ x. (element_of x.0, x.1.now)) result ≡ class_read bytes.now }
 {
@@ -220,7 +221,7 @@ fn class_at(bytes: &[u8]) -> Option<(Element<'_>, &[u8])>
 }
 
 /// The bytes up to the first semicolon, and those after it.
-#[tactic(auto, unfolding(crate::specs::DescReading::name_read))]
+#[tactic(auto, unfolding(crate::specs::trusted::DescReading::name_read))]
 fn name_at(bytes: &[u8]) -> Option<(&[u8], &[u8])>
     ensures { option_map (λ x. (x.0.now, x.1.now)) result ≡ name_read [] bytes.now }
 {

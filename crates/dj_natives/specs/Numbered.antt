@@ -4,10 +4,10 @@ use Rattle.std.specs.Option.{option_map}
 use Rattle.dj_names.specs.declared.descriptor.Ty.{Ty}
 use Rattle.dj_names.specs.declared.descriptor.Of.{Of}
 use Rattle.dj_names.specs.declared.descriptor.Of.TheVariants as ofs
-use Rattle.dj_names.specs.Types.{class_type, component_type}
-use Rattle.dj_model.specs.Types.{Prefix, is_stop}
-use Rattle.dj_model.specs.Program.{Program, class_at, superclass_of}
-use Rattle.dj_model.specs.Natives.{class_name}
+use Rattle.dj_names.specs.trusted.Types.{class_type, component_type}
+use Rattle.dj_model.specs.trusted.Types.{Prefix, is_stop}
+use Rattle.dj_model.specs.trusted.Program.{Program, class_at, superclass_of}
+use Rattle.dj_model.specs.trusted.Natives.{class_name}
 
 -- the class or the array of a number
 abbrev pub type_at : List Ty → ℕ → Ty

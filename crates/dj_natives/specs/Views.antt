@@ -1,6 +1,6 @@
 -- The classes of a library as the definitions see them.
 use Rattle.std.specs.Prelude.{List, map}
-use Rattle.dj_names.specs.Library as named
+use Rattle.dj_names.specs.trusted.Library as named
 use Rattle.dj_natives.specs.declared.library.LibMethod.{LibMethod}
 use Rattle.dj_natives.specs.declared.library.LibClass.{LibClass}
 

@@ -1,11 +1,11 @@
 ghost use Rattle.std.specs.Prelude.{◌≡◌, ℕ, ◌<◌, List, Some, IfSome, length, slice_get};
 ghost use Rattle.dj_names.specs.declared.descriptor.Base.TheVariants as bases;
 ghost use Rattle.dj_names.specs.declared.descriptor.Ty.{Ty};
-ghost use Rattle.dj_names.specs.Types.{class_type, base_array};
-ghost use Rattle.dj_model.specs.Types.{Prefix, string_name};
-ghost use Rattle.dj_model.specs.Program.{Program};
-ghost use Rattle.dj_model.specs.Linking.{is_subtype};
-ghost use Rattle.dj_model.specs.Natives.{class_name};
+ghost use Rattle.dj_names.specs.trusted.Types.{class_type, base_array};
+ghost use Rattle.dj_model.specs.trusted.Types.{Prefix, string_name};
+ghost use Rattle.dj_model.specs.trusted.Program.{Program};
+ghost use Rattle.dj_model.specs.trusted.Linking.{is_subtype};
+ghost use Rattle.dj_model.specs.trusted.Natives.{class_name};
 
 /// The classes and arrays of a program, by numbers.
 pub trait Classes {
@@ -17,7 +17,7 @@ pub trait Classes {
     /// The program whose classes they are.
     ghost program: { Self → Program };
 
-    /// What stands before the names of the library's classes.
+    /// What comes before the names of the library's classes.
     ghost prefix: { Self → Prefix };
 
     /// The name of a class, or the descriptor of an array.
@@ -25,12 +25,12 @@ pub trait Classes {
         requires { class < length (types self.now) }
         ensures { result.now ≡ class_name (type_at (types self.now) class) };
 
-    /// The superclass; none of an array and of a class without a superclass.
+    /// The superclass; none for an array and for a class without a superclass.
     fn super_of(&self, class: u32) -> Option<u32>
         requires { class < length (types self.now) }
         ensures { IsNumberOf (types self.now) (superclass_type (program self.now) (type_at (types self.now) class)) result };
 
-    /// What the elements of an array of references are; none of a class and of an array of a base type.
+    /// What the elements of an array of references are; none for a class and for an array of a base type.
     fn component(&self, class: u32) -> Option<u32>
         requires { class < length (types self.now) }
         ensures { IsNumberOf (types self.now) (component_of (type_at (types self.now) class)) result };

@@ -1,7 +1,7 @@
 use crate::lists::{LibMethods, Names};
 use dj_names::{Desc, Name, NativeId};
 
-/// A method of a library. Of what is abstract there is no native.
+/// A method of a library. An abstract one has no native.
 #[derive(Drop)]
 pub struct LibMethod {
     /// The access flags (JVMS table 4.6-A).
@@ -19,7 +19,7 @@ pub struct LibMethod {
 pub struct LibClass {
     /// The whole name, with slashes.
     pub name: Name,
-    /// The superclass, which Object alone lacks.
+    /// The superclass; only Object has none.
     pub super_name: Option<Name>,
     /// The access flags (JVMS table 4.1-A).
     pub flags: u16,

@@ -66,7 +66,7 @@ impl Names {
         Ok(self.names.push(item)?)
     }
 
-    /// The names, lent.
+    /// The names, borrowed.
     pub fn as_slice(&self) -> &[Name]
         ensures { result.now ≡ self.now }
     {
@@ -107,7 +107,7 @@ impl LibMethods {
         Ok(self.methods.push(item)?)
     }
 
-    /// The methods, lent.
+    /// The methods, borrowed.
     pub fn as_slice(&self) -> &[LibMethod]
         ensures { result.now ≡ self.now }
     {
@@ -148,7 +148,7 @@ impl Library {
         Ok(self.classes.push(item)?)
     }
 
-    /// The classes, lent.
+    /// The classes, borrowed.
     pub fn as_slice(&self) -> &[LibClass]
         ensures { result.now ≡ self.now }
     {

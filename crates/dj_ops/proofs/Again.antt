@@ -3,15 +3,15 @@ use Rattle.std.proofs.Common.{◌≡◌, ℕ, ◌^◌, ◌<◌, ◌≤◌, ◌&&
 use Rattle.std.specs.Int.{w8, w16}
 use Rattle.std.specs.List.{flat_map}
 use Rattle.std.proofs.lemmas.Bool.{le-leb, lt-ltb}
-use Rattle.dj_bytes.specs.Spelling.{u2, s1, s2, s4}
+use Rattle.dj_bytes.specs.trusted.Spelling.{u2, s1, s2, s4}
 use Rattle.dj_bytes.specs.Reading.{Cursor}
 use Rattle.dj_bytes.proofs.Steps.{bind_again}
 use Rattle.dj_bytes.proofs.Spans.{Spans, Spans-stay, step_again}
 use Rattle.dj_bytes.proofs.Numbers.{u1_reads, u2_reads}
 use Rattle.dj_ops.specs.declared.instruction.Instr.{Instr}
 use Rattle.dj_ops.specs.declared.instruction.Instr.TheVariants as instrs
-use Rattle.dj_ops.specs.Forms.{Form, Bare, SignedByte, SignedShort, ShortLiteral, LongLiteral, Slot, SlotAndByte, ShortOffset, LongOffset, MemberIndex, InterfaceIndex, DynamicIndex, ClassIndex, ArrayType, MultiIndex, TableSwitch, LookupSwitch, WidePrefix, Reserved, form_of}
-use Rattle.dj_ops.specs.Instructions.{signed_bytes, IsPushed, IsOffset, literal_bytes, IsLiteral, IsProper, offset, high_of, target_bytes, pair_bytes, Spells}
+use Rattle.dj_ops.specs.trusted.Forms.{Form, Bare, SignedByte, SignedShort, ShortLiteral, LongLiteral, Slot, SlotAndByte, ShortOffset, LongOffset, MemberIndex, InterfaceIndex, DynamicIndex, ClassIndex, ArrayType, MultiIndex, TableSwitch, LookupSwitch, WidePrefix, Reserved, form_of}
+use Rattle.dj_ops.specs.trusted.Instructions.{signed_bytes, IsPushed, IsOffset, literal_bytes, IsLiteral, IsProper, offset, high_of, target_bytes, pair_bytes, SpellsInstruction}
 use Rattle.dj_ops.specs.Reading.{cut, byte_push_at, short_push_at, short_literal_at, long_literal_at, local_at, increment_at, target, short_branch_at, long_branch_at, member_at, class_at, interface_at, dynamic_at, array_at, multi_at, wide_local_at, wide_increment_at, wide_form_at, wide_at, operands_at, instr_at}
 use Rattle.dj_ops.proofs.Parts.{both_reads, s1_reads, s2_reads, s4_reads, made_again, checked_again}
 use Rattle.dj_ops.proofs.Families.{target_of_offset, index_and_two_reads}
@@ -133,21 +133,21 @@ wide_increment_back at slot by p q =
 plainly : {at : ℕ} {instr : Instr} {text bytes : List ℕ} → text ≡ bytes → ReadsBack at instr bytes → ReadsBack at instr text
 plainly {at} {instr} {text} {bytes} e back = subst (ReadsBack at instr) (sym e) back
 
-table_back : (at : ℕ) (default low : ℤ) (targets : List ℤ) (text : List ℕ) → IsProper (instrs.Table default low targets) → Spells at (instrs.Table default low targets) text → ReadsBack at (instrs.Table default low targets) text
+table_back : (at : ℕ) (default low : ℤ) (targets : List ℤ) (text : List ℕ) → IsProper (instrs.Table default low targets) → SpellsInstruction at (instrs.Table default low targets) text → ReadsBack at (instrs.Table default low targets) text
 table_back at default low targets text proper is =
     let rest : List ℕ = is.padding ++ target_bytes at default ++ s4 low ++ s4 (high_of low targets) ++ flat_map (target_bytes at) targets in
-    let spelled : Spells at (instrs.Table default low targets) (170 ∷ rest) = record { padding = is.padding; padded = is.padded; offsets = is.offsets; are = refl } in
+    let spelled : SpellsInstruction at (instrs.Table default low targets) (170 ∷ rest) = record { padding = is.padding; padded = is.padded; offsets = is.offsets; are = refl } in
     let back : ReadsBack at (instrs.Table default low targets) (170 ∷ rest) = by_form TableSwitch at 170 _ rest table_form (λ d. cc) (λ c next s. padded_table_again at default low targets rest c next proper spelled s) in
     plainly is.are back
 
-lookup_back : (at : ℕ) (default : ℤ) (pairs : List (ℤ × ℤ)) (text : List ℕ) → IsProper (instrs.Lookup default pairs) → Spells at (instrs.Lookup default pairs) text → ReadsBack at (instrs.Lookup default pairs) text
+lookup_back : (at : ℕ) (default : ℤ) (pairs : List (ℤ × ℤ)) (text : List ℕ) → IsProper (instrs.Lookup default pairs) → SpellsInstruction at (instrs.Lookup default pairs) text → ReadsBack at (instrs.Lookup default pairs) text
 lookup_back at default pairs text proper is =
     let rest : List ℕ = is.padding ++ target_bytes at default ++ s4 (pos (length pairs)) ++ flat_map (pair_bytes at) pairs in
-    let spelled : Spells at (instrs.Lookup default pairs) (171 ∷ rest) = record { padding = is.padding; padded = is.padded; offsets = is.offsets; are = refl } in
+    let spelled : SpellsInstruction at (instrs.Lookup default pairs) (171 ∷ rest) = record { padding = is.padding; padded = is.padded; offsets = is.offsets; are = refl } in
     let back : ReadsBack at (instrs.Lookup default pairs) (171 ∷ rest) = by_form LookupSwitch at 171 _ rest lookup_form (λ d. cc) (λ c next s. padded_lookup_again at default pairs rest c next proper spelled s) in
     plainly is.are back
 
-pub reads_back : (at : ℕ) (instr : Instr) (text : List ℕ) → IsProper instr → Spells at instr text → ReadsBack at instr text
+pub reads_back : (at : ℕ) (instr : Instr) (text : List ℕ) → IsProper instr → SpellsInstruction at instr text → ReadsBack at instr text
 reads_back at (instrs.Simple op) text proper is = plainly is.are (simple_back at op proper)
 reads_back at (instrs.Push op z) text proper is = plainly is.are (push_back (form_of op) at op z refl proper)
 reads_back at (instrs.Literal op index) text proper is = plainly is.are (literal_back (form_of op) at op index refl proper)

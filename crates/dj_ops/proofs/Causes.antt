@@ -1,7 +1,7 @@
 -- A refusal has its cause, and where a cause is that refusal comes: by the forms of opcodes.
 use Rattle.std.proofs.Common.{◌≡◌, ◌≢◌, ℕ, ◌<◌, ◌≤◌, ◌&&◌, ◌⊎◌, Bool, true, false, ltb, eqb, nat_le, List, [], ◌∷◌, ◌++◌, length, get_or, Err, refl, sym, ap, ap₂, subst, ◌∙◌, arith, inl, inr}
 use Rattle.std.proofs.lemmas.Bool.{le-leb, leb-true, ltb-false, eqb-false, ne_eqb}
-use Rattle.dj_bytes.specs.Spelling.{u1, u2}
+use Rattle.dj_bytes.specs.trusted.Spelling.{u1, u2}
 use Rattle.dj_bytes.specs.Reading.{Cursor, u1_at, u2_at}
 use Rattle.dj_bytes.proofs.Bytes.{IsBytes}
 use Rattle.dj_bytes.proofs.Steps.{bind_again, bind_err, bind_fails}
@@ -11,17 +11,17 @@ use Rattle.dj_ops.specs.declared.instruction.Instr.{Instr}
 use Rattle.dj_ops.specs.declared.instruction.Instr.TheVariants as instrs
 use Rattle.dj_ops.specs.declared.read.OpError.{OpError}
 use Rattle.dj_ops.specs.declared.read.OpError.TheVariants as errors
-use Rattle.dj_ops.specs.Forms.{Form, Slot, SlotAndByte, WidePrefix, form_of}
-use Rattle.dj_ops.specs.Instructions.{IsArrayType}
+use Rattle.dj_ops.specs.trusted.Forms.{Form, Slot, SlotAndByte, WidePrefix, form_of}
+use Rattle.dj_ops.specs.trusted.Instructions.{IsArrayType}
 use Rattle.dj_ops.specs.Refusals.{wide_count, Lacks, HasWideForm, IsBad}
 use Rattle.dj_ops.specs.Reading.{cut, both, byte_push_at, short_push_at, short_literal_at, long_literal_at, local_at, increment_at, target, short_branch_at, long_branch_at, member_at, class_at, index_and_two_at, interface_at, dynamic_at, array_at, multi_at, wide_local_at, wide_increment_at, wide_form_at, wide_at}
-use Rattle.dj_ops.proofs.Parts.{Part, failed, err_is, both_reads, Fixed, u1_fixed, u2_fixed, s1_fixed, s2_fixed, s4_fixed, made_fixed, both_fixed, outcome, checked_fails, checked_short, checked_bad}
+use Rattle.dj_ops.proofs.Parts.{OperandReader, failed, err_is, both_reads, Fixed, u1_fixed, u2_fixed, s1_fixed, s2_fixed, s4_fixed, made_fixed, both_fixed, outcome, checked_fails, checked_short, checked_bad}
 use Rattle.dj_ops.proofs.Families.{IndexAndTwo, index_and_two_bytes, index_and_two_reads}
 
 -- ---- operands that are not judged
 
 -- bytes were missing
-pub fixed_fails : {p : Part Instr} {n : ℕ} → Fixed p n → (P : OpError → Type 0) (c : Cursor) (e : OpError) → (length c.rest < n → P errors.Cut) → p c ≡ Err e → P e
+pub fixed_fails : {p : OperandReader Instr} {n : ℕ} → Fixed p n → (P : OpError → Type 0) (c : Cursor) (e : OpError) → (length c.rest < n → P errors.Cut) → p c ≡ Err e → P e
 fixed_fails fixed P c e lacks h = let d = fixed.fails c e h in subst P (sym d.0) (lacks d.1)
 
 pub byte_push_fixed : (op : ℕ) → Fixed (byte_push_at op) 1

@@ -7,31 +7,32 @@ use Rattle.dj_ops.specs.declared.instruction.Instr.{Instr}
 use Rattle.dj_ops.specs.declared.instruction.Instr.TheVariants as instrs
 use Rattle.dj_ops.specs.declared.read.OpError.{OpError}
 use Rattle.dj_ops.specs.declared.read.OpError.TheVariants as errors
-use Rattle.dj_ops.specs.Forms.{Bare, Slot, ShortOffset, form_of}
-use Rattle.dj_ops.specs.Instructions.{Spells, IsProper, IsPadding, AreOffsets, written, length_at, Appended}
+use Rattle.dj_ops.specs.trusted.Forms.{Bare, Slot, ShortOffset, form_of}
+use Rattle.dj_ops.specs.trusted.Instructions.{SpellsInstruction, IsProper, IsPadding, AreOffsets, written, length_at}
+use Rattle.dj_ops.specs.Instructions.{Appended}
 use Rattle.dj_ops.specs.Refusals.{Refuses}
 use Rattle.dj_ops.proofs.Sizes.{spelled_length}
 use Rattle.dj_ops.specs.Reading.{s4_at, wide_at, wide_local_at, target_at, pair_at, bounds_at, count_at, table_from, lookup_from, padded_at, instr_at}
 
 -- goto to the opcode before it, at address 7
-goto_back : Spells 7 (instrs.Branch 167 (pos 6)) (167 ∷ 255 ∷ 255 ∷ [])
+goto_back : SpellsInstruction 7 (instrs.Branch 167 (pos 6)) (167 ∷ 255 ∷ 255 ∷ [])
 unfolding form_of
 goto_back = record { padding = []; padded = refl; offsets = sfits_lit tt; are = refl }
 
 -- goto_w 256 bytes on
-goto_far : Spells 7 (instrs.Branch 200 (pos 263)) (200 ∷ 0 ∷ 0 ∷ 1 ∷ 0 ∷ [])
+goto_far : SpellsInstruction 7 (instrs.Branch 200 (pos 263)) (200 ∷ 0 ∷ 0 ∷ 1 ∷ 0 ∷ [])
 unfolding form_of
 goto_far = record { padding = []; padded = refl; offsets = sfits_lit tt; are = refl }
 
 -- ldc 3, ldc2_w 256
-literals : Spells 0 (instrs.Literal 18 3) (18 ∷ 3 ∷ []) × Spells 0 (instrs.Literal 20 256) (20 ∷ 1 ∷ 0 ∷ [])
+literals : SpellsInstruction 0 (instrs.Literal 18 3) (18 ∷ 3 ∷ []) × SpellsInstruction 0 (instrs.Literal 20 256) (20 ∷ 1 ∷ 0 ∷ [])
 unfolding form_of
 literals = (record { padding = []; padded = refl; offsets = tt; are = refl }, record { padding = []; padded = refl; offsets = tt; are = refl })
 
 -- wide iload 256, iinc 1 by -1, wide iinc 1 by 256
-locals : Spells 0 (instrs.Local 21 256 true) (196 ∷ 21 ∷ 1 ∷ 0 ∷ [])
-    × Spells 0 (instrs.Inc 1 (negsuc 0) false) (132 ∷ 1 ∷ 255 ∷ [])
-    × Spells 0 (instrs.Inc 1 (pos 256) true) (196 ∷ 132 ∷ 0 ∷ 1 ∷ 1 ∷ 0 ∷ [])
+locals : SpellsInstruction 0 (instrs.Local 21 256 true) (196 ∷ 21 ∷ 1 ∷ 0 ∷ [])
+    × SpellsInstruction 0 (instrs.Inc 1 (negsuc 0) false) (132 ∷ 1 ∷ 255 ∷ [])
+    × SpellsInstruction 0 (instrs.Inc 1 (pos 256) true) (196 ∷ 132 ∷ 0 ∷ 1 ∷ 1 ∷ 0 ∷ [])
 locals = (
   record { padding = []; padded = refl; offsets = tt; are = refl },
   record { padding = []; padded = refl; offsets = tt; are = refl },
@@ -39,9 +40,9 @@ locals = (
 )
 
 -- invokeinterface 5 with 1 slot, invokedynamic 258, multianewarray 7 with 2 dimensions
-indexes : Spells 0 (instrs.Interface 5 1) (185 ∷ 0 ∷ 5 ∷ 1 ∷ 0 ∷ [])
-    × Spells 0 (instrs.Dynamic 258) (186 ∷ 1 ∷ 2 ∷ 0 ∷ 0 ∷ [])
-    × Spells 0 (instrs.Multi 7 2) (197 ∷ 0 ∷ 7 ∷ 2 ∷ [])
+indexes : SpellsInstruction 0 (instrs.Interface 5 1) (185 ∷ 0 ∷ 5 ∷ 1 ∷ 0 ∷ [])
+    × SpellsInstruction 0 (instrs.Dynamic 258) (186 ∷ 1 ∷ 2 ∷ 0 ∷ 0 ∷ [])
+    × SpellsInstruction 0 (instrs.Multi 7 2) (197 ∷ 0 ∷ 7 ∷ 2 ∷ [])
 indexes = (
   record { padding = []; padded = refl; offsets = tt; are = refl },
   record { padding = []; padded = refl; offsets = tt; are = refl },
@@ -49,7 +50,7 @@ indexes = (
 )
 
 -- tableswitch at address 1, with 2 bytes of padding, of 3 and 4 to 13 and 14, and to 15 else
-table : Spells 1 (instrs.Table (pos 15) (pos 3) (pos 13 ∷ pos 14 ∷ []))
+table : SpellsInstruction 1 (instrs.Table (pos 15) (pos 3) (pos 13 ∷ pos 14 ∷ []))
     (170 ∷ 9 ∷ 9 ∷ 0 ∷ 0 ∷ 0 ∷ 14 ∷ 0 ∷ 0 ∷ 0 ∷ 3 ∷ 0 ∷ 0 ∷ 0 ∷ 4 ∷ 0 ∷ 0 ∷ 0 ∷ 12 ∷ 0 ∷ 0 ∷ 0 ∷ 13 ∷ [])
 table = record {
   padding = 9 ∷ 9 ∷ [];
@@ -62,7 +63,7 @@ table_proper : IsProper (instrs.Table (pos 15) (pos 3) (pos 13 ∷ pos 14 ∷ []
 table_proper = record { some = omega arith; low_fits = sfits_lit tt; high_fits = sfits_lit tt }
 
 -- lookupswitch at address 3, without padding, of -1 to 0, and to itself else
-lookup : Spells 3 (instrs.Lookup (pos 3) ((negsuc 0, pos 0) ∷ []))
+lookup : SpellsInstruction 3 (instrs.Lookup (pos 3) ((negsuc 0, pos 0) ∷ []))
     (171 ∷ 0 ∷ 0 ∷ 0 ∷ 0 ∷ 0 ∷ 0 ∷ 0 ∷ 1 ∷ 255 ∷ 255 ∷ 255 ∷ 255 ∷ 255 ∷ 255 ∷ 255 ∷ 253 ∷ [])
 lookup = record {
   padding = [];
@@ -89,8 +90,8 @@ paddings = (
 )
 
 -- a switch isn't spelled with 4 zeros more
-no_longer_switch : Spells 3 (instrs.Lookup (pos 3) []) (171 ∷ 0 ∷ 0 ∷ 0 ∷ 0 ∷ 0 ∷ 0 ∷ 0 ∷ 0 ∷ [])
-    × (Spells 3 (instrs.Lookup (pos 3) []) (171 ∷ 0 ∷ 0 ∷ 0 ∷ 0 ∷ 0 ∷ 0 ∷ 0 ∷ 0 ∷ 0 ∷ 0 ∷ 0 ∷ 0 ∷ []) → ⊥)
+no_longer_switch : SpellsInstruction 3 (instrs.Lookup (pos 3) []) (171 ∷ 0 ∷ 0 ∷ 0 ∷ 0 ∷ 0 ∷ 0 ∷ 0 ∷ 0 ∷ [])
+    × (SpellsInstruction 3 (instrs.Lookup (pos 3) []) (171 ∷ 0 ∷ 0 ∷ 0 ∷ 0 ∷ 0 ∷ 0 ∷ 0 ∷ 0 ∷ 0 ∷ 0 ∷ 0 ∷ 0 ∷ []) → ⊥)
 no_longer_switch = (
   record { padding = []; padded = record { few = omega arith; aligned = refl }; offsets = (sfits_lit tt, tt); are = refl },
   λ h. omega (arith, spelled_length 3 (instrs.Lookup (pos 3) []) (171 ∷ 0 ∷ 0 ∷ 0 ∷ 0 ∷ 0 ∷ 0 ∷ 0 ∷ 0 ∷ 0 ∷ 0 ∷ 0 ∷ 0 ∷ []) h),

@@ -2,15 +2,15 @@
 use Rattle.std.proofs.Common.{◌≡◌, ℕ, ◌^◌, ◌<◌, ◌&&◌, Bool, true, false, ltb, eqb, nat_le, ℤ, List, [], ◌∷◌, ◌++◌, Ok, refl, sym, ap, ap₂, subst, arith, inl, inr}
 use Rattle.std.proofs.lemmas.Bool.{leb-true, ltb-true, eqb-true}
 use Rattle.std.proofs.lemmas.Int.{ints}
-use Rattle.dj_bytes.specs.Spelling.{u1, u2, s2}
+use Rattle.dj_bytes.specs.trusted.Spelling.{u1, u2, s2}
 use Rattle.dj_bytes.specs.Reading.{Cursor}
 use Rattle.dj_bytes.proofs.Bytes.{IsBytes}
 use Rattle.dj_bytes.proofs.Spans.{Spans, Spans-none, Spans-then, Reads, step_takes}
 use Rattle.dj_bytes.proofs.Numbers.{u1_reads, u2_reads}
 use Rattle.dj_ops.specs.declared.instruction.Instr.{Instr}
 use Rattle.dj_ops.specs.declared.instruction.Instr.TheVariants as instrs
-use Rattle.dj_ops.specs.Forms.{Form, Bare, SignedByte, SignedShort, ShortLiteral, LongLiteral, Slot, SlotAndByte, ShortOffset, LongOffset, MemberIndex, ClassIndex, form_of}
-use Rattle.dj_ops.specs.Instructions.{signed_bytes, IsPushed, IsOffset, literal_bytes, IsLiteral, IsProper, offset, Spells}
+use Rattle.dj_ops.specs.trusted.Forms.{Form, Bare, SignedByte, SignedShort, ShortLiteral, LongLiteral, Slot, SlotAndByte, ShortOffset, LongOffset, MemberIndex, ClassIndex, form_of}
+use Rattle.dj_ops.specs.trusted.Instructions.{signed_bytes, IsPushed, IsOffset, literal_bytes, IsLiteral, IsProper, offset, SpellsInstruction}
 use Rattle.dj_ops.specs.Reading.{cut, byte_push_at, short_push_at, short_literal_at, long_literal_at, local_at, increment_at, target, short_branch_at, long_branch_at, member_at, class_at, index_and_two_at, interface_at, dynamic_at, array_at, multi_at, wide_local_at, wide_increment_at, wide_form_at, wide_at, operands_at}
 use Rattle.dj_ops.proofs.Parts.{both_reads, s1_reads, s2_reads, s4_reads, Taken, made_taken, checked_taken}
 use Rattle.dj_ops.proofs.FormFacts.{increment_alone}
@@ -99,7 +99,7 @@ offset_of_target at z = omega (arith, ints)
 pub target_of_offset : (at : ℕ) (t : ℤ) → target at (offset at t) ≡ t
 target_of_offset at t = omega (arith, ints)
 
-branch_spells : (form : Form) (at op : ℕ) (z : ℤ) → form_of op ≡ form → IsOffset form z → Spells at (instrs.Branch op (target at z)) (op ∷ signed_bytes form z)
+branch_spells : (form : Form) (at op : ℕ) (z : ℤ) → form_of op ≡ form → IsOffset form z → SpellsInstruction at (instrs.Branch op (target at z)) (op ∷ signed_bytes form z)
 branch_spells form at op z f good = record {
   padding = [];
   padded = refl;
@@ -172,7 +172,7 @@ multi_taken at =
 record WideTaken (at op : ℕ) (c : Cursor) (x : Instr × Cursor) : Type 0 where
   pub text : List ℕ
   pub spans : Spans c text x.1
-  pub spelled : Spells at x.0 (196 ∷ (op ∷ text))
+  pub spelled : SpellsInstruction at x.0 (196 ∷ (op ∷ text))
   pub proper : IsProper x.0
 
 wide_local_taken : (at op : ℕ) (c : Cursor) (x : Instr × Cursor) → form_of op ≡ Slot → IsBytes c.rest → wide_local_at op c ≡ Ok x → WideTaken at op c x

@@ -4,8 +4,8 @@ use Rattle.dj_bytes.specs.Reading.{Cursor, cursor_at, many_at}
 use Rattle.dj_ops.specs.declared.instruction.Instr.{Instr}
 use Rattle.dj_ops.specs.declared.instruction.Instr.TheVariants as instrs
 use Rattle.dj_ops.specs.declared.read.OpError.{OpError}
-use Rattle.dj_ops.specs.Forms.{form_of}
-use Rattle.dj_ops.specs.Instructions.{written}
+use Rattle.dj_ops.specs.trusted.Forms.{form_of}
+use Rattle.dj_ops.specs.trusted.Instructions.{written}
 use Rattle.dj_ops.specs.Reading.{s1_at, s2_at, s4_at, short_literal_at, long_literal_at, byte_push_at, short_push_at, local_at, increment_at, short_branch_at, long_branch_at, member_at, class_at, index_and_two_at, interface_at, dynamic_at, array_at, multi_at, wide_local_at, wide_increment_at, wide_at, target_at, pair_at, bounds_at, table_from, count_at, lookup_from, padded_at, instr_at}
 
 -- an instruction at an address, and its bytes there

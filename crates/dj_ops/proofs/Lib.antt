@@ -1,4 +1,5 @@
 pub mod Rising
+pub mod Lookups
 pub mod Parts
 pub mod FormFacts
 pub mod Families
@@ -13,6 +14,7 @@ pub mod Sizes
 pub mod Decided
 mod Opcodes
 mod Examples
+mod LookupFacts
 mod FamilyFacts
 mod ProperFacts
 mod RefusalFacts

@@ -6,7 +6,7 @@ use Rattle.std.proofs.lemmas.Int.{of_z-to_z, to_z-of_z, ints}
 use Rattle.std.proofs.lemmas.List.{length-drop}
 use Rattle.std.proofs.Math.Facts.{sfits_to_z}
 use Rattle.dj_bytes.specs.declared.cursor.Cut.{Cut}
-use Rattle.dj_bytes.specs.Spelling.{u1, u2, u4, s1, s2, s4}
+use Rattle.dj_bytes.specs.trusted.Spelling.{u1, u2, u4, s1, s2, s4}
 use Rattle.dj_bytes.specs.Steps.{lifted}
 use Rattle.dj_bytes.specs.Reading.{Cursor, bytes_at, number_at, block_at, u1_at, u2_at, u4_at, many_at}
 use Rattle.dj_bytes.proofs.Bytes.{IsBytes}
@@ -16,11 +16,11 @@ use Rattle.dj_bytes.proofs.Numbers.{u1_reads, u2_reads, u4_reads, bytes_cut, byt
 use Rattle.dj_ops.specs.declared.instruction.Instr.{Instr}
 use Rattle.dj_ops.specs.declared.read.OpError.{OpError}
 use Rattle.dj_ops.specs.declared.read.OpError.TheVariants as errors
-use Rattle.dj_ops.specs.Instructions.{IsProper, Spells}
+use Rattle.dj_ops.specs.trusted.Instructions.{IsProper, SpellsInstruction}
 use Rattle.dj_ops.specs.Reading.{cut, both, made, checked, s1_at, s2_at, s4_at}
 
-abbrev pub Part : Type 0 → Type 0
-Part A = Cursor → Result (A × Cursor) OpError
+abbrev pub OperandReader : Type 0 → Type 0
+OperandReader A = Cursor → Result (A × Cursor) OpError
 
 abbrev pub failed : {A : Type 0} → OpError → Result A OpError
 failed e = Err e
@@ -30,7 +30,7 @@ err_is h = cc
 
 -- ---- what is read is spelled so, and the other way round
 
-pub both_reads : {A B : Type 0} {p : Part A} {q : Part B} {s : A → List ℕ} {t : B → List ℕ} {P : A → Type 0} {Q : B → Type 0}
+pub both_reads : {A B : Type 0} {p : OperandReader A} {q : OperandReader B} {s : A → List ℕ} {t : B → List ℕ} {P : A → Type 0} {Q : B → Type 0}
     → Reads p s P → Reads q t Q → Reads (both p q) (λ x. s x.0 ++ t x.1) (λ x. P x.0 × Q x.1)
 both_reads {A} {B} {p} {q} {s} {t} {P} {Q} first second = record {
   takes = λ c x fits e.
@@ -44,7 +44,7 @@ both_reads {A} {B} {p} {q} {s} {t} {P} {Q} first second = record {
 }
 
 -- what is made can be unmade
-pub made_reads : {A B : Type 0} {p : Part A} {s : A → List ℕ} {P : A → Type 0} → Reads p s P → (f : A → B) (g : B → A) (t : B → List ℕ) (Q : B → Type 0)
+pub made_reads : {A B : Type 0} {p : OperandReader A} {s : A → List ℕ} {P : A → Type 0} → Reads p s P → (f : A → B) (g : B → A) (t : B → List ℕ) (Q : B → Type 0)
     → ((a : A) → P a → (s a ≡ t (f a)) × Q (f a)) → ((b : B) → Q b → P (g b) × (f (g b) ≡ b) × (s (g b) ≡ t b)) → Reads (made f p) t Q
 made_reads {A} {B} {p} {s} {P} reads f g t Q to from = record {
   takes = λ c x fits e.
@@ -90,19 +90,19 @@ s4_reads = made_reads (u4_reads cut) (cast_signed w32) (cast_unsigned w32) s4 (F
 pub record Taken (at op : ℕ) (c : Cursor) (x : Instr × Cursor) : Type 0 where
   pub text : List ℕ
   pub spans : Spans c text x.1
-  pub spelled : Spells at x.0 (op ∷ text)
+  pub spelled : SpellsInstruction at x.0 (op ∷ text)
   pub proper : IsProper x.0
 
-pub made_taken : {A : Type 0} {p : Part A} {s : A → List ℕ} {P : A → Type 0} → Reads p s P → (f : A → Instr) (at op : ℕ)
-    → ((a : A) → P a → Spells at (f a) (op ∷ s a) × IsProper (f a)) → (c : Cursor) (x : Instr × Cursor) → IsBytes c.rest → made f p c ≡ Ok x → Taken at op c x
+pub made_taken : {A : Type 0} {p : OperandReader A} {s : A → List ℕ} {P : A → Type 0} → Reads p s P → (f : A → Instr) (at op : ℕ)
+    → ((a : A) → P a → SpellsInstruction at (f a) (op ∷ s a) × IsProper (f a)) → (c : Cursor) (x : Instr × Cursor) → IsBytes c.rest → made f p c ≡ Ok x → Taken at op c x
 made_taken {s} reads f at op good c x fits e =
     let a = step_takes reads c fits e in
     let made : (f a.value, a.next) ≡ x = cc (a.rest) in
     let w = good a.value a.good in
     subst (λ (y : Instr × Cursor). Taken at op c y) made (record { text = s a.value; spans = a.spans; spelled = w.0; proper = w.1 })
 
-pub checked_taken : {A : Type 0} {p : Part A} {s : A → List ℕ} {P : A → Type 0} → Reads p s P → (test : A → Bool) (f : A → Instr) (at op : ℕ)
-    → ((a : A) → P a → test a ≡ true → Spells at (f a) (op ∷ s a) × IsProper (f a)) → (c : Cursor) (x : Instr × Cursor) → IsBytes c.rest → checked test f p c ≡ Ok x → Taken at op c x
+pub checked_taken : {A : Type 0} {p : OperandReader A} {s : A → List ℕ} {P : A → Type 0} → Reads p s P → (test : A → Bool) (f : A → Instr) (at op : ℕ)
+    → ((a : A) → P a → test a ≡ true → SpellsInstruction at (f a) (op ∷ s a) × IsProper (f a)) → (c : Cursor) (x : Instr × Cursor) → IsBytes c.rest → checked test f p c ≡ Ok x → Taken at op c x
 checked_taken {s} reads test f at op good c x fits e =
     let a = step_takes reads c fits e in
     cond_either (test a.value) _ _ a.rest
@@ -112,17 +112,17 @@ checked_taken {s} reads test f at op good c x fits e =
     subst (λ (y : Instr × Cursor). Taken at op c y) made (record { text = s a.value; spans = a.spans; spelled = w.0; proper = w.1 }))
     (λ fails d. absurd cc)
 
-pub made_again : {A : Type 0} {p : Part A} {s : A → List ℕ} {P : A → Type 0} → Reads p s P → (f : A → Instr) (a : A) (c next : Cursor) → P a → Spans c (s a) next → made f p c ≡ Ok (f a, next)
+pub made_again : {A : Type 0} {p : OperandReader A} {s : A → List ℕ} {P : A → Type 0} → Reads p s P → (f : A → Instr) (a : A) (c next : Cursor) → P a → Spans c (s a) next → made f p c ≡ Ok (f a, next)
 made_again reads f a c next good spans = bind_again _ (reads.again c a next good spans) refl
 
-pub checked_again : {A : Type 0} {p : Part A} {s : A → List ℕ} {P : A → Type 0} → Reads p s P → (test : A → Bool) (f : A → Instr) (a : A) (c next : Cursor) → P a → test a ≡ true → Spans c (s a) next
+pub checked_again : {A : Type 0} {p : OperandReader A} {s : A → List ℕ} {P : A → Type 0} → Reads p s P → (test : A → Bool) (f : A → Instr) (a : A) (c next : Cursor) → P a → test a ≡ true → Spans c (s a) next
     → checked test f p c ≡ Ok (f a, next)
 checked_again reads test f a c next good passes spans = bind_again _ (reads.again c a next good spans) (cond_true _ passes refl)
 
 -- ---- parts of one length
 
--- so many bytes are read, where they are there
-pub record Fixed {A : Type 0} (p : Part A) (n : ℕ) : Type 0 where
+-- this many bytes are read, where they are there
+pub record Fixed {A : Type 0} (p : OperandReader A) (n : ℕ) : Type 0 where
   pub some : (c : Cursor) (x : A × Cursor) → p c ≡ Ok x → n + length x.1.rest ≡ length c.rest
   pub fails : (c : Cursor) (e : OpError) → p c ≡ Err e → (e ≡ errors.Cut) × (length c.rest < n)
   pub short : (c : Cursor) → length c.rest < n → p c ≡ Err errors.Cut
@@ -144,7 +144,7 @@ block_fixed n = record {
   short = λ c lt. ap (lifted (λ (y : Cut). cut y.0)) (bytes_short n c lt);
 }
 
-abbrev pub number_part : Width → Part ℕ
+abbrev pub number_part : Width → OperandReader ℕ
 number_part w c = lifted (λ x. cut x.0) (number_at w c)
 
 number_some : (w : Width) (c : Cursor) (x : ℕ × Cursor) → number_at w c ≡ Ok x → byte_len w + length x.1.rest ≡ length c.rest
@@ -177,7 +177,7 @@ pub outcome : {A : Type 0} (r : Result A OpError) → Outcome r
 outcome (Ok x) = inl (x, refl)
 outcome (Err e) = inr (e, refl)
 
-pub made_fixed : {A B : Type 0} {p : Part A} {n : ℕ} (f : A → B) → Fixed p n → Fixed (made f p) n
+pub made_fixed : {A B : Type 0} {p : OperandReader A} {n : ℕ} (f : A → B) → Fixed p n → Fixed (made f p) n
 made_fixed {A} {B} {p} {n} f fixed = record {
   some = λ c x h.
       let a = bind_ok h in
@@ -187,7 +187,7 @@ made_fixed {A} {B} {p} {n} f fixed = record {
   short = λ c lt. bind_fails _ (fixed.short c lt);
 }
 
-pub both_fixed : {A B : Type 0} {p : Part A} {q : Part B} {m n : ℕ} → Fixed p m → Fixed q n → Fixed (both p q) (m + n)
+pub both_fixed : {A B : Type 0} {p : OperandReader A} {q : OperandReader B} {m n : ℕ} → Fixed p m → Fixed q n → Fixed (both p q) (m + n)
 both_fixed {A} {B} {p} {q} {m} {n} first second = record {
   some = λ c x h.
       let a = bind_ok {r = p c} h in
@@ -217,7 +217,7 @@ pub s4_fixed : Fixed s4_at 4
 unfolding s4_at
 s4_fixed = made_fixed (cast_signed w32) u4_fixed
 
-many_some : {A : Type 0} {p : Part A} {n : ℕ} → Fixed p n → (k : ℕ) (c : Cursor) (x : List A × Cursor) → many_at p k c ≡ Ok x → k * n + length x.1.rest ≡ length c.rest
+many_some : {A : Type 0} {p : OperandReader A} {n : ℕ} → Fixed p n → (k : ℕ) (c : Cursor) (x : List A × Cursor) → many_at p k c ≡ Ok x → k * n + length x.1.rest ≡ length c.rest
 unfolding many_at
 many_some {n} fixed zero c x h =
     let next-is : c ≡ x.1 = cc in
@@ -228,7 +228,7 @@ many_some {p} {n} fixed (suc k) c x h =
     let next-is : b.0.1 ≡ x.1 = cc (b.2) in
     subst (λ (m : Cursor). suc k * n + length m.rest ≡ length c.rest) next-is (omega (arith, fixed.some c a.0 a.1, many_some fixed k a.0.1 b.0 b.1))
 
-many_fails : {A : Type 0} {p : Part A} {n : ℕ} → Fixed p n → (k : ℕ) (c : Cursor) (e : OpError) → many_at p k c ≡ Err e → (e ≡ errors.Cut) × (length c.rest < k * n)
+many_fails : {A : Type 0} {p : OperandReader A} {n : ℕ} → Fixed p n → (k : ℕ) (c : Cursor) (e : OpError) → many_at p k c ≡ Err e → (e ≡ errors.Cut) × (length c.rest < k * n)
 unfolding many_at
 many_fails fixed zero c e h = absurd cc
 many_fails {n} fixed (suc k) c e h =
@@ -236,7 +236,7 @@ many_fails {n} fixed (suc k) c e h =
     (λ r. let d = fixed.fails c e r in (d.0, omega (arith, d.1)))
     (λ a r g. bind_err g (λ s. let d = many_fails fixed k a.1 e s in (d.0, omega (arith, d.1, fixed.some c a r))) (λ b s l. absurd cc))
 
-many_short : {A : Type 0} {p : Part A} {n : ℕ} → Fixed p n → (k : ℕ) (c : Cursor) → length c.rest < k * n → many_at p k c ≡ Err errors.Cut
+many_short : {A : Type 0} {p : OperandReader A} {n : ℕ} → Fixed p n → (k : ℕ) (c : Cursor) → length c.rest < k * n → many_at p k c ≡ Err errors.Cut
 unfolding many_at
 many_short fixed zero c lt = absurd (omega (arith, lt))
 many_short {p} fixed (suc k) c lt =
@@ -245,23 +245,23 @@ many_short {p} fixed (suc k) c lt =
       | inr e ↦ bind_fails _ (e.1 ∙ ap failed (fixed.fails c e.0 e.1).0)
     ]
 
-pub many_fixed : {A : Type 0} {p : Part A} {n : ℕ} → Fixed p n → (k : ℕ) → Fixed (many_at p k) (k * n)
+pub many_fixed : {A : Type 0} {p : OperandReader A} {n : ℕ} → Fixed p n → (k : ℕ) → Fixed (many_at p k) (k * n)
 many_fixed fixed k = record { some = many_some fixed k; fails = many_fails fixed k; short = many_short fixed k }
 
 -- ---- operands that are judged
 
 -- bytes are missing, or all are there and the test fails
-pub checked_fails : {A B P : Type 0} {p : Part A} {n : ℕ} → Fixed p n → (test : A → Bool) (f : A → B) (c : Cursor) (e : OpError) → checked test f p c ≡ Err e
+pub checked_fails : {A B P : Type 0} {p : OperandReader A} {n : ℕ} → Fixed p n → (test : A → Bool) (f : A → B) (c : Cursor) (e : OpError) → checked test f p c ≡ Err e
     → (e ≡ errors.Cut → length c.rest < n → P) → (e ≡ errors.BadOperand → (x : A × Cursor) → p c ≡ Ok x → test x.0 ≡ false → P) → P
 checked_fails fixed test f c e h one other =
     bind_err h
     (λ r. let d = fixed.fails c e r in one d.0 d.1)
     (λ a r g. cond_either (test a.0) _ _ g (λ passes d. absurd cc) (λ fails d. let bad : errors.BadOperand ≡ e = cc in other (sym bad) a r fails))
 
-pub checked_short : {A B : Type 0} {p : Part A} {n : ℕ} → Fixed p n → (test : A → Bool) (f : A → B) (c : Cursor) → length c.rest < n → checked test f p c ≡ Err errors.Cut
+pub checked_short : {A B : Type 0} {p : OperandReader A} {n : ℕ} → Fixed p n → (test : A → Bool) (f : A → B) (c : Cursor) → length c.rest < n → checked test f p c ≡ Err errors.Cut
 checked_short fixed test f c lt = bind_fails _ (fixed.short c lt)
 
-pub checked_bad : {A B : Type 0} {p : Part A} {n : ℕ} → Fixed p n → (test : A → Bool) (f : A → B) (c : Cursor) → n ≤ length c.rest → ((x : A × Cursor) → p c ≡ Ok x → test x.0 ≡ false)
+pub checked_bad : {A B : Type 0} {p : OperandReader A} {n : ℕ} → Fixed p n → (test : A → Bool) (f : A → B) (c : Cursor) → n ≤ length c.rest → ((x : A × Cursor) → p c ≡ Ok x → test x.0 ≡ false)
     → checked test f p c ≡ Err errors.BadOperand
 checked_bad {p} fixed test f c le bad =
     elim (outcome (p c)) [

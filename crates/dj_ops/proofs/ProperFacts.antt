@@ -3,8 +3,8 @@ use Rattle.std.proofs.Common.{◌≤◌, ◌^◌, ℤ, pos, negsuc, List, [], �
 use Rattle.std.proofs.Math.Facts.{sfits_lit}
 use Rattle.std.proofs.lemmas.Int.{ints}
 use Rattle.dj_ops.specs.declared.instruction.Instr.TheVariants as instrs
-use Rattle.dj_ops.specs.Forms.{form_of}
-use Rattle.dj_ops.specs.Instructions.{IsProper, AreOffsets, IsPaddingOf}
+use Rattle.dj_ops.specs.trusted.Forms.{form_of}
+use Rattle.dj_ops.specs.trusted.Instructions.{IsProper, AreOffsets, IsPaddingOf}
 use Rattle.dj_ops.proofs.Rising.{rising_from}
 
 -- ---- proper instructions
@@ -184,7 +184,7 @@ rising_matches = (
 far_match : IsProper (instrs.Lookup (pos 0) ((pos 2147483648, pos 0) ∷ [])) → ⊥
 far_match is = omega (arith, ints, is.matches.0)
 
--- so many pairs that their count is negative
+-- this many pairs that their count is negative
 many_pairs : (pairs : List (ℤ × ℤ)) → 2 ^ 31 ≤ length pairs → IsProper (instrs.Lookup (pos 0) pairs) → ⊥
 many_pairs pairs many is = omega (arith, many, is.count)
 

@@ -4,8 +4,9 @@ use Rattle.std.proofs.Math.Facts.{sfits_lit}
 use Rattle.std.proofs.lemmas.Int.{ints}
 use Rattle.dj_ops.specs.declared.instruction.Instr.TheVariants as instrs
 use Rattle.dj_ops.specs.declared.read.OpError.TheVariants as errors
-use Rattle.dj_ops.specs.Forms.{form_of}
-use Rattle.dj_ops.specs.Instructions.{Stands, Appended}
+use Rattle.dj_ops.specs.trusted.Forms.{form_of}
+use Rattle.dj_ops.specs.trusted.Instructions.{Stands}
+use Rattle.dj_ops.specs.Instructions.{Appended}
 use Rattle.dj_ops.specs.Refusals.{Refuses, IsRefused, Yields}
 
 -- ---- where an instruction stands

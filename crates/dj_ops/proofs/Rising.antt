@@ -7,7 +7,7 @@ use Rattle.std.proofs.lemmas.Bool.{cases_lt}
 use Rattle.std.proofs.lemmas.List.{get_or_default}
 use Rattle.std.proofs.lemmas.List.Kept.{AllPairs-cons}
 use Rattle.std.proofs.lemmas.List.Elements.{All-from_recursion}
-use Rattle.dj_ops.specs.Reading.{rises, rises_from}
+use Rattle.dj_ops.specs.trusted.Lookups.{rises, rises_from}
 
 abbrev pub Pair : Type 0
 Pair = ℤ × ℤ
@@ -39,7 +39,7 @@ later_false : (a b : Bool) → b ≡ false → (a && b) ≡ false
 later_false true b p = p
 later_false false b p = refl
 
-both_from : (a b : Bool) → (a && b) ≡ true → (a ≡ true) × (b ≡ true)
+pub both_from : (a b : Bool) → (a && b) ≡ true → (a ≡ true) × (b ≡ true)
 both_from true b h = (refl, h)
 both_from false b h = absurd cc
 

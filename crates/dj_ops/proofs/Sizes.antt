@@ -4,7 +4,7 @@ use Rattle.std.specs.List.{flat_map}
 use Rattle.std.proofs.lemmas.List.{length-append, length-replicate, length-take, length-drop, take_at, drop_at}
 use Rattle.dj_ops.specs.declared.instruction.Instr.{Instr}
 use Rattle.dj_ops.specs.declared.instruction.Instr.TheVariants as instrs
-use Rattle.dj_ops.specs.Instructions.{IsProper, IsPadding, IsPaddingOf, AreOffsets, target_bytes, pair_bytes, bytes_with, Spells, Stands, padding_count, zeros, written, length_at}
+use Rattle.dj_ops.specs.trusted.Instructions.{IsProper, IsPadding, IsPaddingOf, AreOffsets, target_bytes, pair_bytes, bytes_with, SpellsInstruction, Stands, padding_count, zeros, written, length_at}
 
 -- ---- the bytes behind a switch's padding
 
@@ -51,7 +51,7 @@ zeros_pad at _ = refl
 
 -- ---- the laws
 
-pub written_spells : (at : ℕ) (instr : Instr) → AreOffsets at instr → Spells at instr (written at instr)
+pub written_spells : (at : ℕ) (instr : Instr) → AreOffsets at instr → SpellsInstruction at instr (written at instr)
 written_spells at instr offsets = record { padding = zeros at instr; padded = zeros_pad at instr; offsets = offsets; are = refl }
 
 padded_length : (at : ℕ) (instr : Instr) (padding : List ℕ) → IsPaddingOf at instr padding → length (bytes_with padding at instr) ≡ length_at at instr
@@ -59,7 +59,7 @@ padded_length at (instrs.Table default low targets) padding is = omega (arith, t
 padded_length at (instrs.Lookup default pairs) padding is = omega (arith, lookup_with padding at default pairs, lookup_length at default pairs, padding_length at padding is)
 padded_length at instr padding is = ap (λ (l : List ℕ). length (bytes_with l at instr)) is
 
-pub spelled_length : (at : ℕ) (instr : Instr) (bytes : List ℕ) → Spells at instr bytes → length bytes ≡ length_at at instr
+pub spelled_length : (at : ℕ) (instr : Instr) (bytes : List ℕ) → SpellsInstruction at instr bytes → length bytes ≡ length_at at instr
 spelled_length at instr bytes s = ap length s.are ∙ padded_length at instr s.padding s.padded
 
 some_with : (padding : List ℕ) (at : ℕ) (instr : Instr) → 0 < length (bytes_with padding at instr)
@@ -86,7 +86,7 @@ written_stands before after instr proper offsets =
     record {
       later = omega (arith, some_bytes at instr);
       within = omega (arith, length-append before (text ++ after), length-append text after);
-      spelled = subst (λ (t : List ℕ). Spells at instr t) (sym (between before text after)) (written_spells at instr offsets);
+      spelled = subst (λ (t : List ℕ). SpellsInstruction at instr t) (sym (between before text after)) (written_spells at instr offsets);
       proper = proper;
     }
 

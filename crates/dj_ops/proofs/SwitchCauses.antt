@@ -6,7 +6,7 @@ use Rattle.std.specs.Int.{w32}
 use Rattle.std.proofs.lemmas.Bool.{false_from_ne_true, true≢false}
 use Rattle.std.proofs.lemmas.Int.{ints}
 use Rattle.std.proofs.lemmas.List.{drop_at, length-append, length-drop}
-use Rattle.dj_bytes.specs.Spelling.{s4}
+use Rattle.dj_bytes.specs.trusted.Spelling.{s4}
 use Rattle.dj_bytes.specs.Reading.{Cursor, block_at}
 use Rattle.dj_bytes.proofs.Bytes.{IsBytes}
 use Rattle.dj_bytes.proofs.Steps.{bind_again, bind_err, bind_fails, cond_either, cond_true, cond_false}
@@ -17,10 +17,11 @@ use Rattle.dj_ops.specs.declared.instruction.Instr.{Instr}
 use Rattle.dj_ops.specs.declared.instruction.Instr.TheVariants as instrs
 use Rattle.dj_ops.specs.declared.read.OpError.{OpError}
 use Rattle.dj_ops.specs.declared.read.OpError.TheVariants as errors
-use Rattle.dj_ops.specs.Instructions.{IsFar, offset, target_bytes, pair_bytes, padding_count}
+use Rattle.dj_ops.specs.trusted.Instructions.{IsFar, offset, target_bytes, pair_bytes, padding_count}
 use Rattle.dj_ops.specs.Refusals.{HasBounds, HasCount, LacksOffsets, LacksPairs, HasFallingBounds, HasNegativeCount, HasUnsortedPairs}
-use Rattle.dj_ops.specs.Reading.{cut, target, target_at, pair_at, bounds_at, table_from, rises, count_at, lookup_from, padded_at}
-use Rattle.dj_ops.proofs.Parts.{Part, failed, Fixed, s4_fixed, block_fixed, made_fixed, both_fixed, many_fixed, outcome, checked_fails}
+use Rattle.dj_ops.specs.trusted.Lookups.{rises}
+use Rattle.dj_ops.specs.Reading.{cut, target, target_at, pair_at, bounds_at, table_from, count_at, lookup_from, padded_at}
+use Rattle.dj_ops.proofs.Parts.{OperandReader, failed, Fixed, s4_fixed, block_fixed, made_fixed, both_fixed, many_fixed, outcome, checked_fails}
 use Rattle.dj_ops.proofs.Rising.{rising_from, rises_if, lt_true, lt_false, lt_from, le_from}
 use Rattle.dj_ops.proofs.Families.{offset_of_target}
 use Rattle.dj_ops.proofs.SwitchLaws.{pair_reads, bounds_bytes, bounds_reads, count_bytes, count_reads}
@@ -262,7 +263,7 @@ padded_lookup_fails P at c e fits lacks bad h =
     g)
 
 -- fields that stand there have a padding before them
-past_padding : (at : ℕ) (part : Part Instr) (c : Cursor) (e : OpError) → IsBytes c.rest → (length c.rest < padding_count at → errors.Cut ≡ e)
+past_padding : (at : ℕ) (part : OperandReader Instr) (c : Cursor) (e : OpError) → IsBytes c.rest → (length c.rest < padding_count at → errors.Cut ≡ e)
     → ((m : Cursor) → m.rest ≡ drop (padding_count at) c.rest → padding_count at + length m.rest ≡ length c.rest → part m ≡ Err e) → padded_at at part c ≡ Err e
 unfolding padded_at
 past_padding at part c e fits cut_off go =

@@ -4,7 +4,7 @@ use Rattle.std.specs.Prelude.{unsigned_abs, int_lt, AllPairs}
 use Rattle.std.specs.List.{flat_map, AllByRecursion}
 use Rattle.std.specs.Int.{w32}
 use Rattle.std.proofs.lemmas.Int.{ints}
-use Rattle.dj_bytes.specs.Spelling.{s4}
+use Rattle.dj_bytes.specs.trusted.Spelling.{s4}
 use Rattle.dj_bytes.specs.Reading.{Cursor}
 use Rattle.dj_bytes.proofs.Bytes.{IsBytes}
 use Rattle.dj_bytes.proofs.Steps.{bind_again, cond_either, cond_true, cond_false}
@@ -13,8 +13,9 @@ use Rattle.dj_bytes.proofs.Numbers.{block_reads}
 use Rattle.dj_bytes.proofs.Parts.{many_reads}
 use Rattle.dj_ops.specs.declared.instruction.Instr.{Instr}
 use Rattle.dj_ops.specs.declared.instruction.Instr.TheVariants as instrs
-use Rattle.dj_ops.specs.Instructions.{IsTable, IsLookup, IsPadding, offset, IsFar, high_of, target_bytes, pair_bytes, Spells, padding_count}
-use Rattle.dj_ops.specs.Reading.{cut, target, target_at, pair_at, bounds_at, table_from, rises, count_at, lookup_from, padded_at}
+use Rattle.dj_ops.specs.trusted.Instructions.{IsTable, IsLookup, IsPadding, offset, IsFar, high_of, target_bytes, pair_bytes, SpellsInstruction, padding_count}
+use Rattle.dj_ops.specs.trusted.Lookups.{rises}
+use Rattle.dj_ops.specs.Reading.{cut, target, target_at, pair_at, bounds_at, table_from, count_at, lookup_from, padded_at}
 use Rattle.dj_ops.proofs.Parts.{both_reads, made_reads, s4_reads, Taken}
 use Rattle.dj_ops.proofs.Rising.{rising_from, rises_if, lt_false, le_from}
 use Rattle.dj_ops.proofs.Families.{offset_of_target, target_of_offset}
@@ -203,7 +204,7 @@ padded_lookup_taken at c x fits e =
 behind : {op : ℕ} {a b : List ℕ} → op ∷ a ≡ op ∷ b → a ≡ b
 behind e = cc
 
-pub padded_table_again : (at : ℕ) (default low : ℤ) (targets : List ℤ) (text : List ℕ) (c next : Cursor) → IsTable low targets → Spells at (instrs.Table default low targets) (170 ∷ text) → Spans c text next
+pub padded_table_again : (at : ℕ) (default low : ℤ) (targets : List ℤ) (text : List ℕ) (c next : Cursor) → IsTable low targets → SpellsInstruction at (instrs.Table default low targets) (170 ∷ text) → Spans c text next
     → padded_at at (table_from at) c ≡ Ok (instrs.Table default low targets, next)
 unfolding padded_at table_from
 padded_table_again at default low targets text c next table is spans =
@@ -217,7 +218,7 @@ padded_table_again at default low targets text c next table is spans =
     let t = (many_reads (target_reads at) (unsigned_abs (high -ℤ low) + 1)).again b.0 targets next (targets_are low targets table.some, is.offsets.1) b.2 in
     bind_again _ p.1 (bind_again _ b.1 (cond_false _ rising (bind_again _ t refl)))
 
-pub padded_lookup_again : (at : ℕ) (default : ℤ) (pairs : List (ℤ × ℤ)) (text : List ℕ) (c next : Cursor) → IsLookup pairs → Spells at (instrs.Lookup default pairs) (171 ∷ text) → Spans c text next
+pub padded_lookup_again : (at : ℕ) (default : ℤ) (pairs : List (ℤ × ℤ)) (text : List ℕ) (c next : Cursor) → IsLookup pairs → SpellsInstruction at (instrs.Lookup default pairs) (171 ∷ text) → Spans c text next
     → padded_at at (lookup_from at) c ≡ Ok (instrs.Lookup default pairs, next)
 unfolding padded_at lookup_from
 padded_lookup_again at default pairs text c next lookup is spans =

@@ -1,4 +1,4 @@
--- The instruction at an address of a code: what is read stands there, what stands there is read, and the same of refusals.
+-- The instruction at an address of a code: what is read stands there, what stands there is read, and the same for refusals.
 use Rattle.std.proofs.Common.{◌≡◌, ℕ, ◌+◌, ◌-◌, ◌<◌, ◌≤◌, List, [], ◌∷◌, length, get_or, take, drop, Result, Ok, Err, slice_range, refl, sym, ap, ap₂, subst, ◌∙◌, arith, inl, inr}
 use Rattle.std.proofs.lemmas.List.{take_at, length-append, length-take, length-drop, get_or-drop, drop-drop}
 use Rattle.std.proofs.lemmas.List.Folds.{drop_split}
@@ -11,8 +11,8 @@ use Rattle.dj_bytes.proofs.Numbers.{u1_reads}
 use Rattle.dj_ops.specs.declared.instruction.Instr.{Instr}
 use Rattle.dj_ops.specs.declared.read.OpError.{OpError}
 use Rattle.dj_ops.specs.declared.read.OpError.TheVariants as errors
-use Rattle.dj_ops.specs.Forms.{form_of}
-use Rattle.dj_ops.specs.Instructions.{IsProper, Spells, Stands}
+use Rattle.dj_ops.specs.trusted.Forms.{form_of}
+use Rattle.dj_ops.specs.trusted.Instructions.{IsProper, SpellsInstruction, Stands}
 use Rattle.dj_ops.specs.Refusals.{Lacks, IsBad, Refuses, IsRefused, Yields}
 use Rattle.dj_ops.specs.Reading.{is_memory, cut, instr_at}
 use Rattle.dj_ops.proofs.Parts.{u1_fixed, outcome}
@@ -28,7 +28,7 @@ record Front (c : Cursor) (x : Instr × Cursor) : Type 0 where
   pub text : List ℕ
   pub some : 0 < length text
   pub spans : Spans c text x.1
-  pub spelled : Spells c.place x.0 text
+  pub spelled : SpellsInstruction c.place x.0 text
   pub proper : IsProper x.0
 
 front_taken : (c : Cursor) (x : Instr × Cursor) → IsBytes c.rest → instr_at c ≡ Ok x → Front c x
@@ -52,7 +52,7 @@ what_is_read code at x fits lt e =
     record {
       later = omega (arith, f.some, f.spans.place);
       within = omega (arith, f.spans.place, ap length f.spans.parts, length-append f.text x.1.rest, length-drop at code, lt);
-      spelled = subst (λ (t : List ℕ). Spells at x.0 t) (sym slice) f.spelled;
+      spelled = subst (λ (t : List ℕ). SpellsInstruction at x.0 t) (sym slice) f.spelled;
       proper = f.proper;
     }
 

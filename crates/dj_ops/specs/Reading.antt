@@ -1,5 +1,5 @@
 -- The reader's own: reading an instruction from left to right, with the first fault that is met.
-use Rattle.std.specs.Prelude.{ℕ, ◌+◌, ◌==◌, ◌&&◌, Bool, true, false, ℤ, pos, ◌+ℤ◌, ◌-ℤ◌, int_lt, unsigned_abs, List, [], ◌∷◌, nat_le, nat_lt, if◌then◌else◌, Result, Ok, Err}
+use Rattle.std.specs.Prelude.{ℕ, ◌+◌, ◌==◌, ◌&&◌, Bool, true, false, ℤ, pos, ◌+ℤ◌, ◌-ℤ◌, int_lt, unsigned_abs, nat_le, nat_lt, if◌then◌else◌, Result, Ok, Err}
 use Rattle.std.specs.Int.{w8, w16, w32, cast_signed}
 use Rattle.dj_bytes.specs.Steps.{◌>>=◌}
 use Rattle.dj_bytes.specs.Reading.{Cursor, block_at, u1_at, u2_at, u4_at, many_at}
@@ -7,15 +7,16 @@ use Rattle.dj_ops.specs.declared.instruction.Instr.{Instr}
 use Rattle.dj_ops.specs.declared.instruction.Instr.TheVariants as instrs
 use Rattle.dj_ops.specs.declared.read.OpError.{OpError}
 use Rattle.dj_ops.specs.declared.read.OpError.TheVariants as errors
-use Rattle.dj_ops.specs.Forms.{Form, Bare, SignedByte, SignedShort, ShortLiteral, LongLiteral, Slot, SlotAndByte, ShortOffset, LongOffset, MemberIndex, InterfaceIndex, DynamicIndex, ClassIndex, ArrayType, MultiIndex, TableSwitch, LookupSwitch, WidePrefix, Reserved, form_of}
-use Rattle.dj_ops.specs.Instructions.{padding_count}
+use Rattle.dj_ops.specs.trusted.Forms.{Form, Bare, SignedByte, SignedShort, ShortLiteral, LongLiteral, Slot, SlotAndByte, ShortOffset, LongOffset, MemberIndex, InterfaceIndex, DynamicIndex, ClassIndex, ArrayType, MultiIndex, TableSwitch, LookupSwitch, WidePrefix, Reserved, form_of}
+use Rattle.dj_ops.specs.trusted.Instructions.{padding_count}
+use Rattle.dj_ops.specs.trusted.Lookups.{rises}
 
 -- the errors that say nothing of what is read, since memory ran out
 abbrev pub is_memory : OpError → Bool
 is_memory errors.Memory = true
 is_memory _ = false
 
--- a cut is told without its place
+-- a cut is reported without its place
 abbrev pub cut : ℕ → OpError
 cut place = errors.Cut
 
@@ -138,15 +139,6 @@ table_from at c = do
   bounds ← bounds_at at c
   if int_lt bounds.0.1.1 bounds.0.1.0 then Err errors.BadOperand else made (instrs.Table bounds.0.0 bounds.0.1.0)
       (many_at (target_at at) (unsigned_abs (bounds.0.1.1 -ℤ bounds.0.1.0) + 1)) bounds.1
-
--- each match is below the next
-abbrev pub rises_from : ℤ → List (ℤ × ℤ) → Bool
-rises_from z [] = true
-rises_from z (pair ∷ pairs) = int_lt z pair.0 && rises_from pair.0 pairs
-
-abbrev pub rises : List (ℤ × ℤ) → Bool
-rises [] = true
-rises (pair ∷ pairs) = rises_from pair.0 pairs
 
 -- default and npairs
 unfoldable pub count_at : ℕ → Cursor → Result ((ℤ × ℤ) × Cursor) OpError

@@ -2,12 +2,13 @@
 use Rattle.std.specs.Prelude.{◌≡◌, ◌≢◌, ℕ, ◌+◌, ◌*◌, ◌<◌, ◌≤◌, ◌⊎◌, ℤ, pos, ◌-ℤ◌, ◌<ℤ◌, ◌≤ℤ◌, unsigned_abs, FitsSigned, List, [], ◌∷◌, ◌++◌, length, drop, slice_index, AllPairs, IsSomeAnd, Result, IsErrOf}
 use Rattle.std.specs.List.{flat_map, AllByRecursion}
 use Rattle.std.specs.Int.{w32}
-use Rattle.dj_bytes.specs.Spelling.{s4}
+use Rattle.dj_bytes.specs.trusted.Spelling.{s4}
 use Rattle.dj_ops.specs.declared.instruction.Instr.{Instr}
 use Rattle.dj_ops.specs.declared.read.OpError.{OpError}
 use Rattle.dj_ops.specs.declared.read.OpError.TheVariants as errors
-use Rattle.dj_ops.specs.Forms.{Form, Slot, SlotAndByte, InterfaceIndex, DynamicIndex, ArrayType, MultiIndex, TableSwitch, LookupSwitch, WidePrefix, form_of, operand_count}
-use Rattle.dj_ops.specs.Instructions.{IsArrayType, IsFar, pair_bytes, padding_count}
+use Rattle.dj_ops.specs.trusted.Forms.{Form, Slot, SlotAndByte, InterfaceIndex, DynamicIndex, ArrayType, MultiIndex, TableSwitch, LookupSwitch, WidePrefix, form_of}
+use Rattle.dj_ops.specs.Forms.{operand_count}
+use Rattle.dj_ops.specs.trusted.Instructions.{IsArrayType, IsFar, pair_bytes, padding_count}
 
 -- ---- the fields of switches, after the padding
 
@@ -85,7 +86,7 @@ pub record HasUnsortedPairs (at : ℕ) (fields : List ℕ) : Type 0 where
   pub fit : AllByRecursion (λ pair. FitsSigned w32 pair.0 × IsFar at pair.1) pairs
   pub unsorted : AllPairs (λ a b. a.0 <ℤ b.0) pairs → ⊥
 
--- wide stands before these alone
+-- wide comes before these alone
 abbrev pub HasWideForm : Form → Type 0
 HasWideForm form = (form ≡ Slot) ⊎ (form ≡ SlotAndByte)
 

@@ -53,7 +53,7 @@ impl VTypes {
         Ok(self.items.push(item)?)
     }
 
-    /// The types, lent.
+    /// The types, borrowed.
     pub fn as_slice(&self) -> &[VType]
         ensures { result.now ≡ self.now }
     {
@@ -61,16 +61,16 @@ impl VTypes {
     }
 }
 
-/// What a frame tells, after the one before it.
+/// The form of a frame, which may depend on the frame before it.
 #[derive(Debug, Drop)]
 pub enum Form {
     /// The same local variables, and no operands.
     Same,
     /// The same local variables, and one operand.
     Stack1(VType),
-    /// Without so many of the last local variables, and no operands.
+    /// Without the last n local variables, and no operands.
     Chop(u8),
-    /// With these local variables too, and no operands.
+    /// With these local variables after the others, and no operands.
     Append(VTypes),
     /// All local variables, and all operands, the bottom first.
     Full(VTypes, VTypes),
@@ -116,7 +116,7 @@ impl Frames {
         Ok(self.items.push(item)?)
     }
 
-    /// The frames, lent.
+    /// The frames, borrowed.
     pub fn as_slice(&self) -> &[Frame]
         ensures { result.now ≡ self.now }
     {

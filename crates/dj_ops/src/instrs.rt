@@ -30,7 +30,7 @@ impl Instrs {
         }
     }
 
-    /// No instructions, with room for so many.
+    /// No instructions, with room for this many.
     pub fn with_capacity(alloc: Global, capacity: usize) -> Result<Instrs, NoMemory>
         ensures { IfOk result (λ instrs. instrs ≡ []) }
     {
@@ -54,7 +54,7 @@ impl Instrs {
         Ok(self.items.push(instr)?)
     }
 
-    /// The instructions, lent.
+    /// The instructions, borrowed.
     pub fn as_slice(&self) -> &[Instr]
         ensures { result.now ≡ self.now }
     {

@@ -45,7 +45,7 @@ pub enum Instr {
         default: i64,
         pairs: Pairs,
     },
-    /// A field or a method, but for invokeinterface and invokedynamic.
+    /// A field or a method, except by invokeinterface and invokedynamic.
     Member {
         op: u8,
         index: u16,

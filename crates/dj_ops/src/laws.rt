@@ -1,6 +1,6 @@
 ghost use Rattle.dj_ops.specs.Laws.{OneInstruction, WrittenSpells, WrittenStands, SpelledLength, NextAddress, OneRefusal, NoInstructionWhereRefused, InstructionOrRefusal};
 
-/// At an address stands one instruction at most.
+/// At an address there is at most one instruction.
 pub fn one_instruction()
     ensures { OneInstruction }
 {}
@@ -10,7 +10,7 @@ pub fn written_spells()
     ensures { WrittenSpells }
 {}
 
-/// What is written between other bytes stands there, so that it is read again.
+/// What is written between other bytes is read again at its place.
 pub fn written_stands()
     ensures { WrittenStands }
 {}
@@ -20,22 +20,22 @@ pub fn spelled_length()
     ensures { SpelledLength }
 {}
 
-/// The address after an instruction is as far on as it is long.
+/// The address after an instruction is its own address and its length.
 pub fn next_address()
     ensures { NextAddress }
 {}
 
-/// An address of bytes has one refusal at most.
+/// At an address there is at most one refusal.
 pub fn one_refusal()
     ensures { OneRefusal }
 {}
 
-/// Where a refusal is no instruction stands.
+/// Where there is a refusal there is no instruction.
 pub fn no_instruction_where_refused()
     ensures { NoInstructionWhereRefused }
 {}
 
-/// An address of bytes has an instruction or a refusal.
+/// At an address there is an instruction or a refusal.
 pub fn instruction_or_refusal()
     ensures { InstructionOrRefusal }
 {}

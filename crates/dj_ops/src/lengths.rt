@@ -1,6 +1,7 @@
 ghost use Rattle.std.specs.Prelude.{◌≡◌, ◌+◌, ◌*◌, ◌^◌, ◌<◌, unwrap_or};
-ghost use Rattle.dj_ops.specs.Forms.{form_of, operand_count};
-ghost use Rattle.dj_ops.specs.Instructions.{IsProper, padding_count, length_at};
+ghost use Rattle.dj_ops.specs.trusted.Forms.{form_of};
+ghost use Rattle.dj_ops.specs.Forms.{operand_count};
+ghost use Rattle.dj_ops.specs.trusted.Instructions.{IsProper, padding_count, length_at};
 
 use crate::instruction::Instr;
 
@@ -26,8 +27,8 @@ pub fn length(instr: &Instr, at: u32) -> u32
     }
 }
 
-/// How many bytes follow an opcode, where it alone tells that, and else 0.
-#[tactic(auto, unfolding(crate::specs::Forms::form_of))]
+/// How many bytes follow an opcode, where the opcode alone decides that, and else 0.
+#[tactic(auto, unfolding(crate::specs::trusted::Forms::form_of))]
 fn operand_length(op: u8) -> u32
     ensures { result ≡ unwrap_or (operand_count (form_of op)) 0 }
 {
@@ -40,7 +41,7 @@ fn operand_length(op: u8) -> u32
     }
 }
 
-/// The bytes of a switch with so many bytes before the entries, and of so many entries.
+/// The bytes of a switch with this many bytes before the entries, and of this many entries.
 fn switch_length(at: u32, head: u32, count: usize, each: u32) -> u32
     requires fits { at + (1 + padding_count at + head + count * each) < 2 ^ 32 }
     requires some { 0 < each }

@@ -7,6 +7,7 @@ mod instruction;
 mod laws;
 mod lengths;
 mod lists;
+mod matches;
 mod operands;
 mod read;
 mod rows;
@@ -25,6 +26,6 @@ pub use laws::{
 pub use lengths::length;
 pub use lists::{NoMemory, Pairs, Targets};
 pub use read::{OpError, read_instr};
-pub use rows::{CatchRow, Rows};
+pub use rows::{CatchRow, CatchRows};
 pub use starts::Starts;
 pub use write::write_instr;

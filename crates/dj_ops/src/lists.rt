@@ -1,5 +1,8 @@
 ghost use Rattle.std.specs.Prelude.{◌≡◌, List, [], ◌∷◌, ◌++◌, OnOk, OnErr};
+ghost use Rattle.dj_ops.specs.trusted.Lookups.{rises};
+ghost use Rattle.dj_ops.specs.Lookups.{first_target};
 
+use crate::matches::{is_above_last, is_rising, target_by_halving, target_in_turn};
 use std::alloc::{AllocError, AllocFailed, Global};
 use std::marker::Model;
 use thiserror::Error;
@@ -55,7 +58,7 @@ impl Targets {
         }
     }
 
-    /// The targets of a vector.
+    /// The targets in this vector.
     pub fn from_vec(targets: Vec<i64>) -> Targets
         ensures { result ≡ targets.items }
     {
@@ -70,7 +73,7 @@ impl Targets {
         Ok(self.targets.push(item)?)
     }
 
-    /// The targets, lent.
+    /// The targets, borrowed.
     pub fn as_slice(&self) -> &[i64]
         ensures { result.now ≡ self.now }
     {
@@ -82,14 +85,19 @@ impl Targets {
 #[derive(Debug, Drop)]
 pub struct Pairs {
     pairs: Vec<(i32, i64)>,
+    // Whether each match is below the next, as in every lookup that is read: a target is then found by halving.
+    rising: bool,
 }
 
 impl Model for Pairs {
-    ghost use Rattle.std.specs.Prelude.{List, ℤ};
+    ghost use Rattle.std.specs.Prelude.{◌≡◌, List, ℤ};
+    ghost use Rattle.dj_ops.specs.trusted.Lookups.{rises};
 
     ghost Value = { List (ℤ × ℤ) };
 
     ghost view = { λ pairs. pairs.pairs.items };
+
+    ghost invariant = { λ pairs. pairs.rising ≡ rises pairs.pairs.items };
 }
 
 impl Pairs {
@@ -99,14 +107,16 @@ impl Pairs {
     {
         Pairs {
             pairs: Vec::new(alloc),
+            rising: true,
         }
     }
 
-    /// The pairs of a vector.
+    /// The pairs in this vector.
     pub fn from_vec(pairs: Vec<(i32, i64)>) -> Pairs
         ensures { result ≡ pairs.items }
     {
-        Pairs { pairs }
+        let rising = is_rising(&pairs);
+        Pairs { pairs, rising }
     }
 
     /// Appends a match and its target.
@@ -114,10 +124,31 @@ impl Pairs {
         ensures ok { OnOk result (self.new ≡ self.old ++ item ∷ []) }
         ensures err { OnErr result (self.new ≡ self.old) }
     {
-        Ok(self.pairs.push(item)?)
+        let rising = self.rising && is_above_last(&self.pairs, item);
+        self.pairs.push(item)?;
+        self.rising = rising;
+        Ok(())
     }
 
-    /// The pairs, lent.
+    /// Whether each match is below the next.
+    pub(crate) fn rises(&self) -> bool
+        ensures { result ≡ rises self.now }
+    {
+        self.rising
+    }
+
+    /// The target of the first pair with the match.
+    pub fn target_of(&self, wanted: i32) -> Option<i64>
+        ensures { result ≡ first_target self.now wanted }
+    {
+        if self.rising {
+            target_by_halving(&self.pairs, wanted)
+        } else {
+            target_in_turn(&self.pairs, wanted)
+        }
+    }
+
+    /// The pairs, borrowed.
     pub fn as_slice(&self) -> &[(i32, i64)]
         ensures { result.now ≡ self.now }
     {

@@ -1,6 +1,6 @@
 ghost use Rattle.dj_bytes.specs.Steps.{Gives};
 ghost use Rattle.dj_bytes.specs.Views.{cursor_of};
-ghost use Rattle.dj_ops.specs.Forms.{form_of};
+ghost use Rattle.dj_ops.specs.trusted.Forms.{form_of};
 ghost use Rattle.dj_ops.specs.Reading.{is_memory, s1_at, s2_at, s4_at, byte_push_at, short_push_at, short_literal_at, long_literal_at, local_at, increment_at, short_branch_at, long_branch_at, member_at, class_at, index_and_two_at, interface_at, dynamic_at, array_at, multi_at, wide_local_at, wide_increment_at, wide_form_at, wide_at};
 
 use crate::instruction::Instr;
@@ -236,7 +236,7 @@ fn read_wide_increment(cursor: Cursor<'_>) -> Result<(Instr, Cursor<'_>), OpErro
     Ok((increment, after))
 }
 
-#[tactic(auto, unfolding(crate::specs::Forms::form_of))]
+#[tactic(auto, unfolding(crate::specs::trusted::Forms::form_of))]
 fn read_wide_form(op: u8, cursor: Cursor<'_>) -> Result<(Instr, Cursor<'_>), OpError>
     ensures { Gives is_memory (λ x. (x.0, cursor_of x.1)) result (wide_form_at (form_of op) op (cursor_of cursor.entry)) }
 {

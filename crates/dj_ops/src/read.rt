@@ -3,8 +3,8 @@ ghost use Rattle.dj_bytes.specs.Steps.{Gives};
 ghost use Rattle.dj_bytes.specs.Views.{cursor_of};
 ghost use Rattle.dj_ops.specs.declared.instruction.Instr.{Instr};
 ghost use Rattle.dj_ops.specs.declared.instruction.Instr.TheVariants.{Simple};
-ghost use Rattle.dj_ops.specs.Forms.{Bare, form_of};
-ghost use Rattle.dj_ops.specs.Instructions.{Stands};
+ghost use Rattle.dj_ops.specs.trusted.Forms.{Bare, form_of};
+ghost use Rattle.dj_ops.specs.trusted.Instructions.{Stands};
 ghost use Rattle.dj_ops.specs.Refusals.{Refuses, IsRefused, Yields};
 ghost use Rattle.dj_ops.specs.Reading.{is_memory, operands_at, instr_at};
 
@@ -70,13 +70,13 @@ impl<T: Drop> From<AllocFailed<T>> for OpError {
 pub fn read_instr(alloc: Global, code: &[u8], at: u32) -> Result<(Instr, u32), OpError>
     requires within { at < length code.now }
     requires few { length code.now < 2 ^ 32 }
-    // What is read stands there.
+    // What is read is at this place.
     ensures read { IfOk result (λ x. Stands code.now at x.0 x.1) }
-    // What stands there is read.
+    // What is at this place is read.
     ensures all_read { (instr : Instr) (next : ℕ) → Stands code.now at instr next → Yields result (Ok (instr, next)) }
     // A refusal has its cause.
     ensures refused { IfErr result (IsRefused code.now at) }
-    // Where a cause is, that refusal comes.
+    // Where there is a cause, there is that refusal.
     ensures all_refused { (e : OpError) → Refuses code.now at e → Yields result (Err e) }
 {
     let cursor = Cursor::at(code, at);
@@ -90,7 +90,7 @@ pub fn read_instr(alloc: Global, code: &[u8], at: u32) -> Result<(Instr, u32), O
 }
 
 /// Whether the opcode is of an instruction that has no operands.
-#[tactic(auto, unfolding(crate::specs::Forms::form_of))]
+#[tactic(auto, unfolding(crate::specs::trusted::Forms::form_of))]
 fn is_bare(op: u8) -> bool
     ensures { IsTrue result → form_of op ≡ Bare }
 {
@@ -121,7 +121,7 @@ fn instr_from(alloc: Global, cursor: Cursor<'_>) -> Result<(Instr, Cursor<'_>), 
 }
 
 /// What follows an opcode at an address.
-#[tactic(auto, unfolding(crate::specs::Forms::form_of))]
+#[tactic(auto, unfolding(crate::specs::trusted::Forms::form_of))]
 fn operands_of(
     alloc: Global,
     at: u32,

@@ -12,17 +12,17 @@ pub struct CatchRow {
     /// The address after the range.
     pub end: u16,
     pub handler: u16,
-    /// The index of the class that is caught, or 0 for any.
+    /// The index of the class that is caught, or 0 for every class.
     pub catch_type: u16,
 }
 
 /// The rows of an exception table, in its order.
 #[derive(Debug, Drop)]
-pub struct Rows {
+pub struct CatchRows {
     rows: Vec<CatchRow>,
 }
 
-impl Model for Rows {
+impl Model for CatchRows {
     ghost use Rattle.std.specs.Prelude.{List};
     ghost use Rattle.dj_ops.specs.declared.rows.CatchRow.{CatchRow};
 
@@ -31,21 +31,21 @@ impl Model for Rows {
     ghost view = { λ rows. rows.rows.items };
 }
 
-impl Rows {
+impl CatchRows {
     /// No rows.
-    pub fn new(alloc: Global) -> Rows
+    pub fn new(alloc: Global) -> CatchRows
         ensures { result ≡ [] }
     {
-        Rows {
+        CatchRows {
             rows: Vec::new(alloc),
         }
     }
 
     /// The rows of a vector.
-    pub fn from_vec(rows: Vec<CatchRow>) -> Rows
+    pub fn from_vec(rows: Vec<CatchRow>) -> CatchRows
         ensures { result ≡ rows.items }
     {
-        Rows { rows }
+        CatchRows { rows }
     }
 
     /// Appends a row.
@@ -56,7 +56,7 @@ impl Rows {
         Ok(self.rows.push(row)?)
     }
 
-    /// The rows, lent.
+    /// The rows, borrowed.
     pub fn as_slice(&self) -> &[CatchRow]
         ensures { result.now ≡ self.now }
     {

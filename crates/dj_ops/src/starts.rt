@@ -43,7 +43,7 @@ impl Starts {
         Ok(self.starts.push(item)?)
     }
 
-    /// The addresses, lent.
+    /// The addresses, borrowed.
     pub fn as_slice(&self) -> &[u32]
         ensures { result.now ≡ self.now }
     {

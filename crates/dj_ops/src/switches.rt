@@ -1,9 +1,9 @@
-ghost use Rattle.std.specs.Prelude.{◌≡◌, ℕ, ◌+◌, ◌-ℤ◌, int_lt, unsigned_abs};
+ghost use Rattle.std.specs.Prelude.{◌≡◌, ℕ, ◌+◌, ◌-ℤ◌, unsigned_abs};
 ghost use Rattle.dj_bytes.specs.Steps.{Gives};
 ghost use Rattle.dj_bytes.specs.Reading.{many_at};
 ghost use Rattle.dj_bytes.specs.Views.{cursor_of};
-ghost use Rattle.dj_ops.specs.Instructions.{padding_count};
-ghost use Rattle.dj_ops.specs.Reading.{is_memory, cut, target_at, pair_at, bounds_at, count_at, table_from, lookup_from, padded_at, rises};
+ghost use Rattle.dj_ops.specs.trusted.Instructions.{padding_count};
+ghost use Rattle.dj_ops.specs.Reading.{is_memory, cut, target_at, pair_at, bounds_at, count_at, table_from, lookup_from, padded_at};
 ghost use Rattle.dj_bytes.specs.Reading.{block_at};
 
 use crate::instruction::Instr;
@@ -123,25 +123,6 @@ fn read_table_from(
     ))
 }
 
-/// Whether the first match is below the second.
-fn is_below(a: &(i32, i64), b: &(i32, i64)) -> bool
-    ensures { result ≡ int_lt a.now.0 b.now.0 }
-{
-    a.0 < b.0
-}
-
-/// Whether each match is below the next.
-fn is_rising(pairs: &[(i32, i64)]) -> bool
-    ensures { result ≡ rises pairs.now }
-{
-    for i in 1..pairs.len() {
-        if !is_below(&pairs[i - 1], &pairs[i]) {
-            return false;
-        }
-    }
-    true
-}
-
 /// What follows lookupswitch and its padding.
 #[tactic(auto, unfolding(crate::specs::Reading::lookup_from))]
 fn read_lookup_from(
@@ -156,10 +137,10 @@ fn read_lookup_from(
         return Err(OpError::BadOperand);
     }
     let (pairs, after) = read_pair_list(alloc, at, count.unsigned_abs(), after)?;
-    if !is_rising(&pairs) {
+    let pairs = Pairs::from_vec(pairs);
+    if !pairs.rises() {
         return Err(OpError::BadOperand);
     }
-    let pairs = Pairs::from_vec(pairs);
     Ok((Instr::Lookup { default, pairs }, after))
 }
 

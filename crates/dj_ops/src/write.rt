@@ -1,8 +1,9 @@
 ghost use Rattle.std.specs.Prelude.{◌+◌, ◌^◌, ◌<◌, FitsSigned, [], ◌∷◌};
 ghost use Rattle.std.specs.Int.{w16};
-ghost use Rattle.dj_bytes.specs.Spelling.{u2, s2, s4};
-ghost use Rattle.dj_ops.specs.Forms.{form_of};
-ghost use Rattle.dj_ops.specs.Instructions.{signed_bytes, IsPushed, IsOffset, literal_bytes, IsLiteral, IsLocal, IsIncrement, IsProper, IsFar, AreOffsets, offset, written, length_at, Appended};
+ghost use Rattle.dj_bytes.specs.trusted.Spelling.{u2, s2, s4};
+ghost use Rattle.dj_ops.specs.trusted.Forms.{form_of};
+ghost use Rattle.dj_ops.specs.trusted.Instructions.{signed_bytes, IsPushed, IsOffset, literal_bytes, IsLiteral, IsLocal, IsIncrement, IsProper, IsFar, AreOffsets, offset, written, length_at};
+ghost use Rattle.dj_ops.specs.Instructions.{Appended};
 ghost use Rattle.dj_ops.specs.declared.instruction.Instr.TheVariants as instrs;
 
 use crate::instruction::Instr;
@@ -62,7 +63,7 @@ fn write_index(op: u8, index: u16, out: &mut Vec<u8>) -> Result<(), OpError>
 }
 
 /// bipush and sipush.
-#[tactic(auto, unfolding(crate::specs::Forms::form_of))]
+#[tactic(auto, unfolding(crate::specs::trusted::Forms::form_of))]
 fn write_push(op: u8, value: i16, out: &mut Vec<u8>) -> Result<(), OpError>
     requires { IsPushed (form_of op) value }
     ensures { Appended result out.old.items out.new.items (op ∷ signed_bytes (form_of op) value) }
@@ -75,7 +76,7 @@ fn write_push(op: u8, value: i16, out: &mut Vec<u8>) -> Result<(), OpError>
 }
 
 /// ldc, ldc_w and ldc2_w.
-#[tactic(auto, unfolding(crate::specs::Forms::form_of))]
+#[tactic(auto, unfolding(crate::specs::trusted::Forms::form_of))]
 fn write_literal(op: u8, index: u16, out: &mut Vec<u8>) -> Result<(), OpError>
     requires { IsLiteral (form_of op) index }
     ensures { Appended result out.old.items out.new.items (op ∷ literal_bytes (form_of op) index) }

@@ -1,14 +1,15 @@
 ghost use Rattle.std.specs.Prelude.{◌≡◌, ◌+◌, ◌<◌, ◌++◌, replicate, OnOk};
 ghost use Rattle.std.specs.List.{flat_map, AllByRecursion};
-ghost use Rattle.dj_bytes.specs.Spelling.{s4};
-ghost use Rattle.dj_ops.specs.Instructions.{IsTable, IsLookup, IsFar, offset, high_of, target_bytes, pair_bytes, written, padding_count, Appended};
+ghost use Rattle.dj_bytes.specs.trusted.Spelling.{s4};
+ghost use Rattle.dj_ops.specs.trusted.Instructions.{IsTable, IsLookup, IsFar, offset, high_of, target_bytes, pair_bytes, written, padding_count};
+ghost use Rattle.dj_ops.specs.Instructions.{Appended};
 ghost use Rattle.dj_ops.specs.declared.instruction.Instr.TheVariants as instrs;
 
 use crate::read::OpError;
 use crate::write::put;
 use std::alloc::AllocError;
 
-/// The way from an address to a target.
+/// The distance from an address to a target.
 pub fn offset_of(at: u32, target: i64) -> i32
     requires { IsFar at target }
     ensures { result ≡ offset at target }

@@ -5,13 +5,14 @@ use Rattle.std.specs.List.{list_all}
 use Rattle.std.proofs.lemmas.Bool.{and_parts}
 use Rattle.std.proofs.lemmas.Bool.Decides.{nat_tests}
 use Rattle.dj_bytes.proofs.Bytes.{IsBytes}
-use Rattle.dj_names.specs.NameReading.{reads_class_name}
-use Rattle.dj_names.specs.DescReading.{dims_read, name_read, class_read, of_read, type_read, params_read, field_read, return_read, method_read}
-use Rattle.dj_names.specs.UnitReading.{unit_read, long_read, two_read, three_read}
-use Rattle.dj_names.specs.Tests.{unqualified_name_test, method_name_test, class_name_test, units_read, modified_utf8_test, field_descriptor_test, method_descriptor_test, array_descriptor_test}
+use Rattle.dj_names.specs.trusted.NameReading.{reads_class_name}
+use Rattle.dj_names.specs.trusted.DescReading.{dims_read, name_read, class_read, of_read, type_read, params_read, field_read, return_read, method_read}
+use Rattle.dj_names.specs.trusted.UnitReading.{unit_read, long_read, two_read, three_read}
+use Rattle.dj_names.specs.trusted.Tests.{units_read}
+use Rattle.dj_names.specs.Tests.{unqualified_name_test, method_name_test, class_name_test, modified_utf8_test, field_descriptor_test, method_descriptor_test, array_descriptor_test}
 use Rattle.dj_pool.specs.declared.pool.PoolError.{PoolError}
 use Rattle.dj_pool.specs.declared.pool.PoolError.TheVariants as pool_errors
-use Rattle.dj_pool.specs.Pool.{Constant, Utf8, Text}
+use Rattle.dj_pool.specs.trusted.Pool.{Constant, Utf8, Text}
 use Rattle.dj_pool.specs.Answers.{ReadsPool}
 use Rattle.dj_pool.specs.Reading.{utf8_at, number4_at, number8_at, named_at, paired_at, handle_at, untagged_at, constant_at_cursor, slot_at, slots_at, first_unlinked, linked_slots_at, pool_at, pool_from}
 use Rattle.dj_pool.proofs.Decides.{tests_decide}
@@ -43,7 +44,7 @@ other-read_not : ReadsPool class_bytes 1 (Ok (Text 2 ∷ Utf8 (codes "A") ∷ []
 unfolding class_pool
 other-read_not h = let same = (good-read_alone _ 10 h).0 in absurd cc
 
--- nothing is told to be wrong with it but that memory ran out
+-- nothing is reported to be wrong with it but that memory ran out
 good-refused : (e : PoolError) → ReadsPool class_bytes 1 (Err e) → e ≡ pool_errors.Memory
 good-refused pool_errors.Memory h = refl
 good-refused (pool_errors.Cut place) h = absurd (no_pool_where_fault class_bytes 1 class_pool 10 (pool_errors.Cut place) class_pool-stands h)
@@ -64,7 +65,7 @@ elsewhere-read_not pool next h = no_pool_where_fault class_bytes 0 pool next _ h
 
 -- ---- faults
 
--- both classes name a text that is not there: the first is told
+-- both classes name a text that is not there: the first is reported
 two_unlinked : List ℕ
 two_unlinked = 0 ∷ 3 ∷ 7 ∷ 0 ∷ 9 ∷ 7 ∷ 0 ∷ 9 ∷ []
 

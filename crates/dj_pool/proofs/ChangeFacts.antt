@@ -2,12 +2,12 @@
 use Rattle.std.proofs.Common.{◌≡◌, ℕ, ◌+◌, ◌<◌, ◌≤◌, ◌^◌, true, false, List, [], ◌∷◌, ◌++◌, length, replicate, Some, Ok, Err, pos, refl, sym, ap, ◌∙◌, arith}
 use Rattle.std.specs.Prelude.{codes, slice_set}
 use Rattle.std.proofs.lemmas.List.{length-replicate}
-use Rattle.dj_names.specs.Descriptors.{IsFieldDescriptor, IsMethodDescriptor}
-use Rattle.dj_names.specs.NameReading.{reads_class_name}
-use Rattle.dj_names.specs.DescReading.{dims_read, name_read, class_read, of_read, type_read, params_read, field_read, return_read, method_read}
+use Rattle.dj_names.specs.trusted.Descriptors.{IsFieldDescriptor, IsMethodDescriptor}
+use Rattle.dj_names.specs.trusted.NameReading.{reads_class_name}
+use Rattle.dj_names.specs.trusted.DescReading.{dims_read, name_read, class_read, of_read, type_read, params_read, field_read, return_read, method_read}
 use Rattle.dj_names.specs.Tests.{unqualified_name_test, method_name_test, class_name_test, field_descriptor_test, method_descriptor_test, array_descriptor_test}
 use Rattle.dj_pool.specs.declared.append.AppendError.TheVariants as append_errors
-use Rattle.dj_pool.specs.Pool.{Constant, Utf8, Integer, Long, Double, Class, Field, NameAndType, MethodType, Hole, indexed, text_at, desc_at, NamesText, NamesDesc, IsLinked}
+use Rattle.dj_pool.specs.trusted.Pool.{Constant, Utf8, Integer, Long, Double, Class, Field, NameAndType, MethodType, Hole, indexed, text_at, desc_at, NamesText, NamesDesc, IsLinked}
 use Rattle.dj_pool.specs.Tests.{passes, is_linked}
 use Rattle.dj_pool.specs.Laws.{KeepsKind}
 use Rattle.dj_pool.specs.Answers.{Appends, last_index, with_text, MayHaveText, Redirects}
@@ -19,7 +19,7 @@ use Rattle.dj_pool.proofs.Decides.{tests_decide, link_decides, passes_takes, pas
 last_index-fits : (last_index + 1 < 2 ^ 16) × (2 ^ 16 ≤ last_index + 2)
 last_index-fits = (omega arith, omega arith)
 
--- so many ints
+-- this many ints
 ints : ℕ → List Constant
 ints n = replicate n (Integer (pos 0))
 

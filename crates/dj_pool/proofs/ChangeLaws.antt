@@ -4,9 +4,10 @@ use Rattle.std.specs.Prelude.{⊤, slice_get, option_map, option_and_then}
 use Rattle.std.specs.List.{AllByRecursion}
 use Rattle.std.proofs.lemmas.Option.{slice_get-map, slice_get-get_or, slice_get_within}
 use Rattle.std.proofs.lemmas.List.{map-set, length-map}
-use Rattle.dj_names.specs.Names.{IsUnqualifiedName, IsMethodName}
-use Rattle.dj_names.specs.Descriptors.{IsFieldDescriptor, IsMethodDescriptor}
-use Rattle.dj_pool.specs.Pool.{Constant, Utf8, Integer, Float, Long, Double, Class, Text, Field, Method, InterfaceMethod, NameAndType, Handle, MethodType, Dynamic, Hole, takes_two, indexed, constant_at, text_of, class_text_of, names_of, member_of, text_at, class_name_at, name_and_type_at, member_at, desc_at, both, IsClassText, NamesText, NamesAnyClass, NamesMember, NamesDesc, AreNames, IsLinked, IsConstant, IsPool}
+use Rattle.dj_names.specs.trusted.Names.{IsUnqualifiedName, IsMethodName}
+use Rattle.dj_names.specs.trusted.Descriptors.{IsFieldDescriptor, IsMethodDescriptor}
+use Rattle.dj_pool.specs.trusted.Pool.{Constant, Utf8, Integer, Float, Long, Double, Class, Text, Field, Method, InterfaceMethod, NameAndType, Handle, MethodType, Dynamic, Hole, takes_two, indexed, constant_at, text_of, class_text_of, names_of, member_of, text_at, class_name_at, name_and_type_at, desc_at, both, IsClassText, NamesText, NamesAnyClass, NamesMember, NamesDesc, AreNames, IsLinked, IsConstant, IsPool}
+use Rattle.dj_pool.specs.Pool.{member_at}
 use Rattle.dj_pool.specs.declared.pool.Entry.{Entry}
 use Rattle.dj_pool.specs.Views.{constant_of}
 use Rattle.dj_pool.specs.Answers.{with_text, HasText, MayHaveText, Redirects}

@@ -1,4 +1,4 @@
--- One constant that is not read: the first fault is told, and told only where it is.
+-- One constant that is not read: the first fault is reported, and reported only where it is.
 use Rattle.std.proofs.Common.{◌≡◌, ℕ, ◌+◌, ◌^◌, ◌<◌, ◌⊎◌, ◌||◌, Bool, true, false, eqb, ℤ, pos, FitsSigned, List, [], ◌∷◌, ◌++◌, length, replicate, Contains, Result, Ok, Err, refl, sym, ap, subst, ◌∙◌, append_assoc, arith, inl, inr}
 use Rattle.std.specs.Prelude.{slice_index_or}
 use Rattle.std.specs.List.{flat_map, AllByRecursion}
@@ -7,7 +7,7 @@ use Rattle.std.proofs.lemmas.Bool.{eqb-true}
 use Rattle.std.proofs.lemmas.Int.{ints}
 use Rattle.std.proofs.lemmas.List.{length-append, length-replicate, append-nil}
 use Rattle.std.proofs.lemmas.List.Elements.{All-from_recursion}
-use Rattle.dj_bytes.specs.Spelling.{u1, u2, u4, u8, s4, s8}
+use Rattle.dj_bytes.specs.trusted.Spelling.{u1, u2, u4, u8, s4, s8}
 use Rattle.dj_bytes.specs.Steps.{◌>>=◌}
 use Rattle.dj_bytes.specs.Reading.{Cursor, block_at, u1_at, u2_at, u4_at, u8_at}
 use Rattle.dj_bytes.specs.Faults.{after, IsCut}
@@ -16,11 +16,11 @@ use Rattle.dj_bytes.proofs.Steps.{bind_again, bind_err, bind_fails, cond_either,
 use Rattle.dj_bytes.proofs.Spans.{Spans, IsBytes-Spans, Reads, step_again}
 use Rattle.dj_bytes.proofs.Numbers.{u1_reads, u2_reads, u4_reads, u8_reads, block_reads}
 use Rattle.dj_bytes.proofs.FaultLaws.{Refuses, after-Spans, u1_refuses, u2_refuses, u4_refuses, u8_refuses, block_refuses}
-use Rattle.dj_names.specs.ModifiedUtf8.{IsModifiedUtf8}
+use Rattle.dj_names.specs.trusted.ModifiedUtf8.{IsModifiedUtf8}
 use Rattle.dj_names.specs.Tests.{modified_utf8_test}
 use Rattle.dj_pool.specs.declared.pool.PoolError.{PoolError}
 use Rattle.dj_pool.specs.declared.pool.PoolError.TheVariants as pool_errors
-use Rattle.dj_pool.specs.Pool.{Constant, Utf8, Integer, Float, Long, Double, Class, Text, Field, Method, InterfaceMethod, NameAndType, Handle, MethodType, Dynamic, Hole, constant_bytes}
+use Rattle.dj_pool.specs.trusted.Pool.{Constant, Utf8, Integer, Float, Long, Double, Class, Text, Field, Method, InterfaceMethod, NameAndType, Handle, MethodType, Dynamic, Hole, constant_bytes}
 use Rattle.dj_pool.specs.Faults.{tags, items_of, IsSized, IsNoText, ConstantFault}
 use Rattle.dj_pool.specs.Reading.{utf8_at, number4, number4_at, number8, number8_at, named, named_at, paired, paired_at, handle_at, is_named, is_paired, untagged_at, constant_at_cursor}
 use Rattle.dj_pool.proofs.Decides.{TestsDecide}
@@ -29,9 +29,9 @@ use Rattle.dj_pool.proofs.ConstantLaws.{at_one, at_two, at_named, at_paired}
 abbrev pub joined : List (List ℕ) → List ℕ
 joined items = flat_map (λ (i : List ℕ). i) items
 
--- ---- a fault in the items is told
+-- ---- a fault in the items is reported
 
--- where some of the items stand, and the next is not there whole, the reader tells its place
+-- where some of the items stand, and the next is not there whole, the reader reports its place
 pub record Cuts {X : Type 0} (part : Cursor → Result X PoolError) (items : List (List ℕ)) : Type 0 where
   pub cut : (before : List (List ℕ)) (item : List ℕ) (later : List (List ℕ)) → items ≡ before ++ item ∷ later → (c : Cursor) (rest : List ℕ) → c.rest ≡ joined before ++ rest → length rest < length item
       → part c ≡ Err (pool_errors.Cut (c.place + length (joined before)))

@@ -3,7 +3,7 @@ use Rattle.std.proofs.Common.{◌≡◌, ℕ, ◌^◌, ◌<◌, ◌||◌, true, 
 use Rattle.std.specs.Int.{w32, w64, cast_signed, cast_unsigned}
 use Rattle.std.proofs.lemmas.Bool.{eqb-true, or_cases}
 use Rattle.std.proofs.lemmas.Int.{of_z-to_z, to_z-of_z, ints}
-use Rattle.dj_bytes.specs.Spelling.{u1, u2, u4, u8, s4, s8}
+use Rattle.dj_bytes.specs.trusted.Spelling.{u1, u2, u4, u8, s4, s8}
 use Rattle.dj_bytes.specs.Steps.{◌>>=◌}
 use Rattle.dj_bytes.specs.Reading.{Cursor, u1_at, u2_at, u4_at, u8_at}
 use Rattle.dj_bytes.proofs.Bytes.{IsBytes}
@@ -12,7 +12,7 @@ use Rattle.dj_bytes.proofs.Spans.{Spans, Spans-then, Reads, step_takes, step_aga
 use Rattle.dj_bytes.proofs.Numbers.{u1_reads, u2_reads, u4_reads, u8_reads, block_reads}
 use Rattle.dj_pool.specs.declared.pool.PoolError.{PoolError}
 use Rattle.dj_pool.specs.declared.pool.PoolError.TheVariants as pool_errors
-use Rattle.dj_pool.specs.Pool.{Constant, Utf8, Integer, Float, Long, Double, Class, Text, Field, Method, InterfaceMethod, NameAndType, Handle, MethodType, Dynamic, Hole, constant_bytes, IsWhole}
+use Rattle.dj_pool.specs.trusted.Pool.{Constant, Utf8, Integer, Float, Long, Double, Class, Text, Field, Method, InterfaceMethod, NameAndType, Handle, MethodType, Dynamic, Hole, constant_bytes, IsWhole}
 use Rattle.dj_pool.specs.Reading.{utf8_at, number4_at, number8_at, named_at, paired_at, handle_at, is_named, is_paired, untagged_at, constant_at_cursor}
 use Rattle.dj_pool.proofs.Decides.{TestsDecide}
 

@@ -2,11 +2,11 @@
 use Rattle.std.proofs.Common.{◌≡◌, ℕ, Bool, true, false, ◌&&◌, ◌||◌, ◌↔◌, ◌⊎◌, List, Option, Some, None, IsTrue, IsSomeAnd, is_some, refl, inl, inr}
 use Rattle.std.specs.Prelude.{⊤, option_and_then}
 use Rattle.dj_names.specs.Tests.{unqualified_name_test, method_name_test, class_name_test, modified_utf8_test, field_descriptor_test, method_descriptor_test, array_descriptor_test}
-use Rattle.dj_names.specs.ModifiedUtf8.{IsModifiedUtf8}
-use Rattle.dj_names.specs.Names.{IsUnqualifiedName, IsMethodName, IsClassName}
-use Rattle.dj_names.specs.Descriptors.{IsFieldDescriptor, IsMethodDescriptor, IsArrayDescriptor}
+use Rattle.dj_names.specs.trusted.ModifiedUtf8.{IsModifiedUtf8}
+use Rattle.dj_names.specs.trusted.Names.{IsUnqualifiedName, IsMethodName, IsClassName}
+use Rattle.dj_names.specs.trusted.Descriptors.{IsFieldDescriptor, IsMethodDescriptor, IsArrayDescriptor}
 use Rattle.dj_names.proofs.TestLaws.{unqualified_name_test-decides, method_name_test-decides, class_name_test-decides, modified_utf8_test-decides, field_descriptor_test-decides, method_descriptor_test-decides, array_descriptor_test-decides}
-use Rattle.dj_pool.specs.Pool.{Constant, Utf8, Integer, Float, Long, Double, Class, Text, Field, Method, InterfaceMethod, NameAndType, Handle, MethodType, Dynamic, Hole, class_text_of, member_of, constant_at, text_at, desc_at, IsClassText, NamesText, NamesAnyClass, NamesMember, NamesDesc, AreNames, IsLinked}
+use Rattle.dj_pool.specs.trusted.Pool.{Constant, Utf8, Integer, Float, Long, Double, Class, Text, Field, Method, InterfaceMethod, NameAndType, Handle, MethodType, Dynamic, Hole, class_text_of, member_of, constant_at, text_at, desc_at, IsClassText, NamesText, NamesAnyClass, NamesMember, NamesDesc, AreNames, IsLinked}
 use Rattle.dj_pool.specs.Tests.{passes, class_text_test, text_passes, is_any_class, is_member, desc_passes, are_names, is_linked}
 
 -- a test that passes exactly what is so

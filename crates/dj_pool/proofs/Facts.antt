@@ -5,14 +5,16 @@ use Rattle.std.specs.List.{flat_map, list_any}
 use Rattle.std.specs.Int.{w64}
 use Rattle.std.proofs.lemmas.Int.{ints}
 use Rattle.dj_bytes.specs.Reading.{cursor_at}
-use Rattle.dj_names.specs.NameReading.{reads_class_name}
-use Rattle.dj_names.specs.DescReading.{dims_read, name_read, class_read, of_read, type_read, params_read, field_read, return_read, method_read}
-use Rattle.dj_names.specs.UnitReading.{unit_read, long_read, two_read, three_read}
-use Rattle.dj_names.specs.Tests.{unqualified_name_test, method_name_test, class_name_test, units_read, modified_utf8_test, field_descriptor_test, method_descriptor_test, array_descriptor_test}
+use Rattle.dj_names.specs.trusted.NameReading.{reads_class_name}
+use Rattle.dj_names.specs.trusted.DescReading.{dims_read, name_read, class_read, of_read, type_read, params_read, field_read, return_read, method_read}
+use Rattle.dj_names.specs.trusted.UnitReading.{unit_read, long_read, two_read, three_read}
+use Rattle.dj_names.specs.trusted.Tests.{units_read}
+use Rattle.dj_names.specs.Tests.{unqualified_name_test, method_name_test, class_name_test, modified_utf8_test, field_descriptor_test, method_descriptor_test, array_descriptor_test}
 use Rattle.dj_names.proofs.TestLaws.{class_name_test-decides}
 use Rattle.dj_pool.specs.declared.pool.PoolError.{PoolError}
 use Rattle.dj_pool.specs.declared.pool.PoolError.TheVariants as pool_errors
-use Rattle.dj_pool.specs.Pool.{Constant, Utf8, Integer, Float, Long, Double, Class, Text, Field, Method, InterfaceMethod, NameAndType, Handle, MethodType, Dynamic, Hole, indexed, constant_bytes, constant_at, text_at, class_name_at, name_and_type_at, member_at}
+use Rattle.dj_pool.specs.trusted.Pool.{Constant, Utf8, Integer, Float, Long, Double, Class, Text, Field, Method, InterfaceMethod, NameAndType, Handle, MethodType, Dynamic, Hole, indexed, constant_bytes, constant_at, text_at, class_name_at, name_and_type_at}
+use Rattle.dj_pool.specs.Pool.{member_at}
 use Rattle.dj_pool.specs.Faults.{tags, IsMislinked, PoolFault}
 use Rattle.dj_pool.specs.Answers.{IsPoolAt}
 use Rattle.dj_pool.specs.Tests.{is_linked, is_fit}

@@ -5,7 +5,7 @@ use Rattle.std.proofs.lemmas.Option.{slice_get-map, slice_get-get_or, slice_get_
 use Rattle.std.proofs.lemmas.List.{drop_all}
 use Rattle.dj_pool.specs.declared.pool.Entry.{Entry}
 use Rattle.dj_pool.specs.declared.kinds.TextKinds.{TextKinds}
-use Rattle.dj_pool.specs.Pool.{Constant, constant_at}
+use Rattle.dj_pool.specs.trusted.Pool.{Constant, constant_at}
 use Rattle.dj_pool.specs.Views.{constant_of}
 use Rattle.dj_pool.specs.Tests.{kinds_of, is_fit}
 use Rattle.dj_pool.specs.Reading.{first_unlinked}

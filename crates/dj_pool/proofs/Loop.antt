@@ -6,7 +6,7 @@ use Rattle.dj_bytes.proofs.Loop.{with_front, with_front-next}
 use Rattle.dj_bytes.specs.Steps.{◌>>=◌, Fails}
 use Rattle.dj_bytes.specs.Reading.{Cursor}
 use Rattle.dj_pool.specs.declared.pool.PoolError.{PoolError}
-use Rattle.dj_pool.specs.Pool.{Constant, takes_two}
+use Rattle.dj_pool.specs.trusted.Pool.{Constant, takes_two}
 use Rattle.dj_pool.specs.Memory.{pool_is_memory}
 use Rattle.dj_pool.specs.Reading.{slot_at, slots_at}
 

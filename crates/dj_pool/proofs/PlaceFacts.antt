@@ -1,10 +1,10 @@
 -- Which index each place of a constant takes: every place is tried with every index of a pool that has a constant of each kind.
 use Rattle.std.proofs.Common.{◌≡◌, ℕ, List, [], ◌∷◌, map, None, pos, refl}
 use Rattle.std.specs.Prelude.{codes, filter}
-use Rattle.dj_names.specs.NameReading.{reads_class_name}
-use Rattle.dj_names.specs.DescReading.{dims_read, name_read, class_read, of_read, type_read, params_read, field_read, return_read, method_read}
+use Rattle.dj_names.specs.trusted.NameReading.{reads_class_name}
+use Rattle.dj_names.specs.trusted.DescReading.{dims_read, name_read, class_read, of_read, type_read, params_read, field_read, return_read, method_read}
 use Rattle.dj_names.specs.Tests.{unqualified_name_test, method_name_test, class_name_test, field_descriptor_test, method_descriptor_test, array_descriptor_test}
-use Rattle.dj_pool.specs.Pool.{Constant, Utf8, Integer, Float, Long, Double, Class, Text, Field, Method, InterfaceMethod, NameAndType, Handle, MethodType, Dynamic, Hole}
+use Rattle.dj_pool.specs.trusted.Pool.{Constant, Utf8, Integer, Float, Long, Double, Class, Text, Field, Method, InterfaceMethod, NameAndType, Handle, MethodType, Dynamic, Hole}
 use Rattle.dj_pool.specs.Tests.{is_linked}
 use Rattle.dj_pool.specs.Reading.{first_unlinked}
 
@@ -46,7 +46,7 @@ method-takes : (takes (λ (i : ℕ). Method i 6) ≡ 2 ∷ 23 ∷ []) × (takes 
 unfolding takes each_pool each_index unqualified_name_test method_name_test class_name_test field_descriptor_test method_descriptor_test array_descriptor_test reads_class_name dims_read name_read class_read of_read type_read params_read field_read return_read method_read
 method-takes = (refl, refl)
 
--- the same of an interface's method
+-- the same for an interface's method
 interface_method-takes : (takes (λ (i : ℕ). InterfaceMethod i 6) ≡ 2 ∷ 23 ∷ []) × (takes (InterfaceMethod 2) ≡ 6 ∷ [])
 unfolding takes each_pool each_index unqualified_name_test method_name_test class_name_test field_descriptor_test method_descriptor_test array_descriptor_test reads_class_name dims_read name_read class_read of_read type_read params_read field_read return_read method_read
 interface_method-takes = (refl, refl)

@@ -1,4 +1,4 @@
--- A pool that is read where it stands is spelled there, one that is spelled there is read, and the fault that is told is the first.
+-- A pool that is read where it stands is spelled there, one that is spelled there is read, and the fault that is reported is the first.
 use Rattle.std.proofs.Common.{◌≡◌, ℕ, List, Result, Ok, Err, refl, ap, subst, inl, inr}
 use Rattle.dj_bytes.specs.Steps.{Gives}
 use Rattle.dj_bytes.specs.Reading.{Cursor, cursor_at}
@@ -8,7 +8,7 @@ use Rattle.dj_bytes.proofs.Spans.{step_takes}
 use Rattle.dj_pool.specs.declared.pool.PoolError.{PoolError}
 use Rattle.dj_pool.specs.declared.pool.PoolError.TheVariants as pool_errors
 use Rattle.dj_pool.specs.Memory.{pool_is_memory}
-use Rattle.dj_pool.specs.Pool.{Constant}
+use Rattle.dj_pool.specs.trusted.Pool.{Constant}
 use Rattle.dj_pool.specs.Faults.{PoolFault}
 use Rattle.dj_pool.specs.Answers.{IsPoolAt, ReadsPool}
 use Rattle.dj_pool.specs.Laws.{OnePool, OneFault, NoPoolWhereFault, PoolOrFault}

@@ -1,4 +1,4 @@
--- The pool: what is read is spelled so, what is spelled so is read, and the first fault is told exactly where it is.
+-- The pool: what is read is spelled so, what is spelled so is read, and the first fault is reported exactly where it is.
 use Rattle.std.proofs.Common.{◌≡◌, ℕ, zero, suc, ◌+◌, ◌-◌, ◌<◌, true, false, eqb, List, [], ◌∷◌, ◌++◌, length, take, Option, Some, None, Result, Ok, Err, refl, sym, ap, subst, ◌∙◌, arith, inl, inr}
 use Rattle.std.specs.Prelude.{slice_get}
 use Rattle.std.specs.List.{flat_map}
@@ -6,7 +6,7 @@ use Rattle.std.proofs.lemmas.Bool.{eqb-true}
 use Rattle.std.proofs.lemmas.Bool.Decides.{nat_tests}
 use Rattle.std.proofs.lemmas.List.{length-take, take_all}
 use Rattle.std.proofs.lemmas.Option.{slice_get_within}
-use Rattle.dj_bytes.specs.Spelling.{u2}
+use Rattle.dj_bytes.specs.trusted.Spelling.{u2}
 use Rattle.dj_bytes.specs.Reading.{Cursor}
 use Rattle.dj_bytes.specs.Faults.{after}
 use Rattle.dj_bytes.proofs.Bytes.{IsBytes}
@@ -16,7 +16,7 @@ use Rattle.dj_bytes.proofs.Numbers.{u2_reads}
 use Rattle.dj_bytes.proofs.FaultLaws.{Refuses, Spans-after, after-Spans, u2_refuses}
 use Rattle.dj_pool.specs.declared.pool.PoolError.{PoolError}
 use Rattle.dj_pool.specs.declared.pool.PoolError.TheVariants as pool_errors
-use Rattle.dj_pool.specs.Pool.{Constant, indexed, constant_bytes, pool_bytes, constant_at, IsPool}
+use Rattle.dj_pool.specs.trusted.Pool.{Constant, indexed, constant_bytes, pool_bytes, constant_at, IsPool}
 use Rattle.dj_pool.specs.Faults.{ConstantFault, IsAmongConstants, IsMislinked, IsUnlinked, ConstantsFault, PoolFault}
 use Rattle.dj_pool.specs.Tests.{is_fit}
 use Rattle.dj_pool.specs.Reading.{constant_at_cursor, slots_at, first_unlinked, linked, linked_slots_at, pool_at}
@@ -25,7 +25,7 @@ use Rattle.dj_pool.proofs.ConstantFaults.{constant_refuses}
 use Rattle.dj_pool.proofs.Slots.{AreSlots, HasSlots, slots_read, SlotsStop, slots_stop, slots_halt, slots_filled, by_width, prefix_slots, prefix_bytes}
 use Rattle.dj_pool.proofs.Links.{AreConstants, links_take, links_again, are_whole, IsFirst, first_takes, first_again, unfit_takes, unfit_again, fit_is_linked}
 
--- ---- so many indexes, all of them linked
+-- ---- this many indexes, all of them linked
 
 linked_ok : {A : Type 0} (x y : A) (o : Option ℕ) → linked x o ≡ Ok y → (o ≡ None) × (x ≡ y)
 linked_ok x y None h = (refl, cc)
@@ -39,7 +39,7 @@ linked_fails : {A : Type 0} (x : A) (o : Option ℕ) (m : ℕ) (e : PoolError) �
 linked_fails x None m e h told = absurd cc
 linked_fails x (Some i) m e h told = cc
 
--- so many indexes, with valid constants
+-- this many indexes, with valid constants
 abbrev pub AreLinked : ℕ → List Constant → Type 0
 AreLinked n ks = (length ks ≡ n) × AreConstants ks ks
 

@@ -2,8 +2,8 @@
 use Rattle.std.proofs.Common.{◌≡◌, ℕ, zero, suc, ◌-◌, ◌<◌, ◌^◌, Bool, true, false, List, [], ◌∷◌, set, length-set, Option, Some, None, IsSomeAnd, refl, sym, ap, subst, ◌∙◌, arith}
 use Rattle.std.specs.Prelude.{⊤, slice_get, option_and_then}
 use Rattle.std.specs.List.{AllByRecursion}
-use Rattle.dj_names.specs.Descriptors.{IsFieldDescriptor, IsMethodDescriptor}
-use Rattle.dj_pool.specs.Pool.{Constant, Utf8, Integer, Float, Long, Double, Class, Text, Field, Method, InterfaceMethod, NameAndType, Handle, MethodType, Dynamic, Hole, takes_two, indexed, constant_at, text_of, class_text_of, names_of, member_of, text_at, NamesText, NamesDesc, IsWhole, IsLinked, IsConstant, IsPool}
+use Rattle.dj_names.specs.trusted.Descriptors.{IsFieldDescriptor, IsMethodDescriptor}
+use Rattle.dj_pool.specs.trusted.Pool.{Constant, Utf8, Integer, Float, Long, Double, Class, Text, Field, Method, InterfaceMethod, NameAndType, Handle, MethodType, Dynamic, Hole, takes_two, indexed, constant_at, text_of, class_text_of, names_of, member_of, text_at, NamesText, NamesDesc, IsWhole, IsLinked, IsConstant, IsPool}
 use Rattle.dj_pool.specs.Answers.{with_text, HasText}
 use Rattle.dj_pool.specs.Laws.{KeepsKind, RedirectedIsPool}
 use Rattle.dj_pool.proofs.Slots.{by_width, indexed_wide, indexed_narrow, indexed_none}

@@ -1,4 +1,4 @@
--- What the bytes of a text tell of it as a name and as modified UTF-8.
+-- What the bytes of a text say of it as a name and as modified UTF-8.
 use Rattle.std.proofs.Common.{◌≡◌, ℕ, zero, suc, ◌+◌, ◌^◌, ◌<◌, ◌≤◌, Bool, true, false, not, ◌&&◌, ◌||◌, cond, eqb, ltb, leb, List, [], ◌∷◌, ◌++◌, length, take, get_or, refl, sym, ap, ◌∙◌, arith}
 use Rattle.std.specs.Prelude.{bytes_eq, codes}
 use Rattle.std.specs.List.{list_any, list_all, AllByRecursion}
@@ -6,9 +6,9 @@ use Rattle.std.proofs.lemmas.Bool.{ltb-false, le-leb}
 use Rattle.std.proofs.lemmas.Bool.Decides.{nat_tests}
 use Rattle.std.specs.Prelude.{Option, Some, None, is_some}
 use Rattle.dj_names.specs.declared.descriptor.Ty.{Ty}
-use Rattle.dj_names.specs.DescReading.{field_read}
-use Rattle.dj_names.specs.NameReading.{is_stop, reads_class_name}
-use Rattle.dj_names.specs.ModifiedUtf8.{unit_text, units_text}
+use Rattle.dj_names.specs.trusted.DescReading.{field_read}
+use Rattle.dj_names.specs.trusted.NameReading.{is_stop, reads_class_name}
+use Rattle.dj_names.specs.trusted.ModifiedUtf8.{unit_text, units_text}
 use Rattle.dj_names.specs.Tests.{array_test, field_descriptor_test, array_descriptor_test, name_byte_test, no_angle_test, unqualified_name_test, method_name_test, class_name_test, modified_utf8_test}
 use Rattle.dj_names.proofs.TestLaws.{modified_utf8_test-decides}
 use Rattle.dj_pool.specs.Scan.{is_stop_byte, is_angle, is_foreign, has_method_angles, has_foreign}

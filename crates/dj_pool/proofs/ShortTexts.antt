@@ -1,7 +1,7 @@
 -- The texts of a valid pool are short.
 use Rattle.std.proofs.Common.{ℕ, zero, suc, ◌^◌, ◌<◌, Bool, true, false, cond, List, [], ◌∷◌, length, Option, Some, None, unwrap_or, slice_get, option_and_then, subst, sym, arith}
 use Rattle.std.specs.List.{AllByRecursion}
-use Rattle.dj_pool.specs.Pool.{Constant, Utf8, Hole, takes_two, indexed, constant_at, text_of, text_at, class_text_of, class_name_at, IsConstant, IsPool}
+use Rattle.dj_pool.specs.trusted.Pool.{Constant, Utf8, Hole, takes_two, indexed, constant_at, text_of, text_at, class_text_of, class_name_at, IsConstant, IsPool}
 
 -- the text of the constant, if it is one, has fewer than 65,536 bytes
 abbrev IsShort : Option Constant → Type 0

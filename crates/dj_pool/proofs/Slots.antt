@@ -1,4 +1,4 @@
--- What stands at so many indexes: it is spelled so, it is read where it is spelled so, and where reading stops.
+-- What stands at this many indexes: it is spelled so, it is read where it is spelled so, and where reading stops.
 use Rattle.std.proofs.Common.{◌≡◌, ℕ, zero, suc, ◌+◌, ◌<◌, ◌≤◌, Bool, true, false, List, [], ◌∷◌, ◌++◌, length, take, Ok, Err, refl, sym, ap, subst, ◌∙◌, arith}
 use Rattle.std.specs.Prelude.{⊤}
 use Rattle.std.specs.List.{flat_map, AllByRecursion}
@@ -7,7 +7,7 @@ use Rattle.dj_bytes.proofs.Bytes.{IsBytes}
 use Rattle.dj_bytes.proofs.Steps.{bind_ok, bind_again, bind_err, bind_fails, cond_true, cond_false}
 use Rattle.dj_bytes.proofs.Spans.{Spans, Spans-none, Spans-then, Spans-stay, IsBytes-Spans, Reads, step_takes, step_again}
 use Rattle.dj_pool.specs.declared.pool.PoolError.{PoolError}
-use Rattle.dj_pool.specs.Pool.{Constant, Hole, takes_two, indexed, constant_bytes, IsWhole}
+use Rattle.dj_pool.specs.trusted.Pool.{Constant, Hole, takes_two, indexed, constant_bytes, IsWhole}
 use Rattle.dj_pool.specs.Reading.{constant_at_cursor, slot_at, slots_at}
 use Rattle.dj_pool.proofs.Decides.{TestsDecide}
 use Rattle.dj_pool.proofs.ConstantLaws.{constant_reads}
@@ -86,7 +86,7 @@ indexed_len k ks =
 
 -- ---- where reading stops
 
--- whole constants stand here, which take fewer indexes than so many, and the next is not read
+-- whole constants stand here, which take fewer indexes than this many, and the next is not read
 pub record SlotsStop (n : ℕ) (wide : Bool) (index : ℕ) (c : Cursor) (e : PoolError) : Type 0 where
   pub front : List Constant
   pub mid : Cursor
@@ -152,7 +152,7 @@ slots_halt d (suc n) false index c mid (k ∷ front) e lt whole s failed =
 
 -- ---- which constants they are
 
--- constants as far as they take so many indexes, the last of which begins within them
+-- constants as far as they take this many indexes, the last of which begins within them
 pub record Filled (ks : List Constant) : Type 0 where
   pub front : List Constant
   pub last : Constant
@@ -233,7 +233,7 @@ slots_filled (k ∷ (j ∷ (i ∷ is))) some h =
     (λ wide. let n = wide_next k j (i ∷ is) wide h.1 in subst (λ (t : Constant). Filled (k ∷ (t ∷ (i ∷ is)))) (sym n.0) (filled_wide k (i ∷ is) h.0 wide (slots_filled (i ∷ is) (omega arith) n.1)))
     (λ narrow. filled_next k (j ∷ (i ∷ is)) h.0 narrow (slots_filled (j ∷ (i ∷ is)) (omega arith) (narrow_next k (j ∷ (i ∷ is)) narrow h.1)))
 
--- whole constants at the first so many of their indexes
+-- whole constants at the first n of their indexes
 pub prefix_slots : (ks : List Constant) (n : ℕ) → AllByRecursion IsWhole ks → AreSlots (take n (indexed ks)) false
 unfolding indexed
 prefix_slots [] zero h = tt

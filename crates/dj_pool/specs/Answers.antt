@@ -5,17 +5,17 @@ use Rattle.dj_pool.specs.declared.pool.PoolError.{PoolError}
 use Rattle.dj_pool.specs.declared.pool.PoolError.TheVariants as pool_errors
 use Rattle.dj_pool.specs.declared.append.AppendError.{AppendError}
 use Rattle.dj_pool.specs.declared.append.AppendError.TheVariants as append_errors
-use Rattle.dj_pool.specs.Pool.{Constant, Class, NameAndType, MethodType, indexed, pool_bytes, constant_at, IsPool, IsLinked}
+use Rattle.dj_pool.specs.trusted.Pool.{Constant, Class, NameAndType, MethodType, indexed, pool_bytes, constant_at, IsPool, IsLinked}
 use Rattle.dj_pool.specs.Faults.{PoolFault}
 
--- the count of the pool stands at this place of the bytes, and its last constant ends before the next
+-- the count of the pool is at this place of the bytes, and its last constant ends before the next
 pub record IsPoolAt (bytes : List ℕ) (at : ℕ) (pool : List Constant) (next : ℕ) : Type 0 where
   pub rest : List ℕ
   pub parts : drop at bytes ≡ pool_bytes pool ++ rest
   pub next_is : next ≡ at + length (pool_bytes pool)
   pub valid : IsPool pool
 
--- a pool is read where it stands, or its first fault is told
+-- a pool is read at its place, or its first fault is reported
 abbrev pub ReadsPool : List ℕ → ℕ → Result (List Constant × ℕ) PoolError → Type 0
 ReadsPool bytes at (Ok x) = IsPoolAt bytes at x.0 x.1
 ReadsPool bytes at (Err pool_errors.Memory) = ⊤
@@ -31,7 +31,7 @@ last_index = 65534
 abbrev pub length_with : List Constant → Constant → ℕ
 length_with pool k = length pool + length (indexed (k ∷ []))
 
--- the constant stands at the next index, or its last index would pass the greatest, or memory ran out; then the pool is as before
+-- the constant is at the next index, or its last index would pass the greatest, or memory ran out; then the pool is as before
 abbrev pub Appends : (before : List Constant) → Constant → (after : List Constant) → Result ℕ AppendError → Type 0
 Appends before k now (Ok index) =
     (now ≡ before ++ indexed (k ∷ [])) × (index ≡ length before + 1) × (length_with before k ≤ last_index)

@@ -1,13 +1,13 @@
--- Where no pool stands: the first fault, in the order in which a pool is read. Indexes are looked up after the last constant.
+-- Bytes at which there is no pool: the first fault, in the order in which a pool is read. Indexes are looked up after the last constant.
 use Rattle.std.specs.Prelude.{◌≡◌, ℕ, ◌+◌, ◌-◌, ◌^◌, ◌<◌, ◌≤◌, ◌⊎◌, true, List, [], ◌∷◌, ◌++◌, length, take, Some, Contains}
 use Rattle.std.specs.List.{flat_map, AllByRecursion}
-use Rattle.dj_bytes.specs.Spelling.{u1, u2, u4, u8, s4, s8}
+use Rattle.dj_bytes.specs.trusted.Spelling.{u1, u2, u4, u8, s4, s8}
 use Rattle.dj_bytes.specs.Reading.{Cursor}
 use Rattle.dj_bytes.specs.Faults.{IsCut, IsDenied, InTurn, after, Fits2}
-use Rattle.dj_names.specs.ModifiedUtf8.{IsModifiedUtf8}
+use Rattle.dj_names.specs.trusted.ModifiedUtf8.{IsModifiedUtf8}
 use Rattle.dj_pool.specs.declared.pool.PoolError.{PoolError}
 use Rattle.dj_pool.specs.declared.pool.PoolError.TheVariants as pool_errors
-use Rattle.dj_pool.specs.Pool.{Constant, Utf8, Integer, Float, Long, Double, Class, Text, Field, Method, InterfaceMethod, NameAndType, Handle, MethodType, Dynamic, Hole, takes_two, indexed, constant_bytes, constant_at, IsWhole, IsLinked}
+use Rattle.dj_pool.specs.trusted.Pool.{Constant, Utf8, Integer, Float, Long, Double, Class, Text, Field, Method, InterfaceMethod, NameAndType, Handle, MethodType, Dynamic, Hole, takes_two, indexed, constant_bytes, constant_at, IsWhole, IsLinked}
 
 -- ---- one constant
 
@@ -38,7 +38,7 @@ abbrev pub IsSized : Constant → Type 0
 IsSized (Utf8 text) = length text < 2 ^ 16
 IsSized k = IsWhole k
 
--- some items of a constant stand here, and the next is not there whole
+-- some items of a constant are at this place, and the next is not there whole
 pub record IsCutConstant (c : Cursor) (e : PoolError) : Type 0 where
   pub constant : Constant
   pub sized : IsSized constant
@@ -50,7 +50,7 @@ pub record IsCutConstant (c : Cursor) (e : PoolError) : Type 0 where
   pub parts : c.rest ≡ flat_map (λ (i : List ℕ). i) before ++ rest
   pub cut : IsCut pool_errors.Cut (length item) (after c (flat_map (λ (i : List ℕ). i) before) rest) e
 
--- a text stands here, all of it, and is not modified UTF-8
+-- a text is at this place, all of it, and is not modified UTF-8
 pub record IsNoText (index : ℕ) (c : Cursor) (e : PoolError) : Type 0 where
   pub text : List ℕ
   pub rest : List ℕ
@@ -77,7 +77,7 @@ pub record IsAmongConstants (count : ℕ) (c : Cursor) (e : PoolError) : Type 0 
   pub below : length (indexed front) + 1 < count
   pub fault : ConstantFault (length (indexed front) + 1) (after c (flat_map constant_bytes front) rest) e
 
--- an index of the constant names none such as its place asks for, or the constant takes two indexes, and the second is not below the count
+-- an index of the constant doesn't name what its place requires, or the constant takes two indexes, and the second is not below the count
 abbrev pub IsMislinked : ℕ → List Constant → ℕ → Constant → Type 0
 IsMislinked count pool index k = (IsLinked pool k → ⊥) ⊎ ((takes_two k ≡ true) × (count ≤ index + 1))
 
@@ -108,6 +108,6 @@ CountFault c e = IsCut pool_errors.Cut 2 c e ⊎ IsDenied u2 Fits2 (λ count. 0 
 abbrev pub ConstantsFault : ℕ → Cursor → PoolError → Type 0
 ConstantsFault count c e = IsAmongConstants count c e ⊎ IsUnlinked count c e
 
--- the pool whose count stands here is faulty
+-- the pool whose count is at this place is faulty
 abbrev pub PoolFault : Cursor → PoolError → Type 0
 PoolFault = InTurn CountFault u2 (λ count. Fits2 count × (0 < count)) ConstantsFault

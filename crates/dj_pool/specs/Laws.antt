@@ -1,15 +1,16 @@
 -- Laws of pools that hold whatever is read or changed.
 use Rattle.std.specs.Prelude.{◌≡◌, ℕ, ◌^◌, ◌<◌, ◌≤◌, ◌⊎◌, ◌↔◌, List, [], ◌∷◌, ◌++◌, None, slice_index, option_and_then}
 use Rattle.dj_bytes.specs.Reading.{cursor_at}
-use Rattle.dj_names.specs.Descriptors.{IsFieldDescriptor, IsMethodDescriptor}
+use Rattle.dj_names.specs.trusted.Descriptors.{IsFieldDescriptor, IsMethodDescriptor}
 use Rattle.dj_pool.specs.declared.pool.PoolError.{PoolError}
-use Rattle.dj_pool.specs.Pool.{Constant, indexed, constant_at, text_of, class_text_of, names_of, member_of, text_at, class_name_at, name_and_type_at, member_at, NamesText, NamesDesc, IsConstant, IsPool}
+use Rattle.dj_pool.specs.trusted.Pool.{Constant, indexed, constant_at, text_of, class_text_of, names_of, member_of, text_at, class_name_at, name_and_type_at, NamesText, NamesDesc, IsConstant, IsPool}
+use Rattle.dj_pool.specs.Pool.{member_at}
 use Rattle.dj_pool.specs.Faults.{PoolFault}
 use Rattle.dj_pool.specs.Answers.{IsPoolAt, length_with, last_index, MayHaveText, Redirects}
 
 -- ---- reading
 
--- at a place stands one pool at most, which ends at one place
+-- at a place there is at most one pool, which ends at one place
 pub record IsSame (a b : List Constant) (m n : ℕ) : Type 0 where
   pub pool : a ≡ b
   pub next : m ≡ n
@@ -21,11 +22,11 @@ OnePool = (bytes : List ℕ) (at : ℕ) (a b : List Constant) (m n : ℕ) → Is
 abbrev pub OneFault : Type 0
 OneFault = (bytes : List ℕ) (at : ℕ) (d e : PoolError) → PoolFault (cursor_at at bytes) d → PoolFault (cursor_at at bytes) e → d ≡ e
 
--- no pool stands where there is a fault
+-- there is no pool where there is a fault
 abbrev pub NoPoolWhereFault : Type 0
 NoPoolWhereFault = (bytes : List ℕ) (at : ℕ) (pool : List Constant) (next : ℕ) (e : PoolError) → IsPoolAt bytes at pool next → PoolFault (cursor_at at bytes) e → ⊥
 
--- a pool stands at the place, or there is a fault
+-- there is a pool at the place, or there is a fault
 abbrev pub PoolOrFault : Type 0
 PoolOrFault = (bytes : List ℕ) (at : ℕ) → ((i : ℕ) → slice_index bytes i < 2 ^ 8)
     → ((pool : List Constant) × ((next : ℕ) × IsPoolAt bytes at pool next)) ⊎ ((e : PoolError) × PoolFault (cursor_at at bytes) e)

@@ -7,3 +7,4 @@ pub mod Laws
 pub mod Tests
 pub mod Reading
 pub mod Scan
+pub mod trusted

@@ -6,7 +6,7 @@ use Rattle.dj_bytes.specs.Reading.{Cursor, cursor_at, block_at, u1_at, u2_at, u4
 use Rattle.dj_names.specs.Tests.{modified_utf8_test}
 use Rattle.dj_pool.specs.declared.pool.PoolError.{PoolError}
 use Rattle.dj_pool.specs.declared.pool.PoolError.TheVariants as pool_errors
-use Rattle.dj_pool.specs.Pool.{Constant, Utf8, Integer, Float, Long, Double, Class, Text, Field, Method, InterfaceMethod, NameAndType, Handle, MethodType, Dynamic, Hole, takes_two}
+use Rattle.dj_pool.specs.trusted.Pool.{Constant, Utf8, Integer, Float, Long, Double, Class, Text, Field, Method, InterfaceMethod, NameAndType, Handle, MethodType, Dynamic, Hole, takes_two}
 use Rattle.dj_pool.specs.Tests.{is_fit}
 
 -- ---- what follows a tag
@@ -67,7 +67,7 @@ is_named tag = tag == 7 || (tag == 8 || tag == 16)
 abbrev pub is_paired : ℕ → Bool
 is_paired tag = tag == 9 || (tag == 10 || (tag == 11 || (tag == 12 || tag == 18)))
 
--- what follows the tag that stands at this place
+-- what follows the tag that is at this place
 unfoldable pub untagged_at : ℕ → ℕ → ℕ → Cursor → Result (Constant × Cursor) PoolError
 untagged_at index place tag c =
     if tag == 1 then utf8_at index c
@@ -86,11 +86,11 @@ constant_at_cursor index c = do
   tag ← u1_at pool_errors.Cut c
   untagged_at index c.place tag.0 tag.1
 
--- what stands at an index: after a long or a double nothing
+-- what is at an index: after a long or a double nothing
 unfoldable pub slot_at : Bool → ℕ → Cursor → Result (Constant × Cursor) PoolError
 slot_at after_wide index c = if after_wide then Ok (Hole, c) else constant_at_cursor index c
 
--- so many indexes, the first of which is this
+-- this many indexes, the first of which is this
 unfoldable pub slots_at : ℕ → Bool → ℕ → Cursor → Result (List Constant × Cursor) PoolError
 slots_at zero after_wide index c = Ok ([], c)
 slots_at (suc n) after_wide index c = do
@@ -110,7 +110,7 @@ abbrev pub linked : {A : Type 0} → A → Option ℕ → Result A PoolError
 linked x None = Ok x
 linked x (Some index) = Err (pool_errors.Link index)
 
--- so many indexes, all of them linked
+-- this many indexes, all of them linked
 unfoldable pub linked_slots_at : ℕ → Cursor → Result (List Constant × Cursor) PoolError
 linked_slots_at n c = do
   pool ← slots_at n false 1 c
@@ -121,7 +121,7 @@ pool_at c = do
   count ← u2_at pool_errors.Cut c
   if count.0 == 0 then Err (pool_errors.Tag c.place) else linked_slots_at (count.0 - 1) count.1
 
--- the pool whose count stands at this place of the bytes, and the place after it
+-- the pool whose count is at this place of the bytes, and the place after it
 unfoldable pub pool_from : List ℕ → ℕ → Result (List Constant × ℕ) PoolError
 pool_from bytes at = do
   pool ← pool_at (cursor_at at bytes)

@@ -1,7 +1,7 @@
--- The reader's own: what the bytes of a text tell of it, whatever their order is.
+-- The reader's own: what the bytes of a text show of it, whatever their order is.
 use Rattle.std.specs.Prelude.{ℕ, Bool, not, ◌||◌, nat_eq, nat_lt, List, bytes_eq, codes}
 use Rattle.std.specs.List.{list_any}
-use Rattle.dj_names.specs.NameReading.{is_stop}
+use Rattle.dj_names.specs.trusted.NameReading.{is_stop}
 use Rattle.dj_pool.specs.declared.scan.Marks.{Marks}
 
 -- .  ;  [

@@ -1,8 +1,8 @@
--- Whether there is such a text or class at an index, and whether a constant's indexes name what their places ask for, as tests that compute.
+-- Whether there is such a text or class at an index, and whether a constant's indexes name what their places require, as tests that compute.
 use Rattle.std.specs.Prelude.{ℕ, Bool, true, false, not, ◌&&◌, ◌||◌, List, length, nat_le, Option, Some, None, is_some, option_and_then}
 use Rattle.dj_names.specs.Tests.{unqualified_name_test, method_name_test, class_name_test, field_descriptor_test, method_descriptor_test, array_descriptor_test}
 use Rattle.dj_pool.specs.declared.kinds.TextKinds.{TextKinds}
-use Rattle.dj_pool.specs.Pool.{Constant, Class, Text, Field, Method, InterfaceMethod, NameAndType, Handle, MethodType, Dynamic, takes_two, constant_at, text_of, class_text_of, member_of, text_at, class_name_at, desc_at}
+use Rattle.dj_pool.specs.trusted.Pool.{Constant, Class, Text, Field, Method, InterfaceMethod, NameAndType, Handle, MethodType, Dynamic, takes_two, constant_at, text_of, class_text_of, member_of, text_at, class_name_at, desc_at}
 
 -- the text is there, and passes the test
 abbrev pub passes : (List ℕ → Bool) → Option (List ℕ) → Bool
@@ -56,7 +56,7 @@ are_names pool name desc =
     (text_passes unqualified_name_test pool name && text_passes field_descriptor_test pool desc)
     || (text_passes method_name_test pool name && text_passes method_descriptor_test pool desc)
 
--- each index of the constant names what its place asks for
+-- each index of the constant names what its place requires
 abbrev pub is_linked : List Constant → Constant → Bool
 is_linked pool (Class name) = text_passes class_text_test pool name
 is_linked pool (Text text) = is_text pool text

@@ -1,7 +1,7 @@
 -- What the entries of a pool show.
 use Rattle.dj_pool.specs.declared.pool.Entry.{Entry}
 use Rattle.dj_pool.specs.declared.pool.Entry.TheVariants as entries
-use Rattle.dj_pool.specs.Pool.{Constant, Utf8, Integer, Float, Long, Double, Class, Text, Field, Method, InterfaceMethod, NameAndType, Handle, MethodType, Dynamic, Hole}
+use Rattle.dj_pool.specs.trusted.Pool.{Constant, Utf8, Integer, Float, Long, Double, Class, Text, Field, Method, InterfaceMethod, NameAndType, Handle, MethodType, Dynamic, Hole}
 
 abbrev pub constant_of : Entry → Constant
 constant_of (entries.Utf8 text) = Utf8 text.now

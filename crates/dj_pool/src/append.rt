@@ -1,5 +1,5 @@
 ghost use Rattle.std.specs.Prelude.{◌≡◌, ◌≤◌, [], ◌∷◌, ◌++◌, length, map, IfOk, IfErr, OnOk};
-ghost use Rattle.dj_pool.specs.Pool.{Hole, indexed, takes_two, IsConstant};
+ghost use Rattle.dj_pool.specs.trusted.Pool.{Hole, indexed, takes_two, IsConstant};
 ghost use Rattle.dj_pool.specs.Views.{constant_of};
 ghost use Rattle.dj_pool.specs.Answers.{Appends, MayHaveText, Redirects, with_text};
 
@@ -52,7 +52,7 @@ impl<'a> Pool<'a> {
         }
     }
 
-    /// The same entries once more.
+    /// A copy of the entries.
     pub fn copy(&self, alloc: Global) -> Result<Pool<'a>, AppendError>
         ensures ok { IfOk result (λ pool. pool ≡ self.now) }
         ensures err { IfErr result (λ e. e ≡ AppendError.Memory) }
@@ -102,7 +102,7 @@ impl<'a> Pool<'a> {
         }
     }
 
-    /// Appends an entry that is valid there, and answers its index. The pool stays as it is where there is no room or no memory.
+    /// Appends an entry that is valid there, and returns its index. The pool stays as it is where there is no room or no memory.
     pub fn append(&mut self, entry: Entry<'a>) -> Result<u16, AppendError>
         requires { IsConstant self.old (constant_of entry) }
         ensures { Appends self.old (constant_of entry.entry) self.new result }
@@ -117,7 +117,7 @@ impl<'a> Pool<'a> {
         }
     }
 
-    /// Gives the class, the name and type or the method type of an index another text; of a name and type it is the descriptor.
+    /// Gives the class, the name and type or the method type at an index another text; of a name and type this is the descriptor.
     pub fn redirect(&mut self, index: u16, text: u16) -> Result<(), AppendError>
         requires { MayHaveText self.old index text }
         ensures ok { OnOk result (Redirects self.old index text self.new) }

@@ -1,5 +1,5 @@
 ghost use Rattle.std.specs.Prelude.{◌≡◌, map, option_map};
-ghost use Rattle.dj_pool.specs.Pool.{constant_at, takes_two};
+ghost use Rattle.dj_pool.specs.trusted.Pool.{constant_at, takes_two};
 ghost use Rattle.dj_pool.specs.Views.{constant_of};
 
 use crate::pool::Entry;

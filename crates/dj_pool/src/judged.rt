@@ -2,7 +2,7 @@ ghost use Rattle.std.specs.Prelude.{◌≡◌, ◌+◌, ◌^◌, ◌<◌, length
 ghost use Rattle.dj_bytes.specs.Steps.{Gives};
 ghost use Rattle.dj_bytes.specs.Views.{cursor_of};
 ghost use Rattle.dj_names.specs.Tests.{unqualified_name_test, method_name_test, field_descriptor_test, method_descriptor_test};
-ghost use Rattle.dj_pool.specs.Pool.{constant_at};
+ghost use Rattle.dj_pool.specs.trusted.Pool.{constant_at};
 ghost use Rattle.dj_pool.specs.Views.{constant_of};
 ghost use Rattle.dj_pool.specs.Memory.{pool_is_memory};
 ghost use Rattle.dj_pool.specs.Tests.{class_text_test, kinds_of, text_passes, is_text, is_class, is_any_class, is_member, desc_passes, are_names, is_linked, is_fit};
@@ -16,7 +16,7 @@ use dj_bytes::Cursor;
 use std::alloc::{AllocError, Global};
 use std::marker::Model;
 
-/// A pool, each text of which was looked at once: what it is stands beside it, by its index.
+/// A pool, each text of which was looked at once: what a text is, is kept beside it, by its index.
 #[derive(Debug, Drop)]
 pub struct JudgedPool<'a> {
     pool: Pool<'a>,
@@ -25,7 +25,7 @@ pub struct JudgedPool<'a> {
 
 impl<'a> Model for JudgedPool<'a> {
     ghost use Rattle.std.specs.Prelude.{◌≡◌, List, map};
-    ghost use Rattle.dj_pool.specs.Pool.{Constant};
+    ghost use Rattle.dj_pool.specs.trusted.Pool.{Constant};
     ghost use Rattle.dj_pool.specs.Tests.{kinds_of};
 
     ghost Value = { List Constant };
@@ -51,7 +51,7 @@ impl<'a> JudgedPool<'a> {
         pool
     }
 
-    /// What the entry of an index is as a text.
+    /// What the entry at an index is as a text.
     fn kinds_at(&self, index: u16) -> Option<TextKinds>
         ensures { result ≡ option_map kinds_of (constant_at self.now index) }
     {
@@ -66,7 +66,7 @@ impl<'a> JudgedPool<'a> {
         }
     }
 
-    /// Whether a text has the index.
+    /// Whether there is a text at the index.
     pub fn names_text(&self, index: u16) -> bool
         ensures { result ≡ is_text self.now index }
     {
@@ -76,7 +76,7 @@ impl<'a> JudgedPool<'a> {
         }
     }
 
-    /// Whether an unqualified name has the index (JVMS 4.2.2).
+    /// Whether there is an unqualified name at the index (JVMS 4.2.2).
     pub fn names_unqualified(&self, index: u16) -> bool
         ensures { result ≡ text_passes unqualified_name_test self.now index }
     {
@@ -86,7 +86,7 @@ impl<'a> JudgedPool<'a> {
         }
     }
 
-    /// Whether a method's name has the index (JVMS 4.2.2).
+    /// Whether there is a method's name at the index (JVMS 4.2.2).
     pub fn names_method(&self, index: u16) -> bool
         ensures { result ≡ text_passes method_name_test self.now index }
     {
@@ -96,7 +96,7 @@ impl<'a> JudgedPool<'a> {
         }
     }
 
-    /// Whether a field's descriptor has the index (JVMS 4.3.2).
+    /// Whether there is a field's descriptor at the index (JVMS 4.3.2).
     pub fn names_field_descriptor(&self, index: u16) -> bool
         ensures { result ≡ text_passes field_descriptor_test self.now index }
     {
@@ -106,7 +106,7 @@ impl<'a> JudgedPool<'a> {
         }
     }
 
-    /// Whether a method's descriptor has the index (JVMS 4.3.3).
+    /// Whether there is a method's descriptor at the index (JVMS 4.3.3).
     pub fn names_method_descriptor(&self, index: u16) -> bool
         ensures { result ≡ text_passes method_descriptor_test self.now index }
     {
@@ -116,7 +116,7 @@ impl<'a> JudgedPool<'a> {
         }
     }
 
-    /// Whether a class that is no array has the index (JVMS 4.4.1).
+    /// Whether there is a class that is no array at the index (JVMS 4.4.1).
     pub fn names_class(&self, index: u16) -> bool
         ensures { result ≡ is_class self.now index }
     {
@@ -129,7 +129,7 @@ impl<'a> JudgedPool<'a> {
         }
     }
 
-    /// Whether a text that a class may have has the index (JVMS 4.4.1).
+    /// Whether there is a text that a class may have at the index (JVMS 4.4.1).
     fn names_class_text(&self, index: u16) -> bool
         ensures { result ≡ text_passes class_text_test self.now index }
     {
@@ -139,14 +139,14 @@ impl<'a> JudgedPool<'a> {
         }
     }
 
-    /// Whether a class, also of an array, has the index.
+    /// Whether there is a class, or the class of an array, at the index.
     fn names_any_class(&self, index: u16) -> bool
         ensures { result ≡ is_any_class self.now index }
     {
         matches!(self.pool.get(index), Some(Entry::Class(_)))
     }
 
-    /// Whether a field or a method has the index.
+    /// Whether there is a field or a method at the index.
     fn names_member(&self, index: u16) -> bool
         ensures { result ≡ is_member self.now index }
     {
@@ -156,7 +156,7 @@ impl<'a> JudgedPool<'a> {
         )
     }
 
-    /// Whether a name with a field's descriptor has the index.
+    /// Whether there is a name with a field's descriptor at the index.
     fn names_field_type(&self, index: u16) -> bool
         ensures { result ≡ desc_passes field_descriptor_test self.now index }
     {
@@ -166,7 +166,7 @@ impl<'a> JudgedPool<'a> {
         }
     }
 
-    /// Whether a name with a method's descriptor has the index.
+    /// Whether there is a name with a method's descriptor at the index.
     fn names_method_type(&self, index: u16) -> bool
         ensures { result ≡ desc_passes method_descriptor_test self.now index }
     {
@@ -184,7 +184,7 @@ impl<'a> JudgedPool<'a> {
             || (self.names_method(name) && self.names_method_descriptor(desc))
     }
 
-    /// Whether each index of an entry names what its place asks for.
+    /// Whether each index of an entry names what its place requires.
     fn is_linked(&self, entry: Entry<'_>) -> bool
         ensures { result ≡ is_linked self.now (constant_of entry.entry) }
     {
@@ -243,7 +243,7 @@ fn read_linked<'a>(
     }
 }
 
-/// The pool whose count the cursor stands at, judged, and where the reader stands after it.
+/// The pool whose count is at the cursor, judged, and where the reader is after it.
 #[tactic(auto, unfolding(crate::specs::Reading::pool_at))]
 pub fn read_judged_pool<'a>(
     alloc: Global,

@@ -1,6 +1,6 @@
 ghost use Rattle.std.specs.Prelude.{◌≡◌, [], map, IfOk};
 ghost use Rattle.dj_names.specs.Tests.{field_descriptor_test, array_descriptor_test};
-ghost use Rattle.dj_pool.specs.Pool.{Utf8, Hole};
+ghost use Rattle.dj_pool.specs.trusted.Pool.{Utf8, Hole};
 ghost use Rattle.dj_pool.specs.Views.{constant_of};
 ghost use Rattle.dj_pool.specs.Tests.{kinds_of};
 
@@ -9,7 +9,7 @@ use crate::scan::names_of;
 use dj_names::{is_array_descriptor, is_field_descriptor, is_method_descriptor};
 use std::alloc::{AllocError, Global};
 
-/// What an entry is as a text; of an entry that is none nothing is so.
+/// What an entry is as a text. All of these are false for an entry that is no text.
 #[derive(Clone, Copy, Debug)]
 pub struct TextKinds {
     /// Whether it is a text at all.
@@ -28,7 +28,7 @@ pub struct TextKinds {
     pub method_descriptor: bool,
 }
 
-/// What the text of no bytes is: a text, and nothing else.
+/// What the empty text is: a text, and nothing else.
 fn no_bytes() -> TextKinds
     ensures { result ≡ kinds_of (Utf8 []) }
 {

@@ -1,21 +1,21 @@
 ghost use Rattle.dj_pool.specs.Laws.{OnePool, OneFault, NoPoolWhereFault, PoolOrFault, AppendedIsPool, RedirectedIsPool, PoolLooksUp};
 
-/// At a place stands one pool at most.
+/// At a place there is at most one pool.
 pub fn one_pool()
     ensures { OnePool }
 {}
 
-/// A place has one first fault at most.
+/// At a place there is at most one first fault.
 pub fn one_fault()
     ensures { OneFault }
 {}
 
-/// No pool stands where there is a fault.
+/// There is no pool where there is a fault.
 pub fn no_pool_where_fault()
     ensures { NoPoolWhereFault }
 {}
 
-/// A pool stands at a place, or there is a fault.
+/// There is a pool at a place, or there is a fault.
 pub fn pool_or_fault()
     ensures { PoolOrFault }
 {}
@@ -30,7 +30,7 @@ pub fn redirected_is_pool()
     ensures { RedirectedIsPool }
 {}
 
-/// In a valid pool nothing that a constant names is missing.
+/// In a valid pool what a constant names is there.
 pub fn pool_looks_up()
     ensures { PoolLooksUp }
 {}

@@ -73,7 +73,7 @@ impl Indexes {
         Indexes { items }
     }
 
-    /// The indexes, lent.
+    /// The indexes, borrowed.
     pub fn as_slice(&self) -> &[u16]
         ensures { result.now ≡ self.now }
     {

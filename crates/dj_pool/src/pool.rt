@@ -1,5 +1,6 @@
 ghost use Rattle.std.specs.Prelude.{◌≡◌, map, option_map, option_copied};
-ghost use Rattle.dj_pool.specs.Pool.{constant_at, text_at, class_name_at, name_and_type_at, member_at};
+ghost use Rattle.dj_pool.specs.trusted.Pool.{constant_at, text_at, class_name_at, name_and_type_at};
+ghost use Rattle.dj_pool.specs.Pool.{member_at};
 ghost use Rattle.dj_pool.specs.Views.{constant_of};
 ghost use Rattle.dj_pool.specs.declared.pool.PoolError.TheVariants as pool_errors;
 
@@ -53,7 +54,7 @@ pub enum PoolError {
     /// The byte at this place is no tag, or the count at this place is 0.
     #[error("the byte at {0} is no tag, or the count at {0} is 0")]
     Tag(u32),
-    /// The constant of this index names none that its place asks for, or its second index is not below the count.
+    /// The constant at this index names something else than its place requires, or its second index is not below the count.
     #[error("constant {0} names none that its place asks for")]
     Link(u16),
     /// The text of this index is not modified UTF-8.
@@ -96,7 +97,7 @@ pub struct Pool<'a> {
 
 impl<'a> Model for Pool<'a> {
     ghost use Rattle.std.specs.Prelude.{List, map};
-    ghost use Rattle.dj_pool.specs.Pool.{Constant};
+    ghost use Rattle.dj_pool.specs.trusted.Pool.{Constant};
     ghost use Rattle.dj_pool.specs.Views.{constant_of};
 
     ghost Value = { List Constant };
@@ -105,7 +106,7 @@ impl<'a> Model for Pool<'a> {
 }
 
 impl<'a> Pool<'a> {
-    /// The constants, lent.
+    /// The constants, borrowed.
     pub fn as_slice(&self) -> &[Entry<'a>]
         ensures { map constant_of result.now ≡ self.now }
     {

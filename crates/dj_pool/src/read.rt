@@ -136,7 +136,7 @@ fn is_paired(tag: u8) -> bool
     tag == 9 || tag == 10 || tag == 11 || tag == 12 || tag == 18
 }
 
-// What follows the tag that stands at the place.
+// What follows the tag that is at the place.
 #[tactic(auto, unfolding(crate::specs::Reading::untagged_at))]
 fn read_untagged<'a>(
     index: u16,
@@ -177,7 +177,7 @@ fn read_entry<'a>(index: u16, cursor: Cursor<'a>) -> Result<(Entry<'a>, Cursor<'
     read_untagged(index, cursor.place, tag, after)
 }
 
-// What stands at an index: after a long or a double nothing.
+// What is at an index: after a long or a double nothing.
 #[tactic(auto, unfolding(crate::specs::Reading::slot_at))]
 fn read_slot<'a>(
     after_wide: bool,
@@ -193,7 +193,7 @@ fn read_slot<'a>(
     read_entry(index, cursor)
 }
 
-/// The entries of so many indexes. No more is reserved than the rest of the file can hold.
+/// The entries of this many indexes. No more is reserved than the rest of the file can hold.
 pub(crate) fn read_slots<'a>(
     alloc: Global,
     count: u16,
@@ -227,7 +227,7 @@ fn read_from<'a>(alloc: Global, file: &'a [u8], at: u32) -> Result<(Pool<'a>, u3
     }
 }
 
-/// The pool whose count stands at the place, and the place after its last entry.
+/// The pool whose count is at the place, and the place after its last entry.
 pub fn read_pool<'a>(alloc: Global, file: &'a [u8], at: u32) -> Result<(Pool<'a>, u32), PoolError>
     requires { length file.now < 2 ^ 32 }
     ensures { ReadsPool file.now at result }

@@ -26,7 +26,7 @@ fn is_angle(byte: u8) -> bool
     (byte == b'<') | (byte == b'>')
 }
 
-// Most letters stand after all bytes that are looked for.
+// Most letters are greater than all bytes that are looked for.
 fn is_plain(byte: u8) -> bool
     ensures { IsTrue result → (is_stop_byte byte ≡ false) × (nat_eq byte 47 ≡ false) × (is_angle byte ≡ false) }
 {

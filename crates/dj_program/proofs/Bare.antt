@@ -1,15 +1,17 @@
 -- Programs without code and constants.
 use Rattle.std.proofs.Common.{◌≡◌, ℕ, Bool, true, false, List, [], ◌∷◌, map, Option, Some, None, refl, sym, ap, ◌∙◌, subst, IsTrue, IsFalse, inl, inr}
 use Rattle.std.specs.Prelude.{if◌then◌else◌}
-use Rattle.dj_names.specs.Library.{Library, LibraryClass, LibraryMethod}
+use Rattle.dj_names.specs.trusted.Library.{Library, LibraryClass, LibraryMethod}
 use Rattle.dj_names.specs.declared.native.NativeId.{NativeId}
-use Rattle.dj_pool.specs.Pool.{Constant}
-use Rattle.dj_class.specs.ClassFile.{MemberInfo, ClassFile}
-use Rattle.dj_model.specs.Program.{Program, Class, Method, Field, Body, Abstract, Runs, body_map}
-use Rattle.dj_model.specs.Libraries.{library_method, library_class, is_name_before, inserted, joined, library_program}
-use Rattle.dj_declared.specs.Files.{is_bodiless, no_code, declared_method, declared_field, declared_class, bare_method, bare_field, bare_class}
-use Rattle.dj_classes.specs.Tables.{declared_program}
-use Rattle.dj_program.specs.Programs.{AreSideBySide, IsBodyIn, IsMethodIn, field_in_file, IsClassIn, IsProgramIn}
+use Rattle.dj_pool.specs.trusted.Pool.{Constant}
+use Rattle.dj_class.specs.trusted.ClassFile.{MemberInfo, ClassFile}
+use Rattle.dj_model.specs.trusted.Program.{Program, Class, Method, Field, Body, Abstract, Runs}
+use Rattle.dj_model.specs.Program.{body_map}
+use Rattle.dj_model.specs.trusted.Libraries.{library_method, library_class, is_name_before, inserted, joined, library_program}
+use Rattle.dj_declared.specs.trusted.Files.{is_bodiless, no_code, declared_method, declared_field, declared_class}
+use Rattle.dj_declared.specs.Files.{bare_method, bare_field, bare_class}
+use Rattle.dj_classes.specs.trusted.Tables.{declared_program}
+use Rattle.dj_program.specs.trusted.Programs.{AreSideBySide, IsBodyIn, IsMethodIn, field_in_file, IsClassIn, IsProgramIn}
 use Rattle.dj_program.specs.Laws.{BareIsDeclared}
 
 -- ---- classes of files

@@ -1,11 +1,11 @@
 -- The code of a method that is whole.
 use Rattle.std.proofs.Common.{ℕ, List, refl, sym, subst, Contains, arith}
-use Rattle.dj_pool.specs.Pool.{Constant}
-use Rattle.dj_class.specs.ClassFile.{MemberInfo}
+use Rattle.dj_pool.specs.trusted.Pool.{Constant}
+use Rattle.dj_class.specs.trusted.ClassFile.{MemberInfo}
 use Rattle.dj_check.specs.declared.code.WholeCode.{WholeCode}
-use Rattle.dj_check.specs.Code.{HasFrames}
+use Rattle.dj_check.specs.trusted.Code.{HasFrames}
 use Rattle.dj_check.specs.Passes.{bodies_in, IsWholeMethod}
-use Rattle.dj_program.specs.Codes.{IsMethodCode}
+use Rattle.dj_program.specs.trusted.Codes.{IsMethodCode}
 
 pub whole_is : (pool : List Constant) (m : MemberInfo) (code : WholeCode) → IsWholeMethod pool m code
     → IsMethodCode pool m (record { max_stack = code.max_stack; max_locals = code.max_locals; labelled = code.labelled; frames = code.frames })

@@ -3,24 +3,24 @@ use Rattle.std.proofs.Common.{◌≡◌, ℕ, pos, List, [], ◌∷◌, map, Som
 use Rattle.dj_names.specs.declared.descriptor.Base.TheVariants as bases
 use Rattle.dj_names.specs.declared.descriptor.Desc.TheVariants as descs
 use Rattle.dj_names.specs.declared.run.Value.TheVariants as values
-use Rattle.dj_names.specs.DescReading.{dims_read, name_read, class_read, of_read, type_read, params_read, field_read, return_read, method_read, desc_read}
-use Rattle.dj_names.specs.NameReading.{reads_class_name}
-use Rattle.dj_names.specs.Tests.{units_read}
-use Rattle.dj_names.specs.Types.{class_type, base_type, base_array}
-use Rattle.dj_names.specs.UnitReading.{unit_read, long_read, two_read}
+use Rattle.dj_names.specs.trusted.DescReading.{dims_read, name_read, class_read, of_read, type_read, params_read, field_read, return_read, method_read, desc_read}
+use Rattle.dj_names.specs.trusted.NameReading.{reads_class_name}
+use Rattle.dj_names.specs.trusted.Tests.{units_read}
+use Rattle.dj_names.specs.trusted.Types.{class_type, base_type, base_array}
+use Rattle.dj_names.specs.trusted.UnitReading.{unit_read, long_read, two_read}
 use Rattle.dj_ops.specs.declared.instruction.Instr.TheVariants as instrs
-use Rattle.dj_pool.specs.Pool.{Constant, Utf8, Integer, Float, Long, Hole, Class, Text, Field, Method, InterfaceMethod, NameAndType, Dynamic}
-use Rattle.dj_class.specs.ClassFile.{MemberInfo}
-use Rattle.dj_model.specs.Types.{Member}
-use Rattle.dj_model.specs.Instructions.{AnInt, ALong, AText, AClass, AField, AMethod, AnInterfaceMethod, Another, Nop, Push, Goto, Return, GetField, Invoke, Virtual, Other}
-use Rattle.dj_model.specs.Opcodes.{instruction_of, simple}
-use Rattle.dj_model.specs.Program as programs
-use Rattle.dj_model.specs.Program.{Code, Abstract, Runs}
-use Rattle.dj_declared.specs.Files.{desc_in, type_in}
-use Rattle.dj_program.specs.Naming.{units_in, named_at, named_by, instruction_in, constant_in}
-use Rattle.dj_check.specs.Code.{HasFrames}
-use Rattle.dj_program.specs.Codes.{CodeParts, code_in, catches_in}
-use Rattle.dj_program.specs.Programs.{IsBodyIn}
+use Rattle.dj_pool.specs.trusted.Pool.{Constant, Utf8, Integer, Float, Long, Hole, Class, Text, Field, Method, InterfaceMethod, NameAndType, Dynamic}
+use Rattle.dj_class.specs.trusted.ClassFile.{MemberInfo}
+use Rattle.dj_model.specs.trusted.Types.{Member}
+use Rattle.dj_model.specs.trusted.Instructions.{AnInt, ALong, AText, AClass, AField, AMethod, AnInterfaceMethod, Another, Nop, Push, Goto, Return, GetField, Invoke, Virtual, Other}
+use Rattle.dj_model.specs.trusted.Opcodes.{instruction_of, simple}
+use Rattle.dj_model.specs.trusted.Program as programs
+use Rattle.dj_model.specs.trusted.Program.{Code, Abstract, Runs}
+use Rattle.dj_declared.specs.trusted.Files.{desc_in, type_in}
+use Rattle.dj_program.specs.trusted.Naming.{units_in, named_at, named_by, instruction_in, constant_in}
+use Rattle.dj_check.specs.trusted.Code.{HasFrames}
+use Rattle.dj_program.specs.trusted.Codes.{CodeParts, code_in, catches_in}
+use Rattle.dj_program.specs.trusted.Programs.{IsBodyIn}
 
 -- 1 and 2 the class A, 3 to 5 a field of it, 6 an int, 7 and 8 a long, 9 and 10 a string, 11 a float, 12 to 15 a method of an array, 16 its like of an
 -- interface, 17 what invokedynamic names, 18 the name of constants of fields

@@ -4,26 +4,26 @@ use Rattle.std.specs.Prelude.{◌^◌, ◌/◌, ◌%◌, codes}
 use Rattle.std.specs.Int.{bit_at, IsBitSet}
 use Rattle.std.specs.List.Sorted.{IsStrictlyIncreasing}
 use Rattle.std.proofs.lemmas.Nat.{bit_set_by_shift, and_mask}
-use Rattle.dj_names.specs.Library.{Library}
+use Rattle.dj_names.specs.trusted.Library.{Library}
 use Rattle.dj_ops.specs.declared.frames.Frame.{Frame}
-use Rattle.dj_pool.specs.Pool.{Constant}
-use Rattle.dj_class.specs.ClassFile.{MemberInfo, ClassFile}
-use Rattle.dj_class.specs.Code.{CodeInfo, IsCode}
+use Rattle.dj_pool.specs.trusted.Pool.{Constant}
+use Rattle.dj_class.specs.trusted.ClassFile.{MemberInfo, ClassFile}
+use Rattle.dj_class.specs.trusted.Code.{CodeInfo, IsCode}
 use Rattle.dj_class.proofs.CodeLaws.{one_code}
 use Rattle.dj_labels.specs.declared.labelled.Labelled.{Labelled}
-use Rattle.dj_labels.specs.Labels.{IsCut, IsLabelled}
+use Rattle.dj_labels.specs.trusted.Labels.{IsCut, IsLabelled}
 use Rattle.dj_labels.proofs.Cuts.{whole_ends, one_cut, starts_rise}
 use Rattle.dj_labels.proofs.Once.{one_labelling_is}
-use Rattle.dj_frames.specs.StackMaps.{IsStackMap}
+use Rattle.dj_frames.specs.trusted.StackMaps.{IsStackMap}
 use Rattle.dj_frames.proofs.WholeLaws.{one_stack_map}
-use Rattle.dj_model.specs.Program.{Program, Class, Method, Field, Body, Abstract, Runs, Code, has_flag}
-use Rattle.dj_model.specs.Libraries.{joined, library_program}
-use Rattle.dj_check.specs.Attributes.{codes_of, maps_of}
-use Rattle.dj_check.specs.Malformed.{IsBodiless, LacksCode, IsFaulty, IsFaultyMethod}
-use Rattle.dj_check.specs.Code.{IsCodeOf, AreFramesAt, AreFramesOf, HasFrames}
-use Rattle.dj_declared.specs.Files.{is_bodiless, declared_method, declared_class}
-use Rattle.dj_program.specs.Codes.{CodeParts, code_in, IsMethodCode}
-use Rattle.dj_program.specs.Programs.{AreSideBySide, IsBodyIn, IsMethodIn, field_in_file, IsClassIn, IsProgramIn}
+use Rattle.dj_model.specs.trusted.Program.{Program, Class, Method, Field, Body, Abstract, Runs, Code, has_flag}
+use Rattle.dj_model.specs.trusted.Libraries.{joined, library_program}
+use Rattle.dj_check.specs.trusted.Attributes.{codes_of, maps_of}
+use Rattle.dj_check.specs.trusted.Malformed.{IsBodiless, LacksCode, IsFaulty, IsFaultyMethod}
+use Rattle.dj_check.specs.trusted.Code.{IsCodeOf, AreFramesAt, AreFramesOf, HasFrames}
+use Rattle.dj_declared.specs.trusted.Files.{is_bodiless, declared_method, declared_class}
+use Rattle.dj_program.specs.trusted.Codes.{CodeParts, code_in, IsMethodCode}
+use Rattle.dj_program.specs.trusted.Programs.{AreSideBySide, IsBodyIn, IsMethodIn, field_in_file, IsClassIn, IsProgramIn}
 use Rattle.dj_program.specs.Laws.{AreWhole, OneProgram}
 
 -- ---- flags

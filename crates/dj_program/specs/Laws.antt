@@ -1,12 +1,12 @@
 -- Laws of programs of class files.
 use Rattle.std.specs.Prelude.{◌≡◌, ⊤, List, [], ◌∷◌, map}
-use Rattle.dj_names.specs.Library.{Library}
-use Rattle.dj_class.specs.ClassFile.{ClassFile}
-use Rattle.dj_model.specs.Program.{Program}
-use Rattle.dj_check.specs.Malformed.{IsFaulty}
-use Rattle.dj_classes.specs.Tables.{declared_program}
+use Rattle.dj_names.specs.trusted.Library.{Library}
+use Rattle.dj_class.specs.trusted.ClassFile.{ClassFile}
+use Rattle.dj_model.specs.trusted.Program.{Program}
+use Rattle.dj_check.specs.trusted.Malformed.{IsFaulty}
+use Rattle.dj_classes.specs.trusted.Tables.{declared_program}
 use Rattle.dj_declared.specs.Files.{bare_class}
-use Rattle.dj_program.specs.Programs.{IsProgramIn}
+use Rattle.dj_program.specs.trusted.Programs.{IsProgramIn}
 
 -- none of the files has a faulty part
 abbrev pub AreWhole : List ClassFile → Type 0

@@ -1,5 +1,3 @@
-pub mod Naming
-pub mod Codes
 pub mod Views
-pub mod Programs
 pub mod Laws
+pub mod trusted

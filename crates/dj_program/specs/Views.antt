@@ -1,5 +1,5 @@
 -- The code of a method as it is kept.
-use Rattle.dj_program.specs.Codes.{CodeParts}
+use Rattle.dj_program.specs.trusted.Codes.{CodeParts}
 use Rattle.dj_program.specs.declared.code.MethodCode.{MethodCode}
 
 abbrev pub parts_of : MethodCode → CodeParts

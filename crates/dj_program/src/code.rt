@@ -1,8 +1,8 @@
 ghost use Rattle.std.specs.Prelude.{List};
-ghost use Rattle.dj_pool.specs.Pool.{Constant};
-ghost use Rattle.dj_class.specs.ClassFile.{MemberInfo};
+ghost use Rattle.dj_pool.specs.trusted.Pool.{Constant};
+ghost use Rattle.dj_class.specs.trusted.ClassFile.{MemberInfo};
 ghost use Rattle.dj_check.specs.Passes.{IsWholeMethod};
-ghost use Rattle.dj_program.specs.Codes.{IsMethodCode};
+ghost use Rattle.dj_program.specs.trusted.Codes.{IsMethodCode};
 ghost use Rattle.dj_program.specs.Views.{parts_of};
 
 use dj_check::WholeCode;
@@ -15,7 +15,7 @@ pub struct MethodCode {
     pub max_stack: u16,
     pub max_locals: u16,
     pub code: Labelled,
-    /// The frames of its stack map, no frames where no attribute tells any, and none where the attribute is no stack map.
+    /// The frames of its stack map; no frames where there is no such attribute, and none where the attribute is no stack map.
     pub frames: Option<Frames>,
 }
 

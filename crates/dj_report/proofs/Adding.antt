@@ -7,8 +7,9 @@ use Rattle.std.proofs.lemmas.List.Elements.{Contains-append_left, Contains-appen
 use Rattle.std.proofs.lemmas.List.Kept.{Contains-dedup, Contains-from_dedup}
 use Rattle.std.proofs.lemmas.List.Sorted.{Contains-permutation, IsPermutation-sym}
 use Rattle.dj_report.specs.declared.report.Violation.{Violation}
-use Rattle.dj_report.specs.Lines.{Gains, Adds, IsLineAmong, AreExactly}
-use Rattle.dj_report.specs.Order.{IsInOrder}
+use Rattle.dj_report.specs.trusted.Lines.{AreExactly}
+use Rattle.dj_report.specs.Lines.{Gains, Adds, IsLineAmong}
+use Rattle.dj_report.specs.trusted.Order.{IsInOrder}
 use Rattle.dj_report.proofs.Sorted.{contains_none}
 
 -- ---- members of a list

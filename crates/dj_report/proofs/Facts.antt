@@ -8,10 +8,10 @@ use Rattle.dj_names.specs.declared.run.Outcome.TheVariants as outcomes
 use Rattle.dj_report.specs.declared.report.Limit.TheVariants as limits
 use Rattle.dj_report.specs.declared.report.Violation.{Violation}
 use Rattle.dj_report.specs.declared.report.Report.TheVariants as reports
-use Rattle.dj_report.specs.Parts.{escaped}
-use Rattle.dj_report.specs.Outcomes.{outcome_text, outcome_status, costs_text, run_text}
-use Rattle.dj_report.specs.Text.{rule_name, violation_text, limit_text, report_text, report_status}
-use Rattle.dj_report.specs.Order.{violation_cmp}
+use Rattle.dj_report.specs.trusted.Parts.{escaped}
+use Rattle.dj_report.specs.trusted.Outcomes.{outcome_text, outcome_status, costs_text, run_text}
+use Rattle.dj_report.specs.trusted.Text.{rule_name, violation_text, limit_text, report_text, report_status}
+use Rattle.dj_report.specs.trusted.Order.{violation_cmp}
 
 -- ---- reports
 
@@ -28,7 +28,7 @@ limited = refl
 usage : report_text reports.Usage ≡ codes "USAGE" ++ 10 ∷ []
 usage = refl
 
--- the faults of an assembler's text tell the line before the column
+-- the faults of an assembler's text give the line before the column
 asm-texts : map report_text (reports.Syntax 1 10 ∷ reports.Label 7 ∷ reports.Large 12 ∷ []) ≡ (codes "ASM SYNTAX 1 10" ++ 10 ∷ []) ∷ (codes "ASM LABEL 7" ++ 10 ∷ []) ∷ (codes "ASM LARGE 12" ++ 10 ∷ []) ∷ []
 unfolding digits
 asm-texts = refl

@@ -1,4 +1,4 @@
--- Violations in order: only equal ones compare as equal, lists of rising paths join, and the members tell the list.
+-- Violations in order: only equal ones compare as equal, lists of rising paths join, and the members determine the list.
 use Rattle.std.proofs.Common.{◌≡◌, refl, ap, ◌∷◌, [], ◌++◌, List, true, ℕ}
 use Rattle.std.specs.Prelude.{Contains, ◌↔◌, Option, Some, None}
 use Rattle.std.specs.declared.cmp.Ordering.{Ordering}
@@ -10,7 +10,7 @@ use Rattle.std.specs.Cmp.Lexicographic.{slice_cmp}
 use Rattle.std.specs.List.Sorted.{IsStrictlySortedBy}
 use Rattle.std.specs.FinMap.{IsAntisymmetric, nat_cmp-IsAntisymmetric, slice_cmp-IsAntisymmetric}
 use Rattle.dj_report.specs.declared.report.Violation.{Violation}
-use Rattle.dj_report.specs.Order.{violation_cmp, IsInOrder}
+use Rattle.dj_report.specs.trusted.Order.{violation_cmp, IsInOrder}
 use Rattle.dj_report.specs.OrderLaws.{violation_cmp_total}
 use Rattle.dj_report.proofs.Sorted.{IsStrictlySortedBy-append, same_from_members}
 
@@ -66,6 +66,6 @@ pub IsInOrder-append : (xs ys : List Violation) → IsInOrder xs → IsInOrder y
 IsInOrder-append xs ys p q h =
     IsStrictlySortedBy-append violation_cmp_total xs ys p q (λ a b m n. first_less _ _ (h a b m n))
 
--- the members tell the list
+-- the members determine the list
 pub same_violations : (xs ys : List Violation) → IsInOrder xs → IsInOrder ys → ((v : Violation) → Contains xs v ↔ Contains ys v) → xs ≡ ys
 same_violations = same_from_members violation_cmp_total violation_cmp-IsAntisymmetric

@@ -8,7 +8,7 @@ use Rattle.std.specs.BTreeSet.{insert_key}
 use Rattle.std.specs.List.{AllByRecursion}
 use Rattle.std.specs.List.Sorted.{IsStrictlySortedBy}
 use Rattle.dj_report.specs.declared.report.Violation.{Violation}
-use Rattle.dj_report.specs.Order.{violation_cmp, IsInOrder}
+use Rattle.dj_report.specs.trusted.Order.{violation_cmp, IsInOrder}
 use Rattle.dj_report.specs.OrderLaws.{violation_cmp_total}
 use Rattle.dj_report.proofs.Sorted.{contains_first, contains_later, contains_none, contains_cases}
 use Rattle.dj_report.proofs.InOrder.{violation_cmp-IsAntisymmetric}

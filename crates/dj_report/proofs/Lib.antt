@@ -4,3 +4,4 @@ pub mod Stages
 pub mod Adding
 pub mod Inserted
 mod Facts
+mod TextFacts

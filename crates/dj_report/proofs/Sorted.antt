@@ -60,7 +60,7 @@ module _ {K : Type 0} {R : K → K → Ordering} (total : IsTotalOrder R) (apart
         | inr n ↦ n
       ]
 
-  -- the members tell the list
+  -- the members determine the list
   pub same_from_members : (xs ys : List K) → IsStrictlySortedBy R xs → IsStrictlySortedBy R ys → ((v : K) → Contains xs v ↔ Contains ys v) → xs ≡ ys
   same_from_members [] [] p q h = refl
   same_from_members [] (y ∷ ys) p q h = absurd (contains_none y ((h y).1 (contains_first y ys)))

@@ -1,6 +1,7 @@
 -- Stages decide one report at most, and where each answers in its turn they are not without one.
 use Rattle.std.proofs.Common.{◌≡◌, List, [], ◌∷◌, Option, Some, None, inl, inr}
-use Rattle.dj_report.specs.Stages.{Stage, IsDecided, DecideOne, AnswerInTurn}
+use Rattle.dj_report.specs.trusted.Stages.{Stage, IsDecided}
+use Rattle.dj_report.specs.Stages.{DecideOne, AnswerInTurn}
 
 pub one_decided : {A : Type 0} (stages : List (Stage A)) → DecideOne stages → (a b : A) → IsDecided stages a → IsDecided stages b → a ≡ b
 one_decided [] one a b p q = absurd p

@@ -1,7 +1,4 @@
-pub mod Order
 pub mod OrderLaws
 pub mod Lines
-pub mod Outcomes
-pub mod Parts
-pub mod Text
 pub mod Stages
+pub mod trusted

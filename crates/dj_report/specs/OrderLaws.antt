@@ -1,8 +1,8 @@
--- The order of violations is total, and tells different violations apart.
+-- The order of violations is total, and different violations are never equal in it.
 use Rattle.std.specs.Cmp.{IsTotalOrder, then_total, on_total, nat_cmp_total}
 use Rattle.std.specs.Cmp.Lexicographic.{on_texts, options_total}
 use Rattle.dj_report.specs.declared.report.Violation.{Violation}
-use Rattle.dj_report.specs.Order.{violation_cmp}
+use Rattle.dj_report.specs.trusted.Order.{violation_cmp}
 
 pub violation_cmp_total : IsTotalOrder violation_cmp
 violation_cmp_total =

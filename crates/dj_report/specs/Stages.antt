@@ -1,29 +1,21 @@
--- An order of work: the report is decided by the first stage that decides one.
-use Rattle.std.specs.Prelude.{◌≡◌, ◌⊎◌, ⊤, List, [], ◌∷◌, Option, Some, None}
+-- Beside trusted/Stages.antt: what no clause of the call `djvm` reaches.
+use Rattle.std.specs.Prelude.{◌≡◌, ⊤, List, [], ◌∷◌, Option, None}
+use Rattle.dj_report.specs.trusted.Stages.{Stage}
 
--- A stage decides a report, or decides none and hands on to the next.
-abbrev pub Stage : Type 0 → Type 1
-Stage A = Option A → Type 0
-
--- the report is what the first stage that decides one decides
-abbrev pub IsDecided : {A : Type 0} → List (Stage A) → A → Type 0
-IsDecided [] report = ⊥
-IsDecided (stage ∷ stages) report = stage (Some report) ⊎ (stage None × IsDecided stages report)
-
--- a stage doesn't both decide and hand on, and decides one report at most
+-- the stage never both decides and hands on, and decides at most one report
 abbrev pub DecidesOne : {A : Type 0} → Stage A → Type 0
 DecidesOne {A} stage = (a b : Option A) → stage a → stage b → a ≡ b
 
--- of each stage
+-- the same for each stage
 abbrev pub DecideOne : {A : Type 0} → List (Stage A) → Type 0
 DecideOne [] = ⊤
 DecideOne (stage ∷ stages) = DecidesOne stage × DecideOne stages
 
--- a stage isn't without an answer
+-- the stage decides a report or hands on
 abbrev pub Answers : {A : Type 0} → Stage A → Type 0
 Answers {A} stage = ((a : Option A) → stage a → ⊥) → ⊥
 
--- where the stages before it handed on each stage isn't without an answer, and the last one doesn't hand on
+-- where all stages before it hand on, each stage decides or hands on; and the last one decides
 abbrev pub AnswerInTurn : {A : Type 0} → List (Stage A) → Type 0
 AnswerInTurn [] = ⊥
 AnswerInTurn (stage ∷ stages) = Answers stage × (stage None → AnswerInTurn stages)

@@ -1,5 +1,5 @@
 ghost use Rattle.std.specs.Prelude.{◌≡◌, IfOk};
-ghost use Rattle.dj_report.specs.Text.{report_text, report_status};
+ghost use Rattle.dj_report.specs.trusted.Text.{report_text, report_status};
 
 use crate::outcome::status_of_outcome;
 use crate::put::put_report;
@@ -38,7 +38,7 @@ impl<T: Drop> From<AllocFailed<T>> for ReportError {
     }
 }
 
-/// The report's lines, or the bytes that are written.
+/// The report's bytes: its lines, or those of the class file.
 pub fn bytes_of(alloc: Global, report: &Report) -> Result<Bytes, ReportError>
     ensures { IfOk result (λ bytes. bytes ≡ report_text report.now) }
 {

@@ -1,4 +1,4 @@
-//! Reports: what is told of a job or a run, its bytes and its status.
+//! Reports: what a command says of a job or a run, its bytes and its status.
 #![tactic(auto)]
 
 mod bytes;

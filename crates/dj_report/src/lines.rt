@@ -1,5 +1,6 @@
 ghost use Rattle.std.specs.Prelude.{◌≡◌, Contains, OnOk};
-ghost use Rattle.dj_report.specs.Lines.{file_line, Adds};
+ghost use Rattle.dj_report.specs.trusted.Lines.{file_line};
+ghost use Rattle.dj_report.specs.Lines.{Adds};
 
 use crate::order::in_order;
 use crate::report::Violation;
@@ -14,7 +15,7 @@ pub fn add_line(found: &mut Vec<Violation>, line: Violation) -> Result<(), NoMem
     Ok(())
 }
 
-/// Appends a line of a file as a whole.
+/// Appends a line on a whole file.
 pub fn add_file_line(
     alloc: Global,
     found: &mut Vec<Violation>,
@@ -34,7 +35,7 @@ pub fn add_file_line(
     add_line(found, line)
 }
 
-/// Appends lines, which are put in order among themselves, each once. So all lines are in order where those of later parts stand above.
+/// Appends lines, sorted among themselves and each once. So all lines are in order where later calls append greater lines.
 pub fn add_in_order(found: &mut Vec<Violation>, lines: Vec<Violation>) -> Result<(), NoMemory>
     ensures { OnOk result (Adds (λ v. Contains lines.items v) found.old.items found.new.items) }
 {

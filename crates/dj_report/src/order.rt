@@ -1,5 +1,5 @@
 ghost use Rattle.std.specs.Prelude.{◌≡◌, ◌↔◌, Contains};
-ghost use Rattle.dj_report.specs.Order.{cmp_within_file, violation_cmp, IsInOrder};
+ghost use Rattle.dj_report.specs.trusted.Order.{cmp_within_file, violation_cmp, IsInOrder};
 
 use crate::report::{Violation, Violations};
 use std::cmp::Ordering;
@@ -26,7 +26,7 @@ pub fn compare(a: &Violation, b: &Violation) -> Ordering
 impl PartialEq for Violation {
     ghost use Rattle.std.specs.Ordering.{eq_by_cmp};
     ghost use Rattle.std.specs.Cmp.{partial_equiv_from_equiv, eq_by_cmp_equiv};
-    ghost use Rattle.dj_report.specs.Order.{violation_cmp};
+    ghost use Rattle.dj_report.specs.trusted.Order.{violation_cmp};
     ghost use Rattle.dj_report.specs.OrderLaws.{violation_cmp_total};
 
     ghost eq = { eq_by_cmp violation_cmp };
@@ -49,7 +49,7 @@ impl PartialOrd for Violation {
     ghost use Rattle.std.specs.Prelude.{refl};
     ghost use Rattle.std.specs.Ordering.{as_partial_cmp};
     ghost use Rattle.std.specs.Cmp.{partial_order_from_agreeing_total};
-    ghost use Rattle.dj_report.specs.Order.{violation_cmp};
+    ghost use Rattle.dj_report.specs.trusted.Order.{violation_cmp};
     ghost use Rattle.dj_report.specs.OrderLaws.{violation_cmp_total};
 
     ghost partial_cmp = { as_partial_cmp violation_cmp };
@@ -63,7 +63,7 @@ impl PartialOrd for Violation {
 
 impl Ord for Violation {
     ghost use Rattle.std.specs.Prelude.{refl};
-    ghost use Rattle.dj_report.specs.Order.{violation_cmp};
+    ghost use Rattle.dj_report.specs.trusted.Order.{violation_cmp};
     ghost use Rattle.dj_report.specs.OrderLaws.{violation_cmp_total};
 
     ghost cmp = { violation_cmp };

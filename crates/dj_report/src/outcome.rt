@@ -1,8 +1,8 @@
 // Each function appends a part of the text of a run.
 ghost use Rattle.std.specs.Prelude.{◌≡◌, ◌<◌, ◌++◌, OnOk};
 ghost use Rattle.std.specs.List.{flat_map};
-ghost use Rattle.dj_report.specs.Outcomes.{low_hex_digit, byte_hex, unit_hex, bytes_text, units_text, message_text, thrown_text};
-ghost use Rattle.dj_report.specs.Outcomes.{charge_name, outcome_text, cost_text, costs_text, raw_text, run_text, outcome_status};
+ghost use Rattle.dj_report.specs.trusted.Outcomes.{low_hex_digit, byte_hex, unit_hex, bytes_text, units_text, message_text, thrown_text};
+ghost use Rattle.dj_report.specs.trusted.Outcomes.{charge_name, outcome_text, cost_text, costs_text, raw_text, run_text, outcome_status};
 
 use crate::bytes::ReportError;
 use crate::parts::{put_decimal, put_escaped};
@@ -175,7 +175,7 @@ pub fn put_run(out: &mut Vec<u8>, outcome: &Outcome, costs: &Costs) -> Result<()
     Ok(())
 }
 
-/// Appends the two lines of a run on the raw library.
+/// Appends the two lines of a run of `raw`.
 pub fn put_raw(out: &mut Vec<u8>, outcome: &Outcome, steps: u64) -> Result<(), ReportError>
     ensures { OnOk result (out.new.items ≡ out.old.items ++ raw_text outcome.now steps) }
 {

@@ -1,7 +1,7 @@
 // Each function appends a part that lines share.
 ghost use Rattle.std.specs.Prelude.{◌≡◌, ◌<◌, ◌++◌, OnOk};
 ghost use Rattle.std.specs.Fmt.{decimal};
-ghost use Rattle.dj_report.specs.Parts.{escaped_byte, escaped, hex_digit};
+ghost use Rattle.dj_report.specs.trusted.Parts.{escaped_byte, escaped, hex_digit};
 
 use crate::bytes::ReportError;
 use itoa::Buffer;

@@ -1,7 +1,7 @@
 // Each function appends a part of a report's text.
 ghost use Rattle.std.specs.Prelude.{◌≡◌, ◌++◌, OnOk};
 ghost use Rattle.std.specs.List.{flat_map};
-ghost use Rattle.dj_report.specs.Text.{rule_name, member_text, number_text, violation_text, violations_text, limit_text, syntax_text, line_fault_text, report_text};
+ghost use Rattle.dj_report.specs.trusted.Text.{rule_name, member_text, number_text, violation_text, violations_text, limit_text, syntax_text, line_fault_text, report_text};
 
 use crate::bytes::ReportError;
 use crate::outcome::{put_raw, put_run};
@@ -127,7 +127,7 @@ fn put_line_fault(out: &mut Vec<u8>, fault: &str, line: u32) -> Result<(), Repor
     Ok(())
 }
 
-/// Appends the report's lines, or the bytes that are written.
+/// Appends the report's lines, or the bytes of the class file.
 pub fn put_report(out: &mut Vec<u8>, report: &Report) -> Result<(), ReportError>
     ensures { OnOk result (out.new.items ≡ out.old.items ++ report_text report.now) }
 {

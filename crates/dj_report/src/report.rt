@@ -22,9 +22,9 @@ pub enum Limit {
 pub struct Violation {
     /// The file's path within the folder, as UTF-8.
     pub path: Name,
-    /// The member's name and descriptor. The empty member stands for none.
+    /// The member's name and descriptor; empty where the line is on the whole file.
     pub member: Name,
-    /// The number of the instruction, from 0.
+    /// The number of the instruction, counted from 0.
     pub number: Option<u32>,
     /// The number of the rule.
     pub rule: u8,
@@ -77,7 +77,7 @@ impl Violations {
         }
     }
 
-    /// The violations, lent.
+    /// The violations, borrowed.
     pub fn as_slice(&self) -> &[Violation]
         ensures { result.now ≡ self.now }
     {
@@ -101,36 +101,36 @@ impl From<Violations> for Vec<Violation> {
     }
 }
 
-/// What is told of a job.
+/// What a command reports of a job.
 #[derive(Debug, Drop)]
 pub enum Report {
-    /// So many class files, and no rule is violated.
+    /// No rule is violated, by this many class files.
     Accepted(u32),
-    /// The violations, of which there are some.
+    /// The violations, at least one.
     Rejected(Violations),
     /// The first limit that was passed.
     Limited(Limit),
-    /// The path within the folder of the first file of a set that is not straight.
+    /// The set is not straight. The path is that of its first file, within the folder.
     Later(Name),
-    /// The path of a file that isn't there, as UTF-8.
+    /// There is no file of this path, as UTF-8.
     Absent(Name),
     /// How a run ended, and what it was charged.
     Costed { outcome: Outcome, costs: Costs },
-    /// How a run on the raw library ended, and after how many steps.
+    /// How a run of `raw` ended, and after how many steps.
     Raw { outcome: Outcome, steps: u64 },
-    /// The words are those of no job.
+    /// The words give no job.
     Usage,
-    /// In this line of an assembler's text, at this column, stands what may not stand there.
+    /// What is in this line of an assembler's text, at this column, isn't allowed there.
     Syntax { line: u32, column: u32 },
-    /// This line of an assembler's text has a label that is unknown, defined again or of no use there.
+    /// This line of an assembler's text names a label that is unknown or of no use there, or defines one again.
     Label { line: u32 },
-    /// This line of an assembler's text asks for what doesn't fit.
+    /// This line of an assembler's text has something that doesn't fit.
     Large { line: u32 },
-    /// The bytes of a file, and nothing else.
+    /// The bytes of a class file, and nothing else.
     Written(Bytes),
 }
 
-/// A class file under its path within the folder.
+/// A class file and its path within the folder.
 #[derive(Clone, Copy, Debug)]
 pub struct PathFile<'a> {
     pub path: &'a str,

@@ -1,11 +1,11 @@
 -- The rules at plain values.
 use Rattle.std.proofs.Common.{◌≡◌, ◌≢◌, ℕ, ◌<◌, List, [], ◌∷◌, ◌++◌, length, get_or, Option, unwrap_or, refl, sym, ap, ◌∙◌, inl, inr, arith, codes}
 use Rattle.std.proofs.lemmas.List.{length-append}
-use Rattle.dj_pool.specs.Pool.{Constant, Utf8, Class}
-use Rattle.dj_class.specs.ClassFile.{MemberInfo, ClassFile, IsClassFile, IsMalformed}
+use Rattle.dj_pool.specs.trusted.Pool.{Constant, Utf8, Class}
+use Rattle.dj_class.specs.trusted.ClassFile.{MemberInfo, ClassFile, IsClassFile, IsMalformed}
 use Rattle.dj_report.specs.declared.report.Violation.{Violation}
-use Rattle.dj_report.specs.Lines.{file_line, member_line}
-use Rattle.dj_rules.specs.Violations.{member_text, path_units, IsNamedAs, this_name, IsNative, IsFinalizer, HasOtherVersion, IsClassLine, IsLineOf}
+use Rattle.dj_report.specs.trusted.Lines.{file_line, member_line}
+use Rattle.dj_rules.specs.trusted.Violations.{member_text, path_units, IsNamedAs, this_name, IsNative, IsFinalizer, HasOtherVersion, IsClassLine, IsLineOf}
 
 -- ---- a class with two methods
 

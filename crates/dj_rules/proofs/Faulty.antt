@@ -1,10 +1,10 @@
--- What the views of files tell, and the faults of the reader.
+-- What the views of files say, and the faults of the reader.
 use Rattle.std.proofs.Common.{◌≡◌, ℕ, ◌<◌, ◌^◌, Bool, true, false, List, [], ◌∷◌, map, length, refl, arith, None, Err, MatchBool}
 use Rattle.dj_pool.specs.declared.pool.PoolError.TheVariants as pool_errors
 use Rattle.dj_pool.proofs.ShortTexts.{class_name_short}
 use Rattle.dj_class.specs.declared.class.ClassError.{ClassError}
 use Rattle.dj_class.specs.declared.class.ClassError.TheVariants as class_errors
-use Rattle.dj_class.specs.ClassFile.{ClassFile, IsClassFile, IsMalformed}
+use Rattle.dj_class.specs.trusted.ClassFile.{ClassFile, IsClassFile, IsMalformed}
 use Rattle.dj_class.specs.Views.{ReadsClass}
 use Rattle.dj_class.specs.Faults.{IsFault}
 use Rattle.dj_pool.proofs.Decides.{tests_decide}
@@ -13,7 +13,7 @@ use Rattle.dj_report.specs.declared.report.PathFile.{PathFile}
 use Rattle.dj_rules.specs.Views.{path_file_view}
 use Rattle.dj_class.specs.Memory.{is_memory}
 use Rattle.dj_rules.specs.Reads.{IsOnlyView}
-use Rattle.dj_rules.specs.Violations.{this_name}
+use Rattle.dj_rules.specs.trusted.Violations.{this_name}
 
 -- the text of a class is short
 pub short_name : (bytes : List ℕ) (c : ClassFile) → IsClassFile bytes c → length (this_name c) < 2 ^ 32
@@ -45,7 +45,7 @@ only_none [] not_one = tt
 only_none (file ∷ []) not_one = absurd (not_one refl)
 only_none (file ∷ other ∷ files) not_one = tt
 
--- ---- what a test tells
+-- ---- what a test says
 
 pub told_true : (b : Bool) (P Q : Type 0) → b ≡ true → MatchBool b P Q → P
 told_true true P Q e h = h

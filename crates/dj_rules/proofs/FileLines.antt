@@ -2,19 +2,20 @@
 use Rattle.std.proofs.Common.{◌≡◌, ℕ, ◌≤◌, ◌⊎◌, ◌↔◌, List, [], ◌∷◌, map, take, length, refl, sym, subst, inl, inr, arith, Contains}
 use Rattle.dj_report.specs.declared.report.Violation.{Violation}
 use Rattle.dj_class.specs.declared.class.MemberView.{MemberView}
-use Rattle.dj_pool.specs.Pool.{Constant}
-use Rattle.dj_class.specs.ClassFile.{MemberInfo, ClassFile, IsClassFile, IsMalformed}
+use Rattle.dj_pool.specs.trusted.Pool.{Constant}
+use Rattle.dj_class.specs.trusted.ClassFile.{MemberInfo, ClassFile, IsClassFile, IsMalformed}
 use Rattle.dj_class.specs.Members.{member_of}
 use Rattle.dj_pool.proofs.Decides.{tests_decide}
 use Rattle.dj_class.proofs.ClassLaws.{one_class_file}
 use Rattle.dj_report.specs.declared.report.PathFile.{PathFile}
-use Rattle.dj_report.specs.Lines.{file_line, member_line, Adds, Gains, IsLineAmong}
-use Rattle.dj_report.specs.Order.{IsInOrder}
+use Rattle.dj_report.specs.trusted.Lines.{file_line, member_line}
+use Rattle.dj_report.specs.Lines.{Adds, Gains, IsLineAmong}
+use Rattle.dj_report.specs.trusted.Order.{IsInOrder}
 use Rattle.dj_report.proofs.Sorted.{contains_none}
 use Rattle.dj_report.proofs.Adding.{IsAmong, adds_same, adds_both, among_map, contains_map, from_contains_map, adds_none_yet, adds_one_more, exactly_found, exactly_same}
 use Rattle.dj_rules.specs.Lines.{IsPairLine, pair_of}
 use Rattle.std.proofs.lemmas.List.{take_all}
-use Rattle.dj_rules.specs.Violations.{member_text, this_name, IsNative, IsFinalizer, HasOtherVersion, IsNamedAs, IsMethodLine, IsClassLine, IsLineOf, IsViolation, AreViolations}
+use Rattle.dj_rules.specs.trusted.Violations.{member_text, this_name, IsNative, IsFinalizer, HasOtherVersion, IsNamedAs, IsMethodLine, IsClassLine, IsLineOf, IsViolation, AreViolations}
 use Rattle.dj_rules.specs.Views.{path_file_view}
 
 -- the pair of a method of the condition

@@ -4,3 +4,4 @@ pub mod Faulty
 mod Facts
 mod Pairs
 mod PairTexts
+mod VersionFacts

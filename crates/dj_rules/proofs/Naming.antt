@@ -6,10 +6,11 @@ use Rattle.std.proofs.lemmas.Bool.Decides.{Decides-eqb}
 use Rattle.std.proofs.lemmas.List.{append_cancel_right}
 use Rattle.std.proofs.lemmas.List.Concat.{flat_map-cons}
 use Rattle.std.proofs.lemmas.Slice.Eq.{slice_eq-Decides}
-use Rattle.dj_names.specs.ModifiedUtf8.{unit_text, units_text, Spells, BeginsNoUnit, BreaksAt}
-use Rattle.dj_names.specs.UnitReading.{unit_read}
+use Rattle.dj_names.specs.trusted.ModifiedUtf8.{unit_text, units_text, SpellsUnits}
+use Rattle.dj_names.specs.ModifiedUtf8.{BeginsNoUnit, BreaksAt}
+use Rattle.dj_names.specs.trusted.UnitReading.{unit_read}
 use Rattle.dj_names.proofs.UnitLaws.{unit_again, one_front, spelled_once}
-use Rattle.dj_rules.specs.Violations.{path_units, IsNamedAs}
+use Rattle.dj_rules.specs.trusted.Violations.{path_units, IsNamedAs}
 
 -- all ends in the suffix, and what stands before is compared
 pub cut_is : (all front units suffix : List ℕ) (r : Bool) → all ≡ front ++ suffix → r ≡ pointwise eqb front units → IsTrue r ↔ (all ≡ units ++ suffix)
@@ -29,7 +30,7 @@ some_text u rest fits e = no_some (u, rest) (ap unit_read e ∙ unit_again u res
 abbrev Fit : List ℕ → Type 0
 Fit units = AllByRecursion (λ u. u < 2 ^ 16) units
 
--- units that are spelled past a front end in nothing or begin with a unit
+-- units that are spelled past a prefix end in nothing or begin with a unit
 past_front : (front units rest : List ℕ) → Fit front → Fit units → units_text units ≡ units_text front ++ rest → rest ≢ [] → BeginsNoUnit rest → ⊥
 past_front [] [] rest f g e left broken = left (sym e)
 past_front [] (u ∷ us) rest f g e left broken = broken u (units_text us) g.0 (sym e ∙ flat_map-cons unit_text u us)
@@ -41,7 +42,7 @@ past_front (v ∷ vs) (u ∷ us) rest f g e left broken =
     past_front vs us rest f.1 g.1 (one_front u v (units_text us) (units_text vs ++ rest) g.0 f.0 heads).1 left broken
 
 -- a text that breaks spells nothing
-pub broken_spells_none : (text : List ℕ) (place : ℕ) (units : List ℕ) → BreaksAt text place → Spells text units → ⊥
+pub broken_spells_none : (text : List ℕ) (place : ℕ) (units : List ℕ) → BreaksAt text place → SpellsUnits text units → ⊥
 broken_spells_none text place units b s =
     past_front b.units units b.rest b.front_is.units_fit s.units_fit
     (sym s.text_is ∙ b.parts ∙ ap (λ (xs : List ℕ). xs ++ b.rest) b.front_is.text_is) b.left b.broken
@@ -50,7 +51,7 @@ broken_spells_none text place units b s =
 pub broken_names_none : (path name : List ℕ) (place : ℕ) → BreaksAt name place → IsTrue false ↔ IsNamedAs path name
 broken_names_none path name place b = (λ t. absurd cc, λ is. absurd (broken_spells_none name place is.units b is.spelled))
 
-pub named_by : (path name all units : List ℕ) (r : Bool) → Spells name units → all ≡ path_units path → IsTrue r ↔ (all ≡ units ++ codes ".class") → IsTrue r ↔ IsNamedAs path name
+pub named_by : (path name all units : List ℕ) (r : Bool) → SpellsUnits name units → all ≡ path_units path → IsTrue r ↔ (all ≡ units ++ codes ".class") → IsTrue r ↔ IsNamedAs path name
 named_by path name all units r spelled all-is tested = (
   λ t. record { units = units; spelled = spelled; same = sym all-is ∙ tested.0 t },
   λ is. tested.1 (all-is ∙ is.same ∙ ap (λ (us : List ℕ). us ++ codes ".class") (spelled_once name is.units units is.spelled spelled)),

@@ -1,9 +1,10 @@
 -- Pairs of indexes that have the same texts.
 use Rattle.std.proofs.Common.{◌≡◌, ℕ, ◌<◌, ◌↔◌, List, [], ◌∷◌, ◌++◌, ◌+◌, map, take, length, get_or, sym, ap, ◌∙◌, subst, Contains, Option, unwrap_or}
 use Rattle.std.proofs.lemmas.List.{take_more, map-append}
-use Rattle.dj_pool.specs.Pool.{Constant, text_at}
+use Rattle.dj_pool.specs.trusted.Pool.{Constant, text_at}
 use Rattle.dj_report.specs.declared.report.Violation.{Violation}
-use Rattle.dj_report.specs.Lines.{member_line, Adds, IsLineAmong}
+use Rattle.dj_report.specs.trusted.Lines.{member_line}
+use Rattle.dj_report.specs.Lines.{Adds, IsLineAmong}
 use Rattle.dj_report.proofs.Adding.{contains_map, from_contains_map, adds_same}
 use Rattle.dj_rules.specs.Lines.{IsPairLine, texts_of, turned_texts_of, HaveSameTexts}
 

@@ -1,4 +1,4 @@
-pub mod Violations
 pub mod Views
 pub mod Lines
 pub mod Reads
+pub mod trusted

@@ -1,19 +1,19 @@
 -- What was read of files, and what was found in them.
 use Rattle.std.specs.Prelude.{ℕ, ⊤, List, [], ◌∷◌, Option, Some, None}
-use Rattle.dj_edge.specs.Held.{File}
-use Rattle.dj_class.specs.ClassFile.{IsClassFile, IsMalformed}
+use Rattle.dj_edge.specs.trusted.Held.{File}
+use Rattle.dj_class.specs.trusted.ClassFile.{IsClassFile, IsMalformed}
 use Rattle.dj_class.specs.Views.{class_of}
 use Rattle.dj_rules.specs.declared.view.FileView.{FileView}
 use Rattle.dj_rules.specs.declared.view.FileView.TheVariants as views
 use Rattle.dj_rules.specs.declared.judge.Judged.{Judged}
-use Rattle.dj_rules.specs.Violations.{AreViolations}
+use Rattle.dj_rules.specs.trusted.Violations.{AreViolations}
 
--- the view shows what the bytes are
+-- the view shows the class file that the bytes are
 abbrev pub IsViewOf : List ℕ → FileView → Type 0
 IsViewOf bytes (views.Class view) = IsClassFile bytes (class_of view)
 IsViewOf bytes views.Malformed = IsMalformed bytes
 
--- the view is kept of a file that is the only one
+-- the view is kept where the set has one file
 abbrev pub IsOnlyView : List File → Option FileView → Type 0
 IsOnlyView (file ∷ []) (Some view) = IsViewOf file.1 view
 IsOnlyView (file ∷ []) None = ⊥

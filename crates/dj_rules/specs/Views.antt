@@ -1,5 +1,5 @@
 -- The values as the definitions see them.
-use Rattle.dj_edge.specs.Held.{File}
+use Rattle.dj_edge.specs.trusted.Held.{File}
 use Rattle.dj_report.specs.declared.report.PathFile.{PathFile}
 
 -- a file under its path within the folder

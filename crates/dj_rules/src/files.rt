@@ -1,7 +1,7 @@
 ghost use Rattle.std.specs.Prelude.{◌≡◌, ◌<◌, ◌^◌, length, map, All, IfOk, OnOk};
 ghost use Rattle.dj_report.specs.Lines.{Adds};
 ghost use Rattle.dj_rules.specs.Reads.{IsViewOf};
-ghost use Rattle.dj_rules.specs.Violations.{AreViolations, IsLineOf};
+ghost use Rattle.dj_rules.specs.trusted.Violations.{AreViolations, IsLineOf};
 ghost use Rattle.dj_rules.specs.Views.{path_file_view};
 
 use crate::error::RulesError;
@@ -32,7 +32,7 @@ pub(crate) fn add_file_lines(
     }
 }
 
-/// The same, in order among themselves. So all lines are in order already if the files are.
+/// The same, with the lines sorted among themselves. So all lines are in order where the files are.
 pub(crate) fn add_sorted_lines(
     alloc: Global,
     found: &mut Vec<Violation>,

@@ -17,7 +17,7 @@ pub struct Judged<'a> {
     pub only: Option<FileView<'a>>,
 }
 
-// Reads and judges a file, whose view is kept.
+// Reads and judges a file, and keeps its view.
 fn judge_one<'a>(alloc: Global, file: &PathFile<'a>) -> Result<Judged<'a>, RulesError>
     requires { length file.now.bytes.now < 2 ^ 32 }
     ensures { IfOk result (AreJudgedAs (path_file_view file.now ∷ [])) }
@@ -31,7 +31,7 @@ fn judge_one<'a>(alloc: Global, file: &PathFile<'a>) -> Result<Judged<'a>, Rules
     })
 }
 
-// Reads and judges files. The view of each is let go before the next is read.
+// Reads and judges files. The view of each is dropped before the next is read.
 fn judge_each<'a>(alloc: Global, files: &[PathFile<'a>]) -> Result<Judged<'a>, RulesError>
     requires short { All (λ file. length file.bytes.now < 2 ^ 32) files.now }
     requires not_one { length files.now ≡ 1 → ⊥ }
@@ -43,7 +43,7 @@ fn judge_each<'a>(alloc: Global, files: &[PathFile<'a>]) -> Result<Judged<'a>, R
     })
 }
 
-/// Reads and judges files. The view of one alone is kept, so that little more is held than the files.
+/// Reads and judges files. A view is kept only where there is one file, so that memory holds little more than the files.
 pub fn judge_files<'a>(alloc: Global, files: &[PathFile<'a>]) -> Result<Judged<'a>, RulesError>
     requires { All (λ file. length file.bytes.now < 2 ^ 32) files.now }
     ensures { IfOk result (AreJudgedAs (map path_file_view files.now)) }

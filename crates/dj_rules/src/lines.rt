@@ -8,7 +8,7 @@ use dj_pool::Pool;
 use dj_report::{Violation, add_line};
 use std::alloc::Global;
 
-// The name and the descriptor of these indexes.
+// The name and the descriptor at these indexes.
 fn text_of(alloc: Global, pool: &Pool<'_>, pair: (u16, u16)) -> Result<Name, RulesError>
     ensures { IfOk result (λ text. text ≡ pair_text pool.now pair) }
 {
@@ -25,7 +25,7 @@ pub struct MemberLines<'a, 'p> {
     pub rule: u8,
 }
 
-/// Appends a line of the members whose name and descriptor have these indexes.
+/// Appends a line on the members whose name and descriptor have these indexes.
 pub fn add_member_line(
     alloc: Global,
     found: &mut Vec<Violation>,

@@ -1,5 +1,5 @@
 ghost use Rattle.std.specs.Prelude.{◌≡◌, ℕ, ◌↔◌, map, Contains, IfOk};
-ghost use Rattle.dj_pool.specs.Pool.{text_at};
+ghost use Rattle.dj_pool.specs.trusted.Pool.{text_at};
 ghost use Rattle.dj_rules.specs.Lines.{texts_of, turned_texts_of, HaveSameTexts};
 
 use crate::error::RulesError;
@@ -8,7 +8,7 @@ use std::alloc::Global;
 use std::collections::BTreeMap;
 use std::collections::btree_map::Entry;
 
-// The index that has the text in the map, which gets the one that is asked for where it has none.
+// The index that the map has for the text; where it has none, this index is put in.
 fn first_index<'p>(
     indexes: &mut BTreeMap<&'p [u8], u16>,
     pool: &Pool<'p>,
@@ -30,8 +30,8 @@ fn first_index<'p>(
     }
 }
 
-// The pairs turned round, and in each, in place of its first index, the index that was met first with the same text. Pairs with
-// the same first index stand next to each other, so that a text is looked up once an index, and never once a use.
+// The pairs in reverse order, and in each, in place of its first index, the index that was met first with the same text. Pairs with
+// the same first index are next to each other, so that a text is looked up once for each index and not once for each use.
 fn turned(
     alloc: Global,
     pool: &Pool<'_>,
@@ -62,8 +62,8 @@ pub fn each_once(mut pairs: Vec<(u16, u16)>) -> Vec<(u16, u16)>
     pairs
 }
 
-/// Pairs of indexes that have the texts of these pairs. A pool may have a text under many indexes, and one stands for all of them,
-/// so that there are no more pairs than pairs of texts.
+/// Pairs of indexes that have the texts of these pairs. A pool may have a text under many indexes; one of these represents all of them,
+/// so that there are no more pairs of indexes than pairs of texts.
 pub fn each_text_once(
     alloc: Global,
     pool: &Pool<'_>,

@@ -16,7 +16,7 @@ pub enum FileView<'a> {
     Malformed,
 }
 
-// What the bytes are that were not read for this reason.
+// What the bytes are where reading them gave this error.
 fn view_of_fault<'a>(bytes: &'a [u8], error: ClassError) -> Result<FileView<'a>, RulesError>
     requires { ReadsClass bytes.now (Err error) }
     ensures { IfOk result (IsViewOf bytes.now) }

@@ -1,6 +1,6 @@
 ghost use Rattle.std.specs.Prelude.{◌≡◌, ◌<◌, ◌≤◌, ◌^◌, length, IfOk};
 ghost use Rattle.dj_straight.specs.Methods.{program_view};
-ghost use Rattle.dj_sandbox.specs.Limits.{most_file_bytes};
+ghost use Rattle.dj_sandbox.specs.trusted.Limits.{most_file_bytes};
 ghost use Rattle.dj_sandbox.specs.Shaped.{AreShort};
 
 use dj_names::{Costs, Kind, Name, Outcome, Thresholds};

@@ -6,17 +6,17 @@ use Rattle.std.proofs.lemmas.List.{length-append, length-map}
 use Rattle.std.proofs.lemmas.Option.{none-some, same_Some, slice_get_within}
 use Rattle.dj_names.specs.declared.descriptor.Ty.{Ty}
 use Rattle.dj_names.specs.declared.descriptor.Desc.{Desc}
-use Rattle.dj_names.specs.Types.{Name, same_name, class_type}
-use Rattle.dj_names.specs.Descriptors.{type_text}
-use Rattle.dj_model.specs.Types.{Prefix, Member, object_name}
-use Rattle.dj_model.specs.Program.{Program, Class, Method, class_at, method_of, method_at, flags_of, superclass_of, is_interface}
-use Rattle.dj_model.specs.Linking.{FoundMethod, most_classes, chain_of, chain, method_or, first_method, any_method, is_plain, interfaces_above, method_chain, or_else, resolve_method, declared_of}
+use Rattle.dj_names.specs.trusted.Types.{Name, same_name, class_type}
+use Rattle.dj_names.specs.trusted.Descriptors.{type_text}
+use Rattle.dj_model.specs.trusted.Types.{Prefix, Member, object_name}
+use Rattle.dj_model.specs.trusted.Program.{Program, Class, Method, class_at, method_of, method_at, flags_of, superclass_of, is_interface}
+use Rattle.dj_model.specs.trusted.Linking.{FoundMethod, most_classes, chain_of, chain, method_or, first_method, any_method, is_plain, interfaces_above, method_chain, or_else, resolve_method, declared_of}
 use Rattle.dj_model.specs.Standing.{IsEntry}
 use Rattle.dj_model.proofs.MappedNames.{either}
 use Rattle.dj_model.proofs.SoundLinks.{method_contained}
 use Rattle.dj_classes.specs.Tables.{name_of}
 use Rattle.dj_classes.proofs.Orders.{names_from_same}
-use Rattle.dj_declared.specs.Files.{desc_in}
+use Rattle.dj_declared.specs.trusted.Files.{desc_in}
 use Rattle.dj_types.specs.Typed.{Typed, texts_of, types_of, type_at, place_of_text, text_number}
 use Rattle.dj_types.specs.Members.{all_methods, found_method_number, number_of_method, resolved_method}
 use Rattle.dj_types.specs.declared.types.MethodId.{MethodId}
@@ -25,7 +25,7 @@ use Rattle.dj_image.specs.Imaged.{Imaged, program_of, typed_of}
 use Rattle.dj_activations.specs.Activations.{declared_or_none, declared_at}
 use Rattle.dj_invoking.specs.Choosing.{IsMethodOrNone}
 use Rattle.dj_invoking.proofs.Found.{resolved_own, told_method}
-use Rattle.dj_sandbox.specs.RawRules.{entry_desc, entry_of}
+use Rattle.dj_sandbox.specs.trusted.RawRules.{entry_desc, entry_of}
 use Rattle.dj_sandbox.proofs.RawLaws.{entry_desc_is}
 use Rattle.dj_running.specs.Loading.{IsEntryAt}
 
@@ -45,7 +45,7 @@ number_of_type typed text k e =
 
 -- ---- the number of its class
 
--- so many classes stand before that of the name, and at its place its type
+-- this many classes stand before that of the name, and at its place its type
 abbrev IsPlaced : Program → List Name → List Ty → Name → Type 0
 IsPlaced program texts types class =
     (place : ℕ) × (place_of_text (map name_of program ++ texts) class ≡ Some place)

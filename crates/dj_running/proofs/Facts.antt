@@ -1,12 +1,13 @@
--- Runs of which a report tells and runs of which it doesn't, at plain values.
+-- Runs that fit a report and runs that don't, at plain values.
 use Rattle.std.proofs.Common.{◌≡◌, ℕ, true, false, List, [], ◌∷◌, map, Err, refl}
-use Rattle.dj_edge.specs.Held.{File}
+use Rattle.dj_edge.specs.trusted.Held.{File}
 use Rattle.dj_edge.specs.declared.host.HostAnswer.{HostAnswer}
 use Rattle.dj_names.specs.declared.run.Charge.TheVariants as charges
 use Rattle.dj_names.specs.declared.run.Costs.{Costs}
 use Rattle.dj_names.specs.declared.run.Outcome.TheVariants as outcomes
-use Rattle.dj_sandbox.specs.RawRules.{AreRawViolations}
-use Rattle.dj_running.specs.Runs.{AreRawRuns, AddsRawRuns, is_stopped}
+use Rattle.dj_sandbox.specs.trusted.RawRules.{AreRawViolations}
+use Rattle.dj_running.specs.trusted.Runs.{AreRawRuns}
+use Rattle.dj_running.specs.Runs.{AddsRawRuns, is_stopped}
 
 -- no run where a rule is violated, and one where none is
 no_run : (files : List File) (class input : List ℕ) (steps : ℕ) (answers : List HostAnswer) → AreRawViolations files class [] → AreRawRuns files class input steps answers [] → ⊥

@@ -11,22 +11,22 @@ use Rattle.dj_names.specs.declared.run.Raised.{Raised}
 use Rattle.dj_names.specs.declared.run.Charge.{Charge}
 use Rattle.dj_names.specs.declared.run.Charge.TheVariants as charges
 use Rattle.dj_names.specs.declared.native.NativeId.{NativeId}
-use Rattle.dj_names.specs.Heaps.{Object, object_at, object_size}
-use Rattle.dj_names.specs.Types.{Name, field_kind, parameters_of, class_type}
+use Rattle.dj_names.specs.trusted.Heaps.{Object, object_at, object_size}
+use Rattle.dj_names.specs.trusted.Types.{Name, field_kind, parameters_of, class_type}
 use Rattle.dj_edge.specs.declared.host.HostAnswer.{HostAnswer}
-use Rattle.dj_model.specs.Types.{Prefix, Member, throwable_name}
-use Rattle.dj_model.specs.Instructions.{Mode, Virtual, Special, Static, Interface, Instruction, Nop, Push, PushText, Load, Store, Increment, LoadElement, StoreElement, Move, Compute, Convert, Branch, Goto, Switch, Return, GetStatic, PutStatic, GetField, PutField, Invoke, New, NewArray, ArrayLength, Throw, CheckCast, InstanceOf, Monitor, Other}
-use Rattle.dj_model.specs.Numbers.{is_of_kind}
-use Rattle.dj_model.specs.Program.{Program, Body, Abstract, Native, Runs}
-use Rattle.dj_model.specs.Linking.{FoundMethod, FoundField, resolve_method, resolve_field, select, special_method, place_of}
-use Rattle.dj_model.specs.State.{Terms, Counting, Uncounted, Metered, Accounted, Part, Next, Goes, Effect, goes}
-use Rattle.dj_model.specs.Values.{Values}
-use Rattle.dj_model.specs.Arrays.{OnHeap, passes_limit}
-use Rattle.dj_model.specs.Charging.{Charged, Fine, Over, charge_one}
-use Rattle.dj_model.specs.Natives.{Answer, Returns, Raises, MakesText, KeepsText, MakesChars, SetsFields, SetsElements, Adds, Rethrows, Question, asks, answer}
-use Rattle.dj_model.specs.Performing.{class_at_number, is_instance, seen, Counted, Within, Halts, ended_by, thrown_by, counted, Making, Made, NotMade, making, making_then, made_charged, text_object, chars_object, with_fields_in, with_elements_in, set_object, set_elements, returns, raises_after, returns_made, keeps_made, goes_on, perform, native_asked, native}
-use Rattle.dj_model.specs.Members.{get_static, put_static, Holder, NullHolder, NoHolder, Holds, holder_at, get_from, put_in, get_field, put_field, Kept, with_literal, push_kept, check_cast, instance_of, throw_top, kinds_of, Arguments, arguments_of, are_instances, run_body, run_method, received, asked_class, call, call_with, invoke}
-use Rattle.dj_model.specs.Effects.{values_effect, heap_effect, effect}
+use Rattle.dj_model.specs.trusted.Types.{Prefix, Member, throwable_name}
+use Rattle.dj_model.specs.trusted.Instructions.{Mode, Virtual, Special, Static, Interface, Instruction, Nop, Push, PushText, Load, Store, Increment, LoadElement, StoreElement, Move, Compute, Convert, Branch, Goto, Switch, Return, GetStatic, PutStatic, GetField, PutField, Invoke, New, NewArray, ArrayLength, Throw, CheckCast, InstanceOf, Monitor, Other}
+use Rattle.dj_model.specs.trusted.Numbers.{is_of_kind}
+use Rattle.dj_model.specs.trusted.Program.{Program, Body, Abstract, Native, Runs}
+use Rattle.dj_model.specs.trusted.Linking.{FoundMethod, FoundField, resolve_method, resolve_field, select, special_method, place_of}
+use Rattle.dj_model.specs.trusted.State.{Terms, Counting, Uncounted, Metered, Accounted, Part, Next, Goes, Effect, goes}
+use Rattle.dj_model.specs.trusted.Values.{Values}
+use Rattle.dj_model.specs.trusted.Arrays.{OnHeap, passes_limit}
+use Rattle.dj_model.specs.trusted.Charging.{Charged, Fine, Over, charge_one}
+use Rattle.dj_model.specs.trusted.Natives.{Answer, Returns, Raises, MakesText, KeepsText, MakesChars, SetsFields, SetsElements, Adds, Rethrows, Question, asks, answer}
+use Rattle.dj_model.specs.trusted.Performing.{class_at_number, is_instance, seen, Counted, Within, Halts, ended_by, thrown_by, counted, Making, Made, NotMade, making, making_then, made_charged, text_object, chars_object, with_fields_in, with_elements_in, set_object, set_elements, returns, raises_after, returns_made, keeps_made, goes_on, perform, native_asked, native}
+use Rattle.dj_model.specs.trusted.Members.{get_static, put_static, Holder, NullHolder, NoHolder, Holds, holder_at, get_from, put_in, get_field, put_field, Kept, with_literal, push_kept, check_cast, instance_of, throw_top, kinds_of, Arguments, arguments_of, are_instances, run_body, run_method, received, asked_class, call, call_with, invoke}
+use Rattle.dj_model.specs.trusted.Effects.{values_effect, heap_effect, effect}
 
 -- ---- other answers
 

@@ -2,7 +2,7 @@
 use Rattle.std.proofs.Common.{◌≡◌, ◌≤◌, List, [], ◌∷◌, ◌++◌, length, refl, sym, ap, ◌∙◌, arith}
 use Rattle.std.proofs.Math.ListN.{drop_of_length-le}
 use Rattle.dj_edge.specs.declared.host.HostAnswer.{HostAnswer}
-use Rattle.dj_host.specs.Hosted.{given_since}
+use Rattle.dj_host.specs.trusted.Hosted.{given_since}
 
 nothing_since : (given : List HostAnswer) → given_since given given ≡ []
 nothing_since given = let le : length given ≤ length given = omega arith in drop_of_length-le given le

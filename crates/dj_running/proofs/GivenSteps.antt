@@ -4,22 +4,22 @@ use Rattle.std.specs.Prelude.{⊤}
 use Rattle.dj_names.specs.declared.descriptor.Ty.{Ty}
 use Rattle.dj_names.specs.declared.run.Value.{Value}
 use Rattle.dj_names.specs.declared.native.NativeId.{NativeId}
-use Rattle.dj_names.specs.Heaps.{Object, object_size, with_new, next_number}
-use Rattle.dj_names.specs.Types.{Name}
+use Rattle.dj_names.specs.trusted.Heaps.{Object, object_size, with_new, next_number}
+use Rattle.dj_names.specs.trusted.Types.{Name}
 use Rattle.dj_edge.specs.declared.host.HostAnswer.{HostAnswer}
 use Rattle.dj_edge.specs.declared.host.HostAnswer.TheVariants as host
-use Rattle.dj_model.specs.Types.{Prefix, Declared}
-use Rattle.dj_model.specs.Instructions.{Instruction}
-use Rattle.dj_model.specs.Program.{Program, Field, Constant, Int, Long, Text, Unfit, class_at, fields_of, is_static, code_of, is_initialiser}
-use Rattle.dj_model.specs.Linking.{chain, static_place}
-use Rattle.dj_model.specs.State.{Terms, Frame, State, instruction_at, Part, Way, Next, To, Raise, Back, Flow, Goes, Catch, Stop, Call, End, Effect}
-use Rattle.dj_model.specs.Arrays.{passes_limit}
-use Rattle.dj_model.specs.Natives.{Question, Word, Nanos, Millis, asks, answered, host_answer}
-use Rattle.dj_model.specs.Performing.{class_at_number, seen, perform, with_answer, host_asked, native_asked, native}
-use Rattle.dj_model.specs.Members.{Kept, with_literal}
-use Rattle.dj_model.specs.Effects.{used_class}
-use Rattle.dj_model.specs.Initialisation.{most_frames, mark_all, not_initialised, Initialised, Ready, Waits, Fails, then_ready, with_text, with_constant, with_constants, constants_of, initialiser_frames, with_frames, initialise_all, initialise}
-use Rattle.dj_model.specs.Step.{Answer, Went, Ended, IllFormed, handler_of, at_handler, unwound, throw_new, new_exception, new_stop, stop_from, throw_stop_or, returned, settle_way, settle, part_of, with_part, frame_with, settled, prepared, done, act, step_of, step}
+use Rattle.dj_model.specs.trusted.Types.{Prefix, Declared}
+use Rattle.dj_model.specs.trusted.Instructions.{Instruction}
+use Rattle.dj_model.specs.trusted.Program.{Program, Field, Constant, Int, Long, Text, Unfit, class_at, fields_of, is_static, code_of, is_initialiser}
+use Rattle.dj_model.specs.trusted.Linking.{chain, static_place}
+use Rattle.dj_model.specs.trusted.State.{Terms, Frame, State, instruction_at, Part, Way, Next, To, Raise, Back, Flow, Goes, Catch, Stop, Call, End, Effect}
+use Rattle.dj_model.specs.trusted.Arrays.{passes_limit}
+use Rattle.dj_model.specs.trusted.Natives.{Question, Word, Nanos, Millis, asks, answered, host_answer}
+use Rattle.dj_model.specs.trusted.Performing.{class_at_number, seen, perform, with_answer, host_asked, native_asked, native}
+use Rattle.dj_model.specs.trusted.Members.{Kept, with_literal}
+use Rattle.dj_model.specs.trusted.Effects.{used_class}
+use Rattle.dj_model.specs.trusted.Initialisation.{most_frames, mark_all, not_initialised, Initialised, Ready, Waits, Fails, then_ready, with_text, with_constant, with_constants, constants_of, initialiser_frames, with_frames, initialise_all, initialise}
+use Rattle.dj_model.specs.trusted.Step.{Answer, Went, Ended, IllFormed, handler_of, at_handler, unwound, throw_new, new_exception, new_stop, stop_from, throw_stop_or, returned, settle_way, settle, part_of, with_part, frame_with, settled, prepared, done, act, step_of, step}
 use Rattle.dj_model.specs.Standing.{IsUnanswered, IsStarved, IsStarvedAt}
 use Rattle.dj_running.proofs.GivenEffects.{part_given, effect_given, Follows, both_ways, perform_alike, effect_follows}
 

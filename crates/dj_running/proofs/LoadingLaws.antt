@@ -1,32 +1,32 @@
--- Class files that were judged load with the library whose host answers.
+-- Class files that were judged load with the raw library.
 use Rattle.std.proofs.Common.{◌≡◌, ℕ, suc, ◌+◌, ◌&&◌, ◌*◌, ◌<◌, ◌≤◌, true, List, [], ◌∷◌, ◌++◌, map, take, length, get_or, nat_le, All, Contains, refl, sym, ap, ◌∙◌, subst, inl, inr, codes, arith}
 use Rattle.std.specs.List.{list_all, flat_map, AllByRecursion}
 use Rattle.std.proofs.lemmas.Bool.Decides.{nat_tests}
 use Rattle.std.proofs.lemmas.List.{length-append, length-map, take_more, take_all, map-append}
 use Rattle.std.proofs.lemmas.List.Elements.{All-head, All-tail, All-from_recursion, All-contains_itself}
-use Rattle.dj_edge.specs.Held.{File}
+use Rattle.dj_edge.specs.trusted.Held.{File}
 use Rattle.dj_edge.proofs.Lists.{All-unmap}
-use Rattle.dj_names.specs.Types.{Name}
-use Rattle.dj_names.specs.Library.{Library, raw_library, final_class, lang, string_methods}
+use Rattle.dj_names.specs.trusted.Types.{Name}
+use Rattle.dj_names.specs.trusted.Library.{Library, raw_library, final_class, lang, string_methods}
 use Rattle.dj_natives.specs.declared.library.LibClass.{LibClass}
 use Rattle.dj_natives.specs.Views.{library_class_view, library_view}
-use Rattle.dj_class.specs.ClassFile.{ClassFile, IsClassFile, IsMalformed, IsValid}
+use Rattle.dj_class.specs.trusted.ClassFile.{ClassFile, IsClassFile, IsMalformed, IsValid}
 use Rattle.dj_class.specs.declared.class.ClassView.{ClassView}
 use Rattle.dj_class.specs.Views.{class_of}
 use Rattle.dj_report.specs.declared.report.PathFile.{PathFile}
 use Rattle.dj_rules.specs.Views.{path_file_view}
-use Rattle.dj_report.specs.Lines.{file_line}
-use Rattle.dj_check.specs.Malformed.{HasFaultyMethod}
-use Rattle.dj_model.specs.Program.{Class}
-use Rattle.dj_model.specs.Libraries.{library_class}
-use Rattle.dj_declared.specs.Files.{declared_method, declared_field, declared_class}
+use Rattle.dj_report.specs.trusted.Lines.{file_line}
+use Rattle.dj_check.specs.trusted.Malformed.{HasFaultyMethod}
+use Rattle.dj_model.specs.trusted.Program.{Class}
+use Rattle.dj_model.specs.trusted.Libraries.{library_class}
+use Rattle.dj_declared.specs.trusted.Files.{declared_method, declared_field, declared_class}
 use Rattle.dj_linking.specs.declared.linker.BaseNames.TheVariants as bases
 use Rattle.dj_loader.specs.declared.error.LoadError.{LoadError}
 use Rattle.dj_loader.specs.declared.error.LoadError.TheVariants as errors
 use Rattle.dj_loader.specs.Loads.{all_classes, methods_of, fields_of, HasStringIn, AreFewMembers, IsLoadable, RefusesLoad}
 use Rattle.dj_loader.proofs.Lists.{member_none}
-use Rattle.dj_sandbox.specs.Checked.{AreGoodFiles, HoldsHierarchy}
-use Rattle.dj_sandbox.specs.RawRules.{AreRawViolations}
+use Rattle.dj_sandbox.specs.trusted.Checked.{AreGoodFiles, HoldsHierarchy}
+use Rattle.dj_sandbox.specs.trusted.RawRules.{AreRawViolations}
 use Rattle.dj_sandbox.specs.Late.{AreReadFiles}
 use Rattle.dj_sandbox.proofs.LateLaws.{read_more, good_files}
 use Rattle.dj_sandbox.proofs.LibraryDescriptors.{HasDescriptors, described, both}

@@ -1,23 +1,23 @@
--- Under the same answers of the host the report on a raw run tells of the same runs.
+-- Under the same answers of the host the report on a raw run is on the same runs.
 use Rattle.std.proofs.Common.{◌≡◌, ℕ, List, [], ◌∷◌, Some, refl, sym, ap, ◌∙◌, subst}
 use Rattle.std.proofs.lemmas.Option.{same_Some}
-use Rattle.dj_edge.specs.Held.{File}
+use Rattle.dj_edge.specs.trusted.Held.{File}
 use Rattle.dj_edge.specs.declared.host.HostAnswer.{HostAnswer}
 use Rattle.dj_names.specs.declared.run.Costs.{Costs}
-use Rattle.dj_names.specs.Types.{Name}
-use Rattle.dj_names.specs.Library.{raw_library}
-use Rattle.dj_class.specs.ClassFile.{ClassFile}
-use Rattle.dj_model.specs.Program.{Program}
-use Rattle.dj_model.specs.Runs.{plain_run}
-use Rattle.dj_model.specs.Runs as model_runs
+use Rattle.dj_names.specs.trusted.Types.{Name}
+use Rattle.dj_names.specs.trusted.Library.{raw_library}
+use Rattle.dj_class.specs.trusted.ClassFile.{ClassFile}
+use Rattle.dj_model.specs.trusted.Program.{Program}
+use Rattle.dj_model.specs.trusted.Runs.{plain_run}
+use Rattle.dj_model.specs.trusted.Runs as model_runs
 use Rattle.dj_program.specs.Laws.{AreWhole}
-use Rattle.dj_program.specs.Programs.{IsProgramIn}
+use Rattle.dj_program.specs.trusted.Programs.{IsProgramIn}
 use Rattle.dj_program.proofs.Once.{one_is}
-use Rattle.dj_sandbox.specs.Checked.{AreGoodFiles}
-use Rattle.dj_sandbox.specs.RawRules.{entry_of}
-use Rattle.dj_sandbox.specs.Judging.{raw_terms}
+use Rattle.dj_sandbox.specs.trusted.Checked.{AreGoodFiles}
+use Rattle.dj_sandbox.specs.trusted.RawRules.{entry_of}
+use Rattle.dj_sandbox.specs.trusted.Judging.{raw_terms}
 use Rattle.dj_sandbox.proofs.GoodFiles.{same_good}
-use Rattle.dj_running.specs.Runs.{IsRawRun, AreRawRuns}
+use Rattle.dj_running.specs.trusted.Runs.{IsRawRun, AreRawRuns}
 
 wholes : (files : List File) (classes : List ClassFile) → AreGoodFiles files classes → AreWhole classes
 wholes [] [] good = tt

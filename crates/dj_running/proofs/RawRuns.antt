@@ -1,17 +1,17 @@
 -- Files of which nothing is violated that is judged of a raw run have one, under some answers of the host.
 use Rattle.std.proofs.Common.{ℕ, List, [], Some, refl}
-use Rattle.dj_edge.specs.Held.{File}
-use Rattle.dj_names.specs.Types.{Name}
-use Rattle.dj_names.specs.Library.{raw_library}
+use Rattle.dj_edge.specs.trusted.Held.{File}
+use Rattle.dj_names.specs.trusted.Types.{Name}
+use Rattle.dj_names.specs.trusted.Library.{raw_library}
 use Rattle.dj_edge.specs.declared.host.HostAnswer.{HostAnswer}
-use Rattle.dj_class.specs.ClassFile.{ClassFile}
-use Rattle.dj_model.specs.Program.{Program}
+use Rattle.dj_class.specs.trusted.ClassFile.{ClassFile}
+use Rattle.dj_model.specs.trusted.Program.{Program}
 use Rattle.dj_report.specs.declared.report.Report.{Report}
 use Rattle.dj_report.specs.declared.report.Report.TheVariants as reports
-use Rattle.dj_program.specs.Programs.{IsProgramIn}
-use Rattle.dj_sandbox.specs.Checked.{AreGoodFiles}
-use Rattle.dj_sandbox.specs.RawRules.{entry_of, AreRawViolations}
-use Rattle.dj_sandbox.specs.Judging.{raw_terms, RunsRaw}
+use Rattle.dj_program.specs.trusted.Programs.{IsProgramIn}
+use Rattle.dj_sandbox.specs.trusted.Checked.{AreGoodFiles}
+use Rattle.dj_sandbox.specs.trusted.RawRules.{entry_of, AreRawViolations}
+use Rattle.dj_sandbox.specs.trusted.Judging.{raw_terms, RunsRaw}
 use Rattle.dj_sound.proofs.RawAccepted.{are_raw_accepted}
 use Rattle.dj_running.specs.Laws.{HasRawRun}
 use Rattle.dj_running.proofs.TakenAnswers.{run_takes}

@@ -1,22 +1,22 @@
--- What is told of a run of files in which no rule is violated.
+-- What is known of a run of files in which no rule is violated.
 use Rattle.std.proofs.Common.{◌≡◌, ◌≢◌, ◌==◌, ℕ, false, true≢false, List, [], ◌∷◌, ◌++◌, length, Option, Some, IfSome, map, Result, Ok, Err, IfOk, refl, sym, ap, ◌∙◌, subst}
-use Rattle.dj_edge.specs.Held.{File}
+use Rattle.dj_edge.specs.trusted.Held.{File}
 use Rattle.dj_edge.specs.declared.host.HostAnswer.{HostAnswer}
 use Rattle.dj_names.specs.declared.run.Costs.{Costs}
-use Rattle.dj_names.specs.Types.{Name}
-use Rattle.dj_names.specs.Library.{raw_library}
+use Rattle.dj_names.specs.trusted.Types.{Name}
+use Rattle.dj_names.specs.trusted.Library.{raw_library}
 use Rattle.dj_class.specs.declared.class.ClassView.{ClassView}
 use Rattle.dj_class.specs.Views.{class_of}
-use Rattle.dj_program.specs.Programs.{IsProgramIn}
-use Rattle.dj_sandbox.specs.Checked.{AreGoodFiles}
-use Rattle.dj_model.specs.Types.{Prefix}
+use Rattle.dj_program.specs.trusted.Programs.{IsProgramIn}
+use Rattle.dj_sandbox.specs.trusted.Checked.{AreGoodFiles}
+use Rattle.dj_model.specs.trusted.Types.{Prefix}
 use Rattle.dj_model.specs.Sound.{IsSound}
 use Rattle.dj_model.specs.Standing.{IsEntry}
-use Rattle.dj_model.specs.Runs.{plain_run}
-use Rattle.dj_model.specs.Runs as model_runs
+use Rattle.dj_model.specs.trusted.Runs.{plain_run}
+use Rattle.dj_model.specs.trusted.Runs as model_runs
 use Rattle.dj_names.specs.declared.run.Outcome.{Outcome}
 use Rattle.dj_names.specs.declared.run.Outcome.TheVariants as outcomes
-use Rattle.dj_report.specs.Outcomes.{outcome_status}
+use Rattle.dj_report.specs.trusted.Outcomes.{outcome_status}
 use Rattle.dj_report.specs.declared.report.Report.{Report}
 use Rattle.dj_report.specs.declared.report.Violation.{Violation}
 use Rattle.dj_report.proofs.Sorted.{contains_first}
@@ -24,15 +24,17 @@ use Rattle.dj_loader.proofs.Lists.{member_none}
 use Rattle.dj_image.specs.Imaged.{Imaged, program_of}
 use Rattle.dj_machine.specs.declared.engine.Ending.{Ending}
 use Rattle.dj_machine.specs.Engines.{RunsPlainly, report_for, terms_for}
-use Rattle.dj_sandbox.specs.Limits.{most_heap_bytes}
-use Rattle.dj_sandbox.specs.RawRules.{entry_of, AreRawViolations}
-use Rattle.dj_sandbox.specs.Judging.{raw_terms, RunsRaw}
-use Rattle.dj_sandbox.specs.Statuses.{IsAmong, raw_statuses}
+use Rattle.dj_sandbox.specs.trusted.Limits.{most_heap_bytes}
+use Rattle.dj_sandbox.specs.trusted.RawRules.{entry_of, AreRawViolations}
+use Rattle.dj_sandbox.specs.trusted.Judging.{raw_terms, RunsRaw}
+use Rattle.dj_sandbox.specs.trusted.Statuses.{IsAmong}
+use Rattle.dj_sandbox.specs.Statuses.{raw_statuses}
 use Rattle.dj_sound.specs.Accepted.{IsRawAccepted}
 use Rattle.dj_sound.proofs.RawAccepted.{are_raw_accepted}
 use Rattle.dj_running.specs.Loading.{IsImageOf}
 use Rattle.dj_running.proofs.Unstopped.{never_stopped}
-use Rattle.dj_running.specs.Runs.{no_limits, run_of, is_stopped, TellsEnding, AreRawRuns, AddsRawRuns}
+use Rattle.dj_running.specs.trusted.Runs.{AreRawRuns}
+use Rattle.dj_running.specs.Runs.{no_limits, run_of, is_stopped, TellsEnding, AddsRawRuns}
 
 -- ---- the image
 
@@ -78,7 +80,7 @@ module _ (files : List File) (class : Name) (imaged : Imaged) (is : IsImageOf fi
     raw_run : (ending : Ending) → RunsPlainly imaged (entry_of class) input no_limits most_heap_bytes steps gave ending → AreRawRuns files class input steps gave (run_of ending ∷ [])
     raw_run ending runs = (silent, (is.0, program_of imaged, report_for ending (length gave), is.1, is.2, plainly ending runs, refl, refl))
 
-    -- it is told after those before
+    -- it is recorded after those before
     pub adds_told : (old new : List (Costs × ℕ)) (ending : Ending) → RunsPlainly imaged (entry_of class) input no_limits most_heap_bytes steps gave ending
         → new ≡ old ++ run_of ending ∷ [] → (added : List (Costs × ℕ)) × AreRawRuns files class input steps gave added × (new ≡ old ++ added)
     adds_told old new ending runs adds = (run_of ending ∷ [], raw_run ending runs, adds)

@@ -1,29 +1,29 @@
 -- Files that don't violate rule 1 are class files, and these make a program with a library: it can't be that there is none.
 use Rattle.std.proofs.Common.{◌≡◌, ℕ, Bool, true, false, List, [], ◌∷◌, map, Contains, Option, Some, None, refl, sym, subst, inl, inr}
-use Rattle.dj_edge.specs.Held.{File}
-use Rattle.dj_names.specs.Types.{Name}
-use Rattle.dj_names.specs.Library.{Library}
+use Rattle.dj_edge.specs.trusted.Held.{File}
+use Rattle.dj_names.specs.trusted.Types.{Name}
+use Rattle.dj_names.specs.trusted.Library.{Library}
 use Rattle.dj_ops.specs.declared.frames.Frame.{Frame}
-use Rattle.dj_pool.specs.Pool.{Constant}
-use Rattle.dj_class.specs.ClassFile.{MemberInfo, ClassFile}
-use Rattle.dj_class.specs.Code.{CodeInfo, IsCode}
+use Rattle.dj_pool.specs.trusted.Pool.{Constant}
+use Rattle.dj_class.specs.trusted.ClassFile.{MemberInfo, ClassFile}
+use Rattle.dj_class.specs.trusted.Code.{CodeInfo, IsCode}
 use Rattle.dj_labels.specs.declared.labelled.Labelled.{Labelled}
-use Rattle.dj_labels.specs.Labels.{IsLabelled}
-use Rattle.dj_frames.specs.StackMaps.{IsStackMap}
-use Rattle.dj_model.specs.Program.{Program, Class, Method, Body, Abstract, Runs}
-use Rattle.dj_model.specs.Libraries.{joined, library_program}
+use Rattle.dj_labels.specs.trusted.Labels.{IsLabelled}
+use Rattle.dj_frames.specs.trusted.StackMaps.{IsStackMap}
+use Rattle.dj_model.specs.trusted.Program.{Program, Class, Method, Body, Abstract, Runs}
+use Rattle.dj_model.specs.trusted.Libraries.{joined, library_program}
 use Rattle.dj_report.specs.declared.report.Violation.{Violation}
-use Rattle.dj_report.specs.Lines.{file_line}
-use Rattle.dj_check.specs.Attributes.{codes_of, maps_of}
-use Rattle.dj_check.specs.Malformed.{IsFaulty, IsFaultyMethod, IsFaultyBody, IsRefused, IsGood}
-use Rattle.dj_check.specs.Code.{HasFrames}
-use Rattle.dj_declared.specs.Files.{is_bodiless, declared_method, declared_class}
-use Rattle.dj_program.specs.Codes.{CodeParts, code_in, IsMethodCode}
-use Rattle.dj_program.specs.Programs.{AreSideBySide, IsBodyIn, IsMethodIn, field_in_file, IsClassIn, IsProgramIn}
+use Rattle.dj_report.specs.trusted.Lines.{file_line}
+use Rattle.dj_check.specs.trusted.Attributes.{codes_of, maps_of}
+use Rattle.dj_check.specs.trusted.Malformed.{IsFaulty, IsFaultyMethod, IsFaultyBody, IsRefused, IsGood}
+use Rattle.dj_check.specs.trusted.Code.{HasFrames}
+use Rattle.dj_declared.specs.trusted.Files.{is_bodiless, declared_method, declared_class}
+use Rattle.dj_program.specs.trusted.Codes.{CodeParts, code_in, IsMethodCode}
+use Rattle.dj_program.specs.trusted.Programs.{AreSideBySide, IsBodyIn, IsMethodIn, field_in_file, IsClassIn, IsProgramIn}
 use Rattle.dj_loader.proofs.Lists.{member_first, member_later, member_none}
 use Rattle.dj_loader.proofs.Coded.{bodiless_told}
-use Rattle.dj_sandbox.specs.Checked.{AreGoodFiles}
-use Rattle.dj_sandbox.specs.RawRules.{AreRawViolations}
+use Rattle.dj_sandbox.specs.trusted.Checked.{AreGoodFiles}
+use Rattle.dj_sandbox.specs.trusted.RawRules.{AreRawViolations}
 use Rattle.dj_sandbox.proofs.Classical.{NotNot, unit, bind, so, decide}
 
 -- ---- code

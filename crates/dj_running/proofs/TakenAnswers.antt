@@ -2,16 +2,16 @@
 use Rattle.std.proofs.Common.{◌≡◌, ℕ, zero, suc, ◌-◌, List, [], ◌∷◌, length, Some, refl, sym, ap, ◌∙◌, subst, inl, inr, arith}
 use Rattle.dj_edge.specs.declared.host.HostAnswer.{HostAnswer}
 use Rattle.dj_names.specs.declared.run.Outcome.{Outcome}
-use Rattle.dj_names.specs.Heaps.{object_size}
-use Rattle.dj_model.specs.Types.{Prefix, Declared}
-use Rattle.dj_model.specs.Program.{Program}
-use Rattle.dj_model.specs.State.{Terms, State}
-use Rattle.dj_model.specs.Arrays.{passes_limit}
-use Rattle.dj_model.specs.Initialisation.{Initialised, Ready, Waits, Fails, initialise}
-use Rattle.dj_model.specs.Step.{Answer, Went, Ended, IllFormed, step}
+use Rattle.dj_names.specs.trusted.Heaps.{object_size}
+use Rattle.dj_model.specs.trusted.Types.{Prefix, Declared}
+use Rattle.dj_model.specs.trusted.Program.{Program}
+use Rattle.dj_model.specs.trusted.State.{Terms, State}
+use Rattle.dj_model.specs.trusted.Arrays.{passes_limit}
+use Rattle.dj_model.specs.trusted.Initialisation.{Initialised, Ready, Waits, Fails, initialise}
+use Rattle.dj_model.specs.trusted.Step.{Answer, Went, Ended, IllFormed, step}
 use Rattle.dj_model.specs.Sound.{IsSound}
 use Rattle.dj_model.specs.Standing.{AreStanding, AnswerStands, IsStarvedAt, IsEntry}
-use Rattle.dj_model.specs.Runs.{input_array, input_heap, start_state, begun, begin, Ran, Going, Finished, NoStep, one_more, then_steps, steps, from_start, Report, report_of, plain_run}
+use Rattle.dj_model.specs.trusted.Runs.{input_array, input_heap, start_state, begun, begin, Ran, Going, Finished, NoStep, one_more, then_steps, steps, from_start, Report, report_of, plain_run}
 use Rattle.dj_model.proofs.SoundRuns.{step_stands, begin_stands}
 use Rattle.dj_running.proofs.GivenEffects.{both_ways}
 use Rattle.dj_running.proofs.GivenSteps.{state_given, initialised_given, answer_given, Moves, MovesAfter, initialise_alike, step_moves, IsAsking, starved_none, starved_waits}
@@ -30,7 +30,7 @@ one_more_left (Finished outcome s n) none = none
 one_more_left NoStep none = none
 
 module _ (program : Program) (prefix : Prefix) (is : IsSound program prefix) (terms : Terms) where
-  -- so many steps from the state take all of these answers
+  -- this many steps from the state take all of these answers
   abbrev TakesAll : ℕ → State → List HostAnswer → Type 0
   TakesAll n s answers = NoneLeft (steps program prefix terms n (state_given answers s))
 

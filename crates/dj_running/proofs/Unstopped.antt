@@ -8,20 +8,20 @@ use Rattle.dj_names.specs.declared.run.Element.TheVariants as elements
 use Rattle.dj_names.specs.declared.run.Charge.{Charge}
 use Rattle.dj_names.specs.declared.run.Outcome.{Outcome}
 use Rattle.dj_names.specs.declared.run.Outcome.TheVariants as outcomes
-use Rattle.dj_names.specs.Heaps.{Object, Heap, object_size, with_new, next_number}
-use Rattle.dj_names.specs.Types.{Name}
+use Rattle.dj_names.specs.trusted.Heaps.{Object, Heap, object_size, with_new, next_number}
+use Rattle.dj_names.specs.trusted.Types.{Name}
 use Rattle.dj_edge.specs.declared.host.HostAnswer.{HostAnswer}
-use Rattle.dj_model.specs.Types.{Prefix, Declared, is_stop}
-use Rattle.dj_model.specs.Instructions.{Instruction}
-use Rattle.dj_model.specs.Program.{Program, Field, Constant, Int, Long, Text, Unfit, class_at, fields_of, is_static, is_initialiser, code_of}
-use Rattle.dj_model.specs.Linking.{chain, static_place}
-use Rattle.dj_model.specs.State.{Account, Frame, State, Way, Next, To, Raise, Back, Flow, Goes, Catch, Stop, Call, End, Effect, instruction_at}
-use Rattle.dj_model.specs.Arrays.{Found, Null, NoArray, IsArray, array_at, passes_limit}
-use Rattle.dj_model.specs.Members.{Kept, with_literal}
-use Rattle.dj_model.specs.Effects.{effect, used_class}
-use Rattle.dj_model.specs.Initialisation.{most_frames, mark_all, not_initialised, Initialised, Ready, Waits, Fails, then_ready, with_text, with_constant, with_constants, constants_of, initialiser_frames, with_frames, initialise}
-use Rattle.dj_model.specs.Step.{Answer, Went, Ended, IllFormed, stopped_by, ends_with, handler_of, leaves_frame, at_handler, unwound, throw_new, new_exception, bytes_in, result_outcome, returned, settle_way, settle, with_part, frame_with, part_of, settled, prepared, done, act, step_of, step}
-use Rattle.dj_model.specs.Runs.{input_array, input_heap, start_state, begun, begin, Ran, Going, Finished, NoStep, one_more, then_steps, steps, from_start, Report, report_of, plain_run}
+use Rattle.dj_model.specs.trusted.Types.{Prefix, Declared, is_stop}
+use Rattle.dj_model.specs.trusted.Instructions.{Instruction}
+use Rattle.dj_model.specs.trusted.Program.{Program, Field, Constant, Int, Long, Text, Unfit, class_at, fields_of, is_static, is_initialiser, code_of}
+use Rattle.dj_model.specs.trusted.Linking.{chain, static_place}
+use Rattle.dj_model.specs.trusted.State.{Account, Frame, State, Way, Next, To, Raise, Back, Flow, Goes, Catch, Stop, Call, End, Effect, instruction_at}
+use Rattle.dj_model.specs.trusted.Arrays.{Found, Null, NoArray, IsArray, array_at, passes_limit}
+use Rattle.dj_model.specs.trusted.Members.{Kept, with_literal}
+use Rattle.dj_model.specs.trusted.Effects.{effect, used_class}
+use Rattle.dj_model.specs.trusted.Initialisation.{most_frames, mark_all, not_initialised, Initialised, Ready, Waits, Fails, then_ready, with_text, with_constant, with_constants, constants_of, initialiser_frames, with_frames, initialise}
+use Rattle.dj_model.specs.trusted.Step.{Answer, Went, Ended, IllFormed, stopped_by, ends_with, handler_of, leaves_frame, at_handler, unwound, throw_new, new_exception, bytes_in, result_outcome, returned, settle_way, settle, with_part, frame_with, part_of, settled, prepared, done, act, step_of, step}
+use Rattle.dj_model.specs.trusted.Runs.{input_array, input_heap, start_state, begun, begin, Ran, Going, Finished, NoStep, one_more, then_steps, steps, from_start, Report, report_of, plain_run}
 use Rattle.dj_model.proofs.Flows.{either_way}
 use Rattle.dj_model.proofs.Fits.{PlainOutcome, PlainFlow}
 use Rattle.dj_running.specs.Laws.{uncounted, NeverStopped}
@@ -227,7 +227,7 @@ module _ (program : Program) (prefix : Prefix) (limit : Option ℕ) where
       (begun_plain (initialise program prefix (uncounted limit) entry.class (start_state program entry (input_heap input) answers))
       (initialise_plain entry.class (start_state program entry (input_heap input) answers) refl))
 
--- ---- what is told of it
+-- ---- what is known of it
 
 unstopped : (outcome : Outcome) → PlainOutcome outcome → is_stopped outcome ≡ false
 unstopped (outcomes.Stopped charge) plain = absurd plain

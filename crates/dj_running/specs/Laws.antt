@@ -1,15 +1,15 @@
 -- What follows of files of which nothing is violated that is judged of a raw run, and of runs of which nobody counts the charges.
 use Rattle.std.specs.Prelude.{◌≡◌, ℕ, false, List, [], Option, Some, IfSome}
-use Rattle.dj_edge.specs.Held.{File}
+use Rattle.dj_edge.specs.trusted.Held.{File}
 use Rattle.dj_edge.specs.declared.host.HostAnswer.{HostAnswer}
-use Rattle.dj_names.specs.Types.{Name}
-use Rattle.dj_model.specs.Types.{Prefix, Declared}
-use Rattle.dj_model.specs.Program.{Program}
-use Rattle.dj_model.specs.State.{Terms, Uncounted}
-use Rattle.dj_model.specs.Runs.{plain_run}
+use Rattle.dj_names.specs.trusted.Types.{Name}
+use Rattle.dj_model.specs.trusted.Types.{Prefix, Declared}
+use Rattle.dj_model.specs.trusted.Program.{Program}
+use Rattle.dj_model.specs.trusted.State.{Terms, Uncounted}
+use Rattle.dj_model.specs.trusted.Runs.{plain_run}
 use Rattle.dj_report.specs.declared.report.Report.{Report}
-use Rattle.dj_sandbox.specs.RawRules.{AreRawViolations}
-use Rattle.dj_sandbox.specs.Judging.{RunsRaw}
+use Rattle.dj_sandbox.specs.trusted.RawRules.{AreRawViolations}
+use Rattle.dj_sandbox.specs.trusted.Judging.{RunsRaw}
 use Rattle.dj_running.specs.Runs.{is_stopped}
 
 -- under some answers of the host, all of which it takes, the run ends or makes all of its steps

@@ -1,3 +1,4 @@
 pub mod Runs
 pub mod Loading
 pub mod Laws
+pub mod trusted

@@ -1,17 +1,17 @@
--- The code's own: the image of files, and the entry in it.
+-- Used by the code alone: the image of files, and the entry in it.
 use Rattle.std.specs.Prelude.{◌≡◌, ◌<◌, ℕ, List, [], length}
-use Rattle.dj_edge.specs.Held.{File}
-use Rattle.dj_names.specs.Types.{Name}
-use Rattle.dj_names.specs.Library.{raw_library}
-use Rattle.dj_class.specs.ClassFile.{ClassFile}
-use Rattle.dj_program.specs.Programs.{IsProgramIn}
+use Rattle.dj_edge.specs.trusted.Held.{File}
+use Rattle.dj_names.specs.trusted.Types.{Name}
+use Rattle.dj_names.specs.trusted.Library.{raw_library}
+use Rattle.dj_class.specs.trusted.ClassFile.{ClassFile}
+use Rattle.dj_program.specs.trusted.Programs.{IsProgramIn}
 use Rattle.dj_types.specs.Members.{all_methods}
 use Rattle.dj_image.specs.Imaged.{Imaged, program_of}
 use Rattle.dj_activations.specs.Activations.{declared_at}
-use Rattle.dj_sandbox.specs.Checked.{AreGoodFiles}
-use Rattle.dj_sandbox.specs.RawRules.{entry_of}
+use Rattle.dj_sandbox.specs.trusted.Checked.{AreGoodFiles}
+use Rattle.dj_sandbox.specs.trusted.RawRules.{entry_of}
 
--- its program is that of the class files of the files and of the library whose host answers
+-- its program is that of the class files of the files and of the raw library
 abbrev pub IsImageOf : List File → Imaged → Type 0
 IsImageOf files imaged =
     (classes : List ClassFile) × AreGoodFiles files classes × IsProgramIn raw_library classes (program_of imaged) × (imaged.prefix ≡ [])

@@ -1,7 +1,7 @@
 //! The entry of a run in an image.
 ghost use Rattle.dj_model.specs.Standing.{IsEntry};
 ghost use Rattle.dj_image.specs.Imaged.{program_of};
-ghost use Rattle.dj_sandbox.specs.RawRules.{entry_of};
+ghost use Rattle.dj_sandbox.specs.trusted.RawRules.{entry_of};
 ghost use Rattle.dj_running.specs.Loading.{IsEntryAt};
 
 use dj_image::{Image, MethodId};

@@ -1,4 +1,4 @@
-//! Runs of class files that were judged: a class of theirs is run with the library whose host answers.
+//! Runs of class files that were judged: a class of theirs is run with the raw library.
 #![tactic(auto)]
 
 mod entry;

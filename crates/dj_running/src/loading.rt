@@ -1,15 +1,15 @@
 //! The image of class files that were judged.
 ghost use Rattle.std.specs.Prelude.{◌≡◌, ◌<◌, ◌≤◌, ◌^◌, [], length, map, All, IfOk};
-ghost use Rattle.dj_names.specs.Library.{raw_library};
-ghost use Rattle.dj_class.specs.ClassFile.{IsClassFile, IsMalformed, IsValid};
+ghost use Rattle.dj_names.specs.trusted.Library.{raw_library};
+ghost use Rattle.dj_class.specs.trusted.ClassFile.{IsClassFile, IsMalformed, IsValid};
 ghost use Rattle.dj_class.specs.Views.{class_of};
 ghost use Rattle.dj_rules.specs.Views.{path_file_view};
-ghost use Rattle.dj_check.specs.Malformed.{HasFaultyMethod};
+ghost use Rattle.dj_check.specs.trusted.Malformed.{HasFaultyMethod};
 ghost use Rattle.dj_loader.specs.Loads.{IsLoadable, all_classes};
-ghost use Rattle.dj_program.specs.Programs.{IsProgramIn};
+ghost use Rattle.dj_program.specs.trusted.Programs.{IsProgramIn};
 ghost use Rattle.dj_image.specs.Imaged.{program_of};
 ghost use Rattle.dj_sandbox.specs.Late.{AreReadFiles};
-ghost use Rattle.dj_sandbox.specs.Limits.{most_files};
+ghost use Rattle.dj_sandbox.specs.trusted.Limits.{most_files};
 
 use dj_class::ClassView;
 use dj_library::raw;
@@ -44,7 +44,7 @@ pub fn views_of<'a>(alloc: Global, files: &[PathFile<'a>]) -> Result<Vec<ClassVi
     Ok(views)
 }
 
-/// The image of the program of class files and the library whose host answers, which load together.
+/// The image of the program of class files and the raw library, which load together.
 pub fn raw_image(alloc: Global, views: &[ClassView<'_>]) -> Result<Image, RulesError>
     requires valid { All (λ view. IsValid (class_of view)) views.now }
     requires coded { All (λ view. HasFaultyMethod (class_of view) → ⊥) views.now }

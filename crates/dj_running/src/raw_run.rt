@@ -1,14 +1,16 @@
-//! The run of an image, and what is told of it.
+//! The run of an image, and the report on it.
 ghost use Rattle.std.specs.Prelude.{◌≡◌, ◌++◌, false, IfOk};
 ghost use Rattle.dj_model.specs.Sound.{IsSound};
 ghost use Rattle.dj_model.specs.Standing.{IsEntry};
-ghost use Rattle.dj_report.specs.Text.{report_status};
+ghost use Rattle.dj_report.specs.trusted.Text.{report_status};
 ghost use Rattle.dj_image.specs.Imaged.{program_of};
-ghost use Rattle.dj_host.specs.Hosted.{given_since};
-ghost use Rattle.dj_machine.specs.Engines.{AddsRun, RunsPlainly};
-ghost use Rattle.dj_sandbox.specs.Limits.{most_heap_bytes};
-ghost use Rattle.dj_sandbox.specs.RawRules.{entry_of};
-ghost use Rattle.dj_sandbox.specs.Statuses.{IsAmong, raw_statuses};
+ghost use Rattle.dj_host.specs.trusted.Hosted.{given_since};
+ghost use Rattle.dj_machine.specs.trusted.Engines.{AddsRun};
+ghost use Rattle.dj_machine.specs.Engines.{RunsPlainly};
+ghost use Rattle.dj_sandbox.specs.trusted.Limits.{most_heap_bytes};
+ghost use Rattle.dj_sandbox.specs.trusted.RawRules.{entry_of};
+ghost use Rattle.dj_sandbox.specs.trusted.Statuses.{IsAmong};
+ghost use Rattle.dj_sandbox.specs.Statuses.{raw_statuses};
 ghost use Rattle.dj_running.specs.Runs.{no_limits, is_stopped, TellsEnding};
 
 use crate::entry::entry_in;
@@ -19,10 +21,10 @@ use dj_names::Thresholds;
 use dj_report::Report;
 use std::alloc::Global;
 
-// The most bytes that the objects of a run take.
+// The most bytes that the objects of a run take together.
 const MOST_HEAP_BYTES: u64 = 67_108_864;
 
-// Nobody counts charges.
+// No charges are counted, so these don't matter.
 const NO_LIMITS: Thresholds = Thresholds {
     alloc: 0,
     invoke: 0,

@@ -1,14 +1,15 @@
-//! Raw runs: files are judged, and the entry of a class of theirs is run.
+//! Runs of `raw`: files are judged, and the entry of one of their classes is run.
 ghost use Rattle.std.specs.Prelude.{◌≡◌, ◌<◌, ◌≤◌, ◌^◌, ◌++◌, [], length, map, All, Some, IfOk};
-ghost use Rattle.dj_names.specs.Types.{Name};
-ghost use Rattle.dj_report.specs.Stages.{IsDecided};
-ghost use Rattle.dj_report.specs.Text.{report_status};
+ghost use Rattle.dj_names.specs.trusted.Types.{Name};
+ghost use Rattle.dj_report.specs.trusted.Stages.{IsDecided};
+ghost use Rattle.dj_report.specs.trusted.Text.{report_status};
 ghost use Rattle.dj_rules.specs.Views.{path_file_view};
-ghost use Rattle.dj_host.specs.Hosted.{given_since};
-ghost use Rattle.dj_sandbox.specs.Judging.{RunsRaw, raw_stages};
-ghost use Rattle.dj_sandbox.specs.Limits.{most_files};
-ghost use Rattle.dj_sandbox.specs.RawRules.{AreRawViolations};
-ghost use Rattle.dj_sandbox.specs.Statuses.{IsAmong, raw_statuses};
+ghost use Rattle.dj_host.specs.trusted.Hosted.{given_since};
+ghost use Rattle.dj_sandbox.specs.trusted.Judging.{RunsRaw, raw_stages};
+ghost use Rattle.dj_sandbox.specs.trusted.Limits.{most_files};
+ghost use Rattle.dj_sandbox.specs.trusted.RawRules.{AreRawViolations};
+ghost use Rattle.dj_sandbox.specs.trusted.Statuses.{IsAmong};
+ghost use Rattle.dj_sandbox.specs.Statuses.{raw_statuses};
 ghost use Rattle.dj_running.specs.Loading.{IsImageOf};
 ghost use Rattle.dj_running.specs.Runs.{AddsRawRuns};
 
@@ -58,7 +59,7 @@ fn run_files<H: Host, E: Engine>(
     }
 }
 
-// The report on a run of the class of this name. Each file stands under its path within the folder.
+// The report on a run of the class of this name. Each file is under its path within the folder.
 fn raw_files<H: Host, E: Engine>(
     alloc: Global,
     files: &[PathFile<'_>],
@@ -83,7 +84,7 @@ fn raw_files<H: Host, E: Engine>(
     run_files(alloc, files, entry, input, steps, host, engine)
 }
 
-/// The report on a run of the class of this name on the input for so many steps at most, with the library whose host answers.
+/// The report on a run of the class of this name on the input, of at most `steps` steps, with the raw library.
 pub fn raw<H: Host, E: Engine>(
     alloc: Global,
     set: &ClassSet,
@@ -97,7 +98,7 @@ pub fn raw<H: Host, E: Engine>(
     ensures decided { IfOk result (IsDecided (raw_stages set.now entry.now input.now steps (given_since (H.given host.old) (H.given host.new)))) }
     ensures status { IfOk result (λ report. IsAmong (report_status report) raw_statuses) }
 
-    // The engine made the run that is told of, and else none, nor was the host asked.
+    // The engine made the run that the report is about. Where there is none it made no run, and the host wasn't asked.
     ensures runs { AddsRawRuns set.now entry.now input.now steps (given_since (H.given host.old) (H.given host.new)) (E.runs engine.old) (E.runs engine.new) result }
     ensures quiet { (AreRawViolations set.now entry.now [] → ⊥) → H.given host.new ≡ H.given host.old }
     ensures gave { H.given host.new ≡ H.given host.old ++ given_since (H.given host.old) (H.given host.new) }

@@ -4,19 +4,19 @@ use Rattle.std.proofs.Common.{◌≡◌, ℕ, zero, suc, ◌≤◌, List, [], �
 use Rattle.std.specs.Prelude.{slice_get}
 use Rattle.std.proofs.lemmas.List.{map-append}
 use Rattle.std.proofs.lemmas.Option.{slice_get-map}
-use Rattle.dj_edge.specs.Held.{File}
-use Rattle.dj_names.specs.Types.{Name}
-use Rattle.dj_names.specs.Library.{Library, deterministic_library, raw_library}
-use Rattle.dj_class.specs.ClassFile.{ClassFile}
-use Rattle.dj_library.specs.Heads.{Head}
-use Rattle.dj_model.specs.Program.{Class}
-use Rattle.dj_model.specs.Linking.{option_list}
-use Rattle.dj_model.specs.Libraries.{library_class}
-use Rattle.dj_declared.specs.Files.{declared_class}
+use Rattle.dj_edge.specs.trusted.Held.{File}
+use Rattle.dj_names.specs.trusted.Types.{Name}
+use Rattle.dj_names.specs.trusted.Library.{Library, deterministic_library, raw_library}
+use Rattle.dj_class.specs.trusted.ClassFile.{ClassFile}
+use Rattle.dj_library.specs.trusted.Heads.{Head}
+use Rattle.dj_model.specs.trusted.Program.{Class}
+use Rattle.dj_model.specs.trusted.Linking.{option_list}
+use Rattle.dj_model.specs.trusted.Libraries.{library_class}
+use Rattle.dj_declared.specs.trusted.Files.{declared_class}
 use Rattle.dj_classes.specs.Tables.{name_of, name_at, IsShared}
 use Rattle.dj_loader.specs.Loads.{StandsUnder, StandsBelow, IsOwnAncestor}
 use Rattle.dj_loader.proofs.Lists.{member_of_either, member_front, member_back, member_mapped, of_map}
-use Rattle.dj_sandbox.specs.Checked.{AreGoodFiles, HoldsHierarchy}
+use Rattle.dj_sandbox.specs.trusted.Checked.{AreGoodFiles, HoldsHierarchy}
 use Rattle.dj_sandbox.specs.Late.{IsJudging}
 use Rattle.dj_sandbox.proofs.NoDoubles.{library_classes, no_name_twice}
 use Rattle.dj_sandbox.proofs.NoCycles.{head_in, no_cycle}

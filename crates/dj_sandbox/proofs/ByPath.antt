@@ -1,4 +1,4 @@
--- Lists of files in the order of their paths: a sort makes them, and their members tell them.
+-- Lists of files in the order of their paths: a sort makes them, and their members determine them.
 use Rattle.std.proofs.Common.{◌≡◌, ◌≢◌, ℕ, ◌+◌, ◌≤◌, ◌∙◌, ◌↔◌, false, List, [], ◌∷◌, length, map, get_or, AllPairs, Contains, IsSorted, IsSortedByKey, IsPermutation, refl, sym, ap, subst, inl, inr, arith}
 use Rattle.std.specs.Ordering.{nat_cmp, is_lt, ordering_reverse, ordering_then}
 use Rattle.std.specs.declared.cmp.Ordering.{Ordering}
@@ -15,14 +15,14 @@ use Rattle.std.proofs.lemmas.List.Sorted.{ranks_by, All-permutation, Contains-pe
 use Rattle.std.proofs.lemmas.Map.Keys.{IsDistinct-IsPermutation}
 use Rattle.std.proofs.lemmas.Map.Made.{AllPairs-from_IsDistinct, IsDistinct-from_AllPairs}
 use Rattle.std.proofs.lemmas.Slice.Eq.{bytes_eq-Decides}
-use Rattle.dj_edge.specs.Counts.{AllDiffer}
-use Rattle.dj_edge.specs.Held.{File}
+use Rattle.dj_edge.specs.trusted.Counts.{AllDiffer}
+use Rattle.dj_edge.specs.trusted.Held.{File}
 use Rattle.dj_edge.specs.InMemory.{String, file_in, files_in, PathsDiffer}
 use Rattle.dj_edge.proofs.Pairs.{AllPairs-head, AllPairs-tail, AllPairs-map, AllPairs-unmap, AllPairs-weaker}
 use Rattle.dj_edge.proofs.Sorting.{pairs_from_sorted}
 use Rattle.dj_report.proofs.Sorted.{contains_first, contains_later, contains_none, contains_cases}
 use Rattle.dj_sandbox.specs.ClassSets.{TextsRise, PathsRise, IsClassSet, AreByPath}
-use Rattle.dj_sandbox.specs.Limits.{most_files, most_file_bytes, most_total_bytes, AreWithin}
+use Rattle.dj_sandbox.specs.trusted.Limits.{most_files, most_file_bytes, most_total_bytes, AreWithin}
 
 -- ---- the order of texts
 
@@ -62,7 +62,7 @@ texts_rise xs ys moved differ sorted =
     less_from (text_cmp a b) (text_cmp b a) (nat_list_cmp_total.antisymm a b) (sorted i j d before within)
     (λ tied. apart i j d before within (slice_cmp-IsAntisymmetric nat_cmp-IsAntisymmetric a b tied))
 
--- ---- the members tell a list in order
+-- ---- the members determine a list in order
 
 module _ {X : Type 0} (R : X → X → Type 0) (never_back : (a b : X) → R a b → R b a → ⊥) where
   first_same : (x y : X) (xs ys : List X) → AllPairs R (x ∷ xs) → AllPairs R (y ∷ ys) → Contains (y ∷ ys) x → Contains (x ∷ xs) y → x ≡ y

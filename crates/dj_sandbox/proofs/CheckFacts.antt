@@ -1,19 +1,20 @@
 -- What `check` judges, written out: the rules 1 to 16, and the rules 17 to 19 of the program of the files and the deterministic library.
 use Rattle.std.proofs.Common.{◌≡◌, ◌≢◌, ◌<◌, ◌⊎◌, ◌↔◌, List, [], Some, None, inl, inr}
-use Rattle.dj_edge.specs.Held.{File}
-use Rattle.dj_names.specs.Library.{deterministic_library}
-use Rattle.dj_class.specs.ClassFile.{ClassFile}
-use Rattle.dj_report.specs.Stages.{Stage}
+use Rattle.dj_edge.specs.trusted.Held.{File}
+use Rattle.dj_names.specs.trusted.Library.{deterministic_library}
+use Rattle.dj_class.specs.trusted.ClassFile.{ClassFile}
+use Rattle.dj_report.specs.trusted.Stages.{Stage}
 use Rattle.dj_report.specs.declared.report.Report.{Report}
 use Rattle.dj_report.specs.declared.report.Report.TheVariants as reports
 use Rattle.dj_report.specs.declared.report.Violation.{Violation}
-use Rattle.dj_report.specs.Lines.{AreExactly}
+use Rattle.dj_report.specs.trusted.Lines.{AreExactly}
 use Rattle.dj_report.proofs.Adding.{exactly_same}
-use Rattle.dj_check.specs.Rules.{IsEarlyLine}
-use Rattle.dj_classes.specs.Tables.{declared_program}
-use Rattle.dj_judge.specs.Lines.{IsLinkedLine}
-use Rattle.dj_sandbox.specs.Checked.{AreGoodFiles, IsLateLine, IsCheckLine, AreCheckViolations}
-use Rattle.dj_sandbox.specs.Judging.{JudgesSet}
+use Rattle.dj_check.specs.trusted.Rules.{IsEarlyLine}
+use Rattle.dj_classes.specs.trusted.Tables.{declared_program}
+use Rattle.dj_judge.specs.trusted.Lines.{IsLinkedLine}
+use Rattle.dj_sandbox.specs.trusted.Checked.{AreGoodFiles, IsLateLine, AreCheckViolations}
+use Rattle.dj_sandbox.specs.Checked.{IsCheckLine}
+use Rattle.dj_sandbox.specs.trusted.Judging.{JudgesSet}
 
 -- a line of the rules 17 to 19: none of the rules 1 to 6 is violated, and the program is that of all classes and the deterministic library
 abbrev IsLate : List File → Violation → Type 0

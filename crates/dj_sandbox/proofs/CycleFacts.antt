@@ -3,17 +3,17 @@ use Rattle.std.proofs.Common.{◌≡◌, ℕ, zero, suc, ◌<◌, Bool, true, Li
 use Rattle.std.specs.Prelude.{nat_lt, reverse, if◌then◌else◌}
 use Rattle.std.specs.List.{list_all}
 use Rattle.std.proofs.lemmas.Bool.Decides.{nat_tests}
-use Rattle.dj_names.specs.Types.{Name, same_name}
-use Rattle.dj_names.specs.Library.{LibraryClass, Library, deterministic_library, raw_library, lang, object_class, text_rows, interface_rows, exception_rows}
+use Rattle.dj_names.specs.trusted.Types.{Name, same_name}
+use Rattle.dj_names.specs.trusted.Library.{LibraryClass, Library, deterministic_library, raw_library, lang, object_class, text_rows, interface_rows, exception_rows}
 use Rattle.dj_pool.proofs.Decides.{tests_decide}
-use Rattle.dj_class.specs.ClassFile.{ClassFile}
+use Rattle.dj_class.specs.trusted.ClassFile.{ClassFile}
 use Rattle.dj_class.proofs.AnswerFacts.{class_a-is, class_b-is}
 use Rattle.dj_class.proofs.ClassLaws.{one_class_file}
 use Rattle.dj_class.proofs.Facts.{class_a, bytes_a, class_b, bytes_b}
-use Rattle.dj_model.specs.Program.{Class}
-use Rattle.dj_model.specs.Rows.{class_with}
+use Rattle.dj_model.specs.trusted.Program.{Class}
+use Rattle.dj_model.specs.SmallRuns.{class_with}
 use Rattle.dj_report.proofs.Sorted.{contains_first, contains_later, contains_none, contains_cases}
-use Rattle.dj_declared.specs.Files.{declared_class}
+use Rattle.dj_declared.specs.trusted.Files.{declared_class}
 use Rattle.dj_loader.specs.Loads.{above_names, StandsUnder, StandsBelow}
 use Rattle.dj_sandbox.specs.Late.{AreReadFiles, IsJudging, with_library, HasCycle, GoesRound}
 use Rattle.dj_sandbox.proofs.LibraryDescriptors.{both}
@@ -202,7 +202,7 @@ below_object library judging (declared, (classes, read, are), cycle) =
       alone (c ∷ []) read = ap (λ (x : ClassFile). x ∷ []) (one_class_file tests_decide bytes_a c class_a read.0 class_a-is)
       alone (c ∷ (d ∷ classes)) read = absurd read.1
 
--- bytes that are no class file tell nothing
+-- files of which one is no class file have no cycle
 malformed : (library : Library) → GoesRound library ((a_path, []) ∷ (a_path, bytes_b) ∷ []) → ⊥
 malformed library (declared, (classes, read, are), cycle) = by classes read where
   by : (classes : List ClassFile) → AreReadFiles ((a_path, []) ∷ (a_path, bytes_b) ∷ []) classes → ⊥

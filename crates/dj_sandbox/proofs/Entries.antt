@@ -2,7 +2,7 @@
 use Rattle.std.proofs.Common.{◌≡◌, ℕ, ◌+◌, ◌<◌, List, [], ◌∷◌, ◌++◌, length, take, map, get_or, sym, ap, ◌∙◌, append-nil}
 use Rattle.std.proofs.lemmas.List.{take_more, map_push}
 use Rattle.std.proofs.lemmas.Grind.{flat_map-append}
-use Rattle.dj_names.specs.ModifiedUtf8.{unit_text, units_text}
+use Rattle.dj_names.specs.trusted.ModifiedUtf8.{unit_text, units_text}
 
 -- one more unit
 pub spelled_more : (slash : ℕ → ℕ) (units : List ℕ) (i u : ℕ) (text more : List ℕ) → i < length units → u ≡ slash (get_or units i 0)

@@ -1,37 +1,38 @@
--- The entry of a run with the library whose host answers: which programs have it, and which lines tell that it isn't there.
+-- The entry of a run with the raw library: which programs have it, and which lines report that it isn't there.
 use Rattle.std.proofs.Common.{◌≡◌, ℕ, ◌≤◌, ◌&&◌, Bool, true, false, not, List, [], ◌∷◌, ◌++◌, map, codes, Contains, Option, Some, None, IsFalse, if◌then◌else◌, refl, sym, ap, ◌∙◌, subst, inl, inr, arith}
 use Rattle.std.specs.Option.{option_map}
 use Rattle.std.specs.List.{list_all}
 use Rattle.std.specs.List.Sorted.{IsStrictlySortedBy}
-use Rattle.dj_edge.specs.Held.{File}
+use Rattle.dj_edge.specs.trusted.Held.{File}
 use Rattle.dj_names.specs.declared.descriptor.Base.TheVariants as bases
 use Rattle.dj_names.specs.declared.descriptor.Ty.{Ty}
 use Rattle.dj_names.specs.declared.descriptor.Desc.{Desc}
 use Rattle.dj_names.specs.declared.descriptor.Desc.TheVariants as descs
 use Rattle.dj_names.specs.declared.native.NativeId.TheVariants as natives
-use Rattle.dj_names.specs.Types.{Name, base_array}
-use Rattle.dj_names.specs.Library.{raw_library}
-use Rattle.dj_class.specs.ClassFile.{ClassFile}
+use Rattle.dj_names.specs.trusted.Types.{Name, base_array}
+use Rattle.dj_names.specs.trusted.Library.{raw_library}
+use Rattle.dj_class.specs.trusted.ClassFile.{ClassFile}
 use Rattle.dj_report.specs.declared.report.Violation.{Violation}
-use Rattle.dj_report.specs.Lines.{file_line}
+use Rattle.dj_report.specs.trusted.Lines.{file_line}
 use Rattle.dj_report.proofs.Sorted.{contains_first, contains_none, contains_cases}
-use Rattle.dj_rules.specs.Violations.{this_name}
-use Rattle.dj_check.specs.Rules.{IsEarlyLine}
-use Rattle.dj_model.specs.Types.{no_parameters}
-use Rattle.dj_model.specs.Program.{Program, Class, Method, Body, Abstract, Native, Runs, class_at, method_in, method_of, has_code, is_static, is_named, runs_static}
-use Rattle.dj_model.specs.Libraries.{library_class, library_program, joined}
-use Rattle.dj_model.specs.Rows.{class_with}
+use Rattle.dj_rules.specs.trusted.Violations.{this_name}
+use Rattle.dj_check.specs.trusted.Rules.{IsEarlyLine}
+use Rattle.dj_model.specs.trusted.Types.{no_parameters}
+use Rattle.dj_model.specs.trusted.Program.{Program, Class, Method, Body, Abstract, Native, Runs, class_at, method_in, method_of, has_code, is_static, is_named, runs_static}
+use Rattle.dj_model.specs.trusted.Libraries.{library_class, library_program, joined}
+use Rattle.dj_model.specs.SmallRuns.{class_with}
 use Rattle.dj_model.proofs.SoundLinks.{class_contained}
-use Rattle.dj_declared.specs.Files.{no_code, declared_class}
-use Rattle.dj_classes.specs.Rows.{RiseStrictly}
-use Rattle.dj_classes.specs.Tables.{name_of, name_at, declared_program}
+use Rattle.dj_declared.specs.trusted.Files.{no_code, declared_class}
+use Rattle.dj_classes.specs.ClassRows.{RiseStrictly}
+use Rattle.dj_classes.specs.trusted.Tables.{declared_program}
+use Rattle.dj_classes.specs.Tables.{name_of, name_at}
 use Rattle.dj_classes.proofs.Joins.{declared_program-joined}
 use Rattle.dj_classes.proofs.Numbered.{class_number-rise, class_at-at}
 use Rattle.dj_classes.proofs.Rising.{members_joined}
 use Rattle.dj_loader.proofs.Lists.{member_front, member_of_either, member_mapped, place_of_member, of_map}
 use Rattle.dj_loader.proofs.Moved.{rise_of_table, in_table}
-use Rattle.dj_sandbox.specs.Checked.{AreGoodFiles, HoldsHierarchy, IsLateLine}
-use Rattle.dj_sandbox.specs.RawRules.{entry_desc, runs_entry, LacksEntry, IsRawLine, AreRawViolations}
+use Rattle.dj_sandbox.specs.trusted.Checked.{AreGoodFiles, HoldsHierarchy, IsLateLine}
+use Rattle.dj_sandbox.specs.trusted.RawRules.{entry_desc, runs_entry, LacksEntry, IsRawLine, AreRawViolations}
 use Rattle.dj_sandbox.proofs.Alike.{none_shared}
 use Rattle.dj_sandbox.proofs.GoodFiles.{same_good}
 use Rattle.dj_sandbox.proofs.LibraryDescriptors.{both}
@@ -162,7 +163,7 @@ entry-of_file classes name runs = found classes name (class_at (declared_program
 entry-no_library : (name : Name) → runs_entry (declared_program raw_library []) name ≡ true → ⊥
 entry-no_library name runs = let of = entry-of_file [] name runs in contains_none of.class of.among
 
--- where the rules 1 to 6 hold, the class file of the name tells whether there is an entry: its declared class is the class of the name
+-- where the rules 1 to 6 hold, the class file of the name says whether there is an entry: its declared class is the class of the name
 class_told : (files : List File) (classes : List ClassFile) (c : ClassFile) → HoldsHierarchy files → AreGoodFiles files classes → Contains classes c
     → class_at (declared_program raw_library classes) (this_name c) ≡ Some (declared_class c)
 class_told files classes c holds good m =

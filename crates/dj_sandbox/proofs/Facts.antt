@@ -1,26 +1,28 @@
 -- The limits, the order in which files are judged and run, the lines of a run, and the entry, at plain values.
 use Rattle.std.proofs.Common.{arith, ◌≡◌, ◌≢◌, ℕ, ◌≤◌, ◌⊎◌, ◌∙◌, false, List, [], ◌∷◌, map, length, Some, None, inl, inr, refl, sym, ap}
 use Rattle.std.specs.Prelude.{codes}
-use Rattle.dj_edge.specs.Held.{File}
+use Rattle.dj_edge.specs.trusted.Held.{File}
 use Rattle.dj_names.specs.declared.run.Thresholds.{Thresholds}
-use Rattle.dj_names.specs.Library.{Library}
-use Rattle.dj_class.specs.ClassFile.{ClassFile}
-use Rattle.dj_report.specs.Stages.{IsDecided}
+use Rattle.dj_names.specs.trusted.Library.{Library}
+use Rattle.dj_class.specs.trusted.ClassFile.{ClassFile}
+use Rattle.dj_report.specs.trusted.Stages.{IsDecided}
 use Rattle.dj_report.specs.declared.report.Report.TheVariants as reports
 use Rattle.dj_report.specs.declared.report.Violation.{Violation}
-use Rattle.dj_rules.specs.Violations.{AreViolations}
-use Rattle.dj_check.specs.Rules.{IsEarlyLine}
-use Rattle.dj_link.specs.Lines.{IsFirstOf, IsLinkLine}
-use Rattle.dj_judge.specs.Lines.{IsShapeLine}
-use Rattle.dj_model.specs.Program.{Program}
-use Rattle.dj_straight.specs.Program as straight
-use Rattle.dj_straight.specs.Straight.{IsNotStraight}
-use Rattle.dj_sandbox.specs.Checked.{AreGoodFiles, IsLateLine, AreCheckViolations}
-use Rattle.dj_sandbox.specs.Entry.{with_slashes, entry_method, has_entry, IsEntryLine}
-use Rattle.dj_sandbox.specs.Entry as entries
-use Rattle.dj_sandbox.specs.Judging.{IsFirstPath, JudgesFiles, JudgesRun, Runs, Accepts, check_stages, run_stages}
-use Rattle.dj_sandbox.specs.Limits.{most_files, most_file_bytes, most_total_bytes, most_input_bytes, most_thresholds, IsWithinMost}
-use Rattle.dj_sandbox.specs.Statuses.{IsAmong, check_statuses, run_statuses}
+use Rattle.dj_rules.specs.trusted.Violations.{AreViolations}
+use Rattle.dj_check.specs.trusted.Rules.{IsEarlyLine}
+use Rattle.dj_link.specs.trusted.Lines.{IsFirstOf, IsLinkLine}
+use Rattle.dj_judge.specs.trusted.Lines.{IsShapeLine}
+use Rattle.dj_model.specs.trusted.Program.{Program}
+use Rattle.dj_straight.specs.trusted.Program as straight
+use Rattle.dj_straight.specs.trusted.Straight.{IsNotStraight}
+use Rattle.dj_sandbox.specs.trusted.Checked.{AreGoodFiles, IsLateLine, AreCheckViolations}
+use Rattle.dj_sandbox.specs.trusted.Entry.{with_slashes, entry_method, has_entry, IsEntryLine}
+use Rattle.dj_sandbox.specs.trusted.Entry as entries
+use Rattle.dj_sandbox.specs.trusted.Judging.{IsFirstPath, JudgesFiles, JudgesRun, Runs, Accepts, check_stages, run_stages}
+use Rattle.dj_sandbox.specs.trusted.Limits.{most_files, most_file_bytes, most_total_bytes, most_input_bytes}
+use Rattle.dj_sandbox.specs.Limits.{most_thresholds, IsWithinMost}
+use Rattle.dj_sandbox.specs.trusted.Statuses.{IsAmong}
+use Rattle.dj_sandbox.specs.Statuses.{check_statuses, run_statuses}
 
 -- ---- the limits and the thresholds
 

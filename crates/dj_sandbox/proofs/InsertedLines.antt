@@ -1,7 +1,7 @@
 -- Violations put in order, where a list has all that meet a condition.
 use Rattle.std.proofs.Common.{List}
 use Rattle.dj_report.specs.declared.report.Violation.{Violation}
-use Rattle.dj_report.specs.Lines.{AreExactly}
+use Rattle.dj_report.specs.trusted.Lines.{AreExactly}
 use Rattle.dj_report.proofs.Inserted.{ordered}
 use Rattle.dj_sandbox.proofs.Classical.{NotNot, so, IsFinite}
 

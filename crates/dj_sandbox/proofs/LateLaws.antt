@@ -4,31 +4,33 @@ use Rattle.std.specs.Prelude.{MatchResult, is_ok}
 use Rattle.std.proofs.lemmas.Bool.{cases_lt}
 use Rattle.std.proofs.lemmas.List.{length-append, length-map, take_more, take_all, map-append}
 use Rattle.std.proofs.lemmas.List.Elements.{Contains-get_or}
-use Rattle.dj_edge.specs.Held.{File}
-use Rattle.dj_names.specs.Library.{Library}
-use Rattle.dj_names.specs.Types.{Name}
+use Rattle.dj_edge.specs.trusted.Held.{File}
+use Rattle.dj_names.specs.trusted.Library.{Library}
+use Rattle.dj_names.specs.trusted.Types.{Name}
 use Rattle.dj_natives.specs.declared.library.LibClass.{LibClass}
 use Rattle.dj_natives.specs.Views.{library_view}
-use Rattle.dj_class.specs.ClassFile.{ClassFile, IsClassFile, IsMalformed}
-use Rattle.dj_model.specs.Program.{Program, Class}
-use Rattle.dj_model.specs.Libraries.{library_class, inserted, joined}
+use Rattle.dj_class.specs.trusted.ClassFile.{ClassFile, IsClassFile, IsMalformed}
+use Rattle.dj_model.specs.trusted.Program.{Program, Class}
+use Rattle.dj_model.specs.trusted.Libraries.{library_class, inserted, joined}
 use Rattle.dj_report.specs.declared.report.PathFile.{PathFile}
 use Rattle.dj_report.specs.declared.report.Violation.{Violation}
-use Rattle.dj_report.specs.Lines.{file_line, Adds}
+use Rattle.dj_report.specs.trusted.Lines.{file_line}
+use Rattle.dj_report.specs.Lines.{Adds}
 use Rattle.dj_report.proofs.Adding.{contains_map}
 use Rattle.dj_report.proofs.Sorted.{contains_first, contains_later, contains_none}
 use Rattle.dj_rules.specs.Views.{path_file_view}
-use Rattle.dj_check.specs.Malformed.{IsRefused}
-use Rattle.dj_check.specs.Rules.{IsEarlyLine}
-use Rattle.dj_declared.specs.Files.{declared_class}
-use Rattle.dj_classes.specs.Tables.{IsShared, declared_program}
+use Rattle.dj_check.specs.trusted.Malformed.{IsRefused}
+use Rattle.dj_check.specs.trusted.Rules.{IsEarlyLine}
+use Rattle.dj_declared.specs.trusted.Files.{declared_class}
+use Rattle.dj_classes.specs.trusted.Tables.{declared_program}
+use Rattle.dj_classes.specs.Tables.{IsShared}
 use Rattle.dj_linking.specs.Linked.{Linked}
-use Rattle.dj_judge.specs.Lines.{IsLinkedLine}
+use Rattle.dj_judge.specs.trusted.Lines.{IsLinkedLine}
 use Rattle.dj_loader.specs.declared.error.LoadError.{LoadError}
 use Rattle.dj_loader.specs.declared.error.LoadError.TheVariants as errors
 use Rattle.dj_loader.specs.Numbered.{RefusesCycles}
 use Rattle.dj_loader.proofs.Moved.{in_table, out_of_table, ancestor_moved}
-use Rattle.dj_sandbox.specs.Checked.{AreGoodFiles, HoldsHierarchy, IsLateLine, IsLineBy}
+use Rattle.dj_sandbox.specs.trusted.Checked.{AreGoodFiles, HoldsHierarchy, IsLateLine, IsLineBy}
 use Rattle.dj_sandbox.specs.declared.late.Links.{Links}
 use Rattle.dj_sandbox.specs.declared.late.Links.TheVariants as links
 use Rattle.dj_sandbox.specs.Late.{HasHierarchyLine, AreReadFiles, IsDeclaredFrom, AreDeclared, HasMalformed, row_class, LinksFiles, IsJudging, with_library, SharesName, HasCycle, GoesRound, IsLinkOf, AreLinksOf, AreLinks}
@@ -37,7 +39,7 @@ use Rattle.dj_sandbox.proofs.Alike.{few_rows, none_shared, none_round}
 
 -- ---- under errors of another type
 
--- what is told of an answer that is there
+-- what holds of an answer that is there
 pub ok_mapped : {T E D : Type 0} (r : Result T E) (s : Result T D) (P : T → Type 0) (R : E → Type 0) → MatchResult r (λ x. s ≡ Ok x) R → is_ok s ≡ is_ok r → IfOk r P → IfOk s P
 ok_mapped (Ok x) s P R is same p = subst (λ t. IfOk t P) (sym is) p
 ok_mapped (Err e) (Ok y) P R is same p = absurd cc
@@ -142,7 +144,7 @@ are_links_of library declared table links.Cycle is (name, own) =
     let all = with_library library declared in
     (name, ancestor_moved table all (out_of_table all table is) (in_table all table is) name own)
 
--- what the search for cycles tells
+-- what the search for cycles reports
 pub cycle_told : (table : Program) (e : LoadError) (name : Name) → RefusesCycles table e → e ≡ errors.Cycle name → HasCycle table
 cycle_told table e name told is = (name, (subst (RefusesCycles table) is told).such)
 
@@ -206,7 +208,7 @@ early_alone library files early are broken v = (
   ],
 )
 
--- one of the lines tells it
+-- one of the lines shows that one is violated
 pub line_breaks : (files : List File) (early : List Violation) → AreFound files early → HasHierarchyLine early → HoldsHierarchy files → ⊥
 line_breaks files early are (v, among, small) holds = (let past = holds v (of_line files early v are among) in absurd (omega (arith, small, past)))
 

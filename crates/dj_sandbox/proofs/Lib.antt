@@ -25,3 +25,4 @@ mod CycleFacts
 mod CheckFacts
 mod RawFacts
 mod EntryFacts
+mod LimitTextFacts

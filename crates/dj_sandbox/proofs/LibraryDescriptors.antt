@@ -9,9 +9,9 @@ use Rattle.dj_names.specs.declared.descriptor.Of.TheVariants as ofs
 use Rattle.dj_names.specs.declared.descriptor.Ty.{Ty}
 use Rattle.dj_names.specs.declared.descriptor.Desc.{Desc}
 use Rattle.dj_names.specs.declared.descriptor.Desc.TheVariants as descs
-use Rattle.dj_names.specs.Descriptors.{type_slots, NamesClass, IsType, IsDesc}
-use Rattle.dj_names.specs.Library.{LibraryMethod, LibraryClass, Library, deterministic_library, raw_library}
-use Rattle.dj_names.specs.NameReading.{reads_class_name}
+use Rattle.dj_names.specs.trusted.Descriptors.{type_slots, NamesClass, IsType, IsDesc}
+use Rattle.dj_names.specs.trusted.Library.{LibraryMethod, LibraryClass, Library, deterministic_library, raw_library}
+use Rattle.dj_names.specs.trusted.NameReading.{reads_class_name}
 use Rattle.dj_names.proofs.NameLaws.{class_name_read}
 use Rattle.dj_natives.specs.declared.library.LibMethod.{LibMethod}
 use Rattle.dj_natives.specs.declared.library.LibClass.{LibClass}

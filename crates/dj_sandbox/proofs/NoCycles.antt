@@ -3,26 +3,26 @@ use Rattle.std.proofs.Common.{◌≡◌, ℕ, zero, suc, ◌<◌, ◌⊎◌, Boo
 use Rattle.std.specs.Prelude.{codes, nat_lt, reverse, if◌then◌else◌}
 use Rattle.std.specs.List.{list_all}
 use Rattle.std.proofs.lemmas.Bool.Decides.{nat_tests}
-use Rattle.dj_edge.specs.Held.{File}
-use Rattle.dj_names.specs.Types.{Name, same_name}
-use Rattle.dj_names.specs.Library.{LibraryClass, Library, deterministic_library, lang, object_class, text_rows, interface_rows, exception_rows}
-use Rattle.dj_class.specs.ClassFile.{ClassFile}
-use Rattle.dj_library.specs.Heads.{Head, head_of_library, library_heads}
-use Rattle.dj_model.specs.Program.{Class}
-use Rattle.dj_model.specs.Linking.{option_list}
-use Rattle.dj_model.specs.Libraries.{library_class}
+use Rattle.dj_edge.specs.trusted.Held.{File}
+use Rattle.dj_names.specs.trusted.Types.{Name, same_name}
+use Rattle.dj_names.specs.trusted.Library.{LibraryClass, Library, deterministic_library, lang, object_class, text_rows, interface_rows, exception_rows}
+use Rattle.dj_class.specs.trusted.ClassFile.{ClassFile}
+use Rattle.dj_library.specs.trusted.Heads.{Head, head_of_library, library_heads}
+use Rattle.dj_model.specs.trusted.Program.{Class}
+use Rattle.dj_model.specs.trusted.Linking.{option_list}
+use Rattle.dj_model.specs.trusted.Libraries.{library_class}
 use Rattle.dj_report.specs.declared.report.Violation.{Violation}
-use Rattle.dj_report.specs.Lines.{file_line}
+use Rattle.dj_report.specs.trusted.Lines.{file_line}
 use Rattle.dj_report.proofs.Adding.{contains_map}
 use Rattle.dj_report.proofs.Sorted.{contains_first, contains_later, contains_none, contains_cases}
-use Rattle.dj_rules.specs.Violations.{this_name}
-use Rattle.dj_hierarchy.specs.Hierarchy.{IsAbove, Climbs, Stays, Rises}
-use Rattle.dj_check.specs.Heads.{head_of, StandsAmong}
-use Rattle.dj_check.specs.Malformed.{IsGood}
-use Rattle.dj_declared.specs.Files.{declared_class}
+use Rattle.dj_rules.specs.trusted.Violations.{this_name}
+use Rattle.dj_hierarchy.specs.trusted.Hierarchy.{IsAbove, Climbs, Stays, Rises}
+use Rattle.dj_check.specs.trusted.Heads.{head_of, StandsAmong}
+use Rattle.dj_check.specs.trusted.Malformed.{IsGood}
+use Rattle.dj_declared.specs.trusted.Files.{declared_class}
 use Rattle.dj_loader.specs.Loads.{above_names, StandsUnder, StandsBelow, IsOwnAncestor}
 use Rattle.dj_loader.proofs.Lists.{member_of_either}
-use Rattle.dj_sandbox.specs.Checked.{AreGoodFiles, HoldsHierarchy}
+use Rattle.dj_sandbox.specs.trusted.Checked.{AreGoodFiles, HoldsHierarchy}
 use Rattle.dj_sandbox.proofs.LibraryDescriptors.{both}
 use Rattle.dj_sandbox.proofs.NoDoubles.{is_of_java, library_classes, library_reserved, reserved_breaks}
 

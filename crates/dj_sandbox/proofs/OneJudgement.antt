@@ -2,21 +2,21 @@
 use Rattle.std.proofs.Common.{◌≡◌, ℕ, List, [], ◌∷◌, Some, None, refl, sym, ap, ◌∙◌, subst}
 use Rattle.dj_names.specs.declared.run.Outcome.{Outcome}
 use Rattle.dj_names.specs.declared.run.Costs.{Costs}
-use Rattle.dj_edge.specs.Held.{File}
+use Rattle.dj_edge.specs.trusted.Held.{File}
 use Rattle.dj_names.specs.declared.run.Thresholds.{Thresholds}
 use Rattle.dj_report.specs.Stages.{DecidesOne, DecideOne}
 use Rattle.dj_report.specs.declared.report.Report.TheVariants as reports
 use Rattle.dj_report.specs.declared.report.Violation.{Violation}
 use Rattle.dj_report.proofs.InOrder.{same_violations}
-use Rattle.dj_rules.specs.Violations.{AreViolations}
-use Rattle.dj_straight.specs.Program.{Program}
-use Rattle.dj_straight.specs.Metered.{RunsTo}
+use Rattle.dj_rules.specs.trusted.Violations.{AreViolations}
+use Rattle.dj_straight.specs.trusted.Program.{Program}
+use Rattle.dj_straight.specs.trusted.Metered.{RunsTo}
 use Rattle.dj_straight.proofs.Turns.{same_end}
-use Rattle.dj_straight.specs.Straight.{IsStraightSet}
+use Rattle.dj_straight.specs.trusted.Straight.{IsStraightSet}
 use Rattle.dj_straight.proofs.Straights.{one_program}
-use Rattle.dj_sandbox.specs.Checked.{AreCheckViolations}
-use Rattle.dj_sandbox.specs.Entry.{entry_method, AreRunViolations}
-use Rattle.dj_sandbox.specs.Judging.{JudgesSet, JudgesFiles, Accepts, FindsStraight, JudgesRun, Runs, IsFirstPath, check_stages, run_stages}
+use Rattle.dj_sandbox.specs.trusted.Checked.{AreCheckViolations}
+use Rattle.dj_sandbox.specs.trusted.Entry.{entry_method, AreRunViolations}
+use Rattle.dj_sandbox.specs.trusted.Judging.{JudgesSet, JudgesFiles, Accepts, FindsStraight, JudgesRun, Runs, IsFirstPath, check_stages, run_stages}
 
 same_lines : (files : List File) (xs ys : List Violation) → AreViolations files xs → AreViolations files ys → xs ≡ ys
 same_lines files xs ys a b =

@@ -1,21 +1,22 @@
--- What is judged of a run with the library whose host answers, and in which order, at plain values.
+-- What is judged of a run with the raw library, and in which order, at plain values.
 use Rattle.std.proofs.Common.{◌≡◌, ◌≢◌, ℕ, ◌≤◌, false, List, [], ◌∷◌, Some, None, inl, inr, refl, arith}
 use Rattle.std.specs.Prelude.{codes}
-use Rattle.dj_edge.specs.Held.{File}
+use Rattle.dj_edge.specs.trusted.Held.{File}
 use Rattle.dj_edge.specs.declared.host.HostAnswer.{HostAnswer}
-use Rattle.dj_names.specs.Library.{raw_library}
-use Rattle.dj_names.specs.DescReading.{dims_read, name_read, class_read, of_read, type_read, params_read, field_read, return_read, method_read, desc_read}
-use Rattle.dj_names.specs.NameReading.{reads_class_name}
-use Rattle.dj_report.specs.Stages.{IsDecided}
+use Rattle.dj_names.specs.trusted.Library.{raw_library}
+use Rattle.dj_names.specs.trusted.DescReading.{dims_read, name_read, class_read, of_read, type_read, params_read, field_read, return_read, method_read, desc_read}
+use Rattle.dj_names.specs.trusted.NameReading.{reads_class_name}
+use Rattle.dj_report.specs.trusted.Stages.{IsDecided}
 use Rattle.dj_report.specs.declared.report.Report.{Report}
 use Rattle.dj_report.specs.declared.report.Report.TheVariants as reports
 use Rattle.dj_report.specs.declared.report.Violation.{Violation}
-use Rattle.dj_check.specs.Rules.{IsEarlyLine}
-use Rattle.dj_model.specs.Libraries.{library_program}
-use Rattle.dj_sandbox.specs.Limits.{most_heap_bytes}
-use Rattle.dj_sandbox.specs.Statuses.{IsAmong, raw_statuses}
-use Rattle.dj_sandbox.specs.RawRules.{entry_desc, entry_of, runs_entry, LacksEntry, AreRawViolations}
-use Rattle.dj_sandbox.specs.Judging.{JudgesRaw, RunsRaw, raw_stages}
+use Rattle.dj_check.specs.trusted.Rules.{IsEarlyLine}
+use Rattle.dj_model.specs.trusted.Libraries.{library_program}
+use Rattle.dj_sandbox.specs.trusted.Limits.{most_heap_bytes}
+use Rattle.dj_sandbox.specs.trusted.Statuses.{IsAmong}
+use Rattle.dj_sandbox.specs.Statuses.{raw_statuses}
+use Rattle.dj_sandbox.specs.trusted.RawRules.{entry_desc, entry_of, runs_entry, LacksEntry, AreRawViolations}
+use Rattle.dj_sandbox.specs.trusted.Judging.{JudgesRaw, RunsRaw, raw_stages}
 
 limit-heap : most_heap_bytes ≡ 67108864
 limit-heap = refl

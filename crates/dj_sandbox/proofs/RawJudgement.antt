@@ -1,25 +1,25 @@
 -- A raw run has one report at most under the same answers of the host; and what is judged of it always has an answer.
 use Rattle.std.proofs.Common.{◌≡◌, ℕ, List, [], ◌∷◌, Option, Some, None, refl, sym, ap, ◌∙◌, subst}
 use Rattle.std.proofs.lemmas.Option.{same_Some}
-use Rattle.dj_edge.specs.Held.{File}
+use Rattle.dj_edge.specs.trusted.Held.{File}
 use Rattle.dj_edge.specs.declared.host.HostAnswer.{HostAnswer}
-use Rattle.dj_names.specs.Types.{Name}
-use Rattle.dj_names.specs.Library.{raw_library}
-use Rattle.dj_class.specs.ClassFile.{ClassFile}
+use Rattle.dj_names.specs.trusted.Types.{Name}
+use Rattle.dj_names.specs.trusted.Library.{raw_library}
+use Rattle.dj_class.specs.trusted.ClassFile.{ClassFile}
 use Rattle.dj_report.specs.Stages.{DecidesOne, DecideOne, Answers}
 use Rattle.dj_report.specs.declared.report.Report.{Report}
 use Rattle.dj_report.specs.declared.report.Report.TheVariants as reports
 use Rattle.dj_report.specs.declared.report.Violation.{Violation}
 use Rattle.dj_report.proofs.InOrder.{same_violations}
-use Rattle.dj_model.specs.Program.{Program}
-use Rattle.dj_model.specs.Runs.{plain_run}
-use Rattle.dj_model.specs.Runs as model_runs
+use Rattle.dj_model.specs.trusted.Program.{Program}
+use Rattle.dj_model.specs.trusted.Runs.{plain_run}
+use Rattle.dj_model.specs.trusted.Runs as model_runs
 use Rattle.dj_program.specs.Laws.{AreWhole}
-use Rattle.dj_program.specs.Programs.{IsProgramIn}
+use Rattle.dj_program.specs.trusted.Programs.{IsProgramIn}
 use Rattle.dj_program.proofs.Once.{one_is}
-use Rattle.dj_sandbox.specs.Checked.{AreGoodFiles}
-use Rattle.dj_sandbox.specs.RawRules.{entry_of, AreRawViolations}
-use Rattle.dj_sandbox.specs.Judging.{JudgesRaw, RunsRaw, raw_terms, raw_stages}
+use Rattle.dj_sandbox.specs.trusted.Checked.{AreGoodFiles}
+use Rattle.dj_sandbox.specs.trusted.RawRules.{entry_of, AreRawViolations}
+use Rattle.dj_sandbox.specs.trusted.Judging.{JudgesRaw, RunsRaw, raw_terms, raw_stages}
 use Rattle.dj_sandbox.proofs.Classical.{so}
 use Rattle.dj_sandbox.proofs.GoodFiles.{same_good}
 use Rattle.dj_sandbox.proofs.SomeLateLines.{some_raw_violations}

@@ -1,31 +1,32 @@
--- The line of the rule ENTRY, where the classes of the files are linked with the library whose host answers.
+-- The line of the rule ENTRY, where the classes of the files are linked with the raw library.
 use Rattle.std.proofs.Common.{◌≡◌, ◌↔◌, ℕ, ◌<◌, Bool, true, false, ◌&&◌, List, [], length, slice_get, Option, Some, None, IsFalse, refl, sym, ap, ◌∙◌, subst, inl, inr, codes}
 use Rattle.std.specs.Prelude.{option_and_then, unwrap_or}
 use Rattle.std.specs.Option.{option_map}
 use Rattle.std.proofs.lemmas.Option.{slice_get_within}
-use Rattle.dj_edge.specs.Held.{File}
-use Rattle.dj_names.specs.Types.{Name}
-use Rattle.dj_names.specs.Library.{raw_library}
+use Rattle.dj_edge.specs.trusted.Held.{File}
+use Rattle.dj_names.specs.trusted.Types.{Name}
+use Rattle.dj_names.specs.trusted.Library.{raw_library}
 use Rattle.dj_names.specs.declared.native.NativeId.{NativeId}
 use Rattle.dj_names.specs.declared.descriptor.Desc.{Desc}
-use Rattle.dj_names.specs.Descriptors.{Describes}
-use Rattle.dj_names.specs.DescReading.{dims_read, name_read, class_read, of_read, type_read, params_read, field_read, return_read, method_read, desc_read}
-use Rattle.dj_names.specs.NameReading.{reads_class_name}
+use Rattle.dj_names.specs.trusted.Descriptors.{Describes}
+use Rattle.dj_names.specs.trusted.DescReading.{dims_read, name_read, class_read, of_read, type_read, params_read, field_read, return_read, method_read, desc_read}
+use Rattle.dj_names.specs.trusted.NameReading.{reads_class_name}
 use Rattle.dj_names.proofs.DescLaws.{desc_takes}
-use Rattle.dj_class.specs.ClassFile.{ClassFile}
-use Rattle.dj_model.specs.Types.{no_parameters}
-use Rattle.dj_model.specs.Program.{Program, Class, Method, Body, Abstract, Native, Runs, has_code, is_static, method_in, method_of, runs_static}
-use Rattle.dj_model.specs.Linking.{has_body}
+use Rattle.dj_class.specs.trusted.ClassFile.{ClassFile}
+use Rattle.dj_model.specs.trusted.Types.{no_parameters}
+use Rattle.dj_model.specs.trusted.Program.{Program, Class, Method, Body, Abstract, Native, Runs, has_code, is_static, method_in, method_of, runs_static}
+use Rattle.dj_model.specs.trusted.Linking.{has_body}
 use Rattle.dj_report.specs.declared.report.Violation.{Violation}
 use Rattle.dj_report.specs.Lines.{Adds}
 use Rattle.dj_report.proofs.Adding.{adds_same, adds_both}
-use Rattle.dj_declared.specs.Files.{desc_in}
+use Rattle.dj_declared.specs.trusted.Files.{desc_in}
 use Rattle.dj_declared.specs.Members.{IsDescriptor, native_in, method_flags, method_has_body, method_native}
-use Rattle.dj_classes.specs.Tables.{class_number, methods_of, methods_at, declared_program}
+use Rattle.dj_classes.specs.trusted.Tables.{declared_program}
+use Rattle.dj_classes.specs.Tables.{class_number, methods_of, methods_at}
 use Rattle.dj_classes.proofs.Numbered.{class_at-number, class_at-at}
 use Rattle.dj_linking.specs.Linked.{Linked}
-use Rattle.dj_sandbox.specs.Checked.{HoldsHierarchy, IsLineBy}
-use Rattle.dj_sandbox.specs.RawRules.{entry_desc, runs_entry, LacksEntry, IsRawLine}
+use Rattle.dj_sandbox.specs.trusted.Checked.{HoldsHierarchy, IsLineBy}
+use Rattle.dj_sandbox.specs.trusted.RawRules.{entry_desc, runs_entry, LacksEntry, IsRawLine}
 use Rattle.dj_sandbox.specs.RawEntry.{method_has_code, EntryLine}
 use Rattle.dj_sandbox.specs.Late.{LinksFiles, IsLinkedWhereHeld, IsJudgedSet}
 use Rattle.dj_sandbox.specs.declared.judging.JudgedSet.{JudgedSet}

@@ -4,25 +4,26 @@ use Rattle.std.proofs.lemmas.Bool.Decides.{nat_tests}
 use Rattle.std.proofs.lemmas.List.Elements.{All-weaker, Contains-get_or}
 use Rattle.std.proofs.lemmas.Nat.Bits.{and_pow, bit_at-lt}
 use Rattle.std.specs.Int.{IsBitSet}
-use Rattle.dj_edge.specs.Held.{File}
-use Rattle.dj_class.specs.Access as access
-use Rattle.dj_straight.specs.Program.{Program, Method, Code, Runs, is_static}
-use Rattle.dj_straight.specs.Shape.{IsShapeFault}
+use Rattle.dj_edge.specs.trusted.Held.{File}
+use Rattle.dj_class.specs.trusted.Access as access
+use Rattle.dj_straight.specs.trusted.Program.{Program, Method, Code, Runs, is_static}
+use Rattle.dj_straight.specs.trusted.Shape.{IsShapeFault}
 use Rattle.dj_straight.proofs.Shapes.{one_shape_fault, no_fault_with_shape}
 use Rattle.dj_report.specs.declared.report.PathFile.{PathFile}
 use Rattle.dj_report.specs.declared.report.Violation.{Violation}
 use Rattle.dj_straight.specs.declared.program.StraightMethod.{StraightMethod}
 use Rattle.dj_straight.specs.declared.program.StraightClass.{StraightClass}
-use Rattle.dj_sandbox.specs.Entry.{has_entry, AreRunViolations, IsEntryLine, IsShapeLine, IsShapeLineOf}
+use Rattle.dj_sandbox.specs.trusted.Entry.{has_entry, AreRunViolations, IsEntryLine, IsShapeLine, IsShapeLineOf}
 use Rattle.dj_report.specs.Lines.{Adds, IsLineAmong}
-use Rattle.dj_straight.specs.Methods.{code_view, method_view, program_view, straight_signature}
+use Rattle.dj_straight.specs.trusted.Methods.{straight_signature}
+use Rattle.dj_straight.specs.Methods.{code_view, method_view, program_view}
 use Rattle.dj_straight.specs.Running.{IsRunnable}
 use Rattle.dj_straight.proofs.Straights.{are_runnable}
 use Rattle.dj_sandbox.specs.Shaped.{shape_line, AreTold, AreShaped, AreShort, IsShaped}
-use Rattle.dj_straight.specs.Straight.{IsStraightSet}
+use Rattle.dj_straight.specs.trusted.Straight.{IsStraightSet}
 use Rattle.dj_rules.specs.Views.{path_file_view}
-use Rattle.dj_report.specs.Lines.{file_line}
-use Rattle.dj_report.specs.Order.{IsInOrder}
+use Rattle.dj_report.specs.trusted.Lines.{file_line}
+use Rattle.dj_report.specs.trusted.Order.{IsInOrder}
 use Rattle.dj_report.proofs.Sorted.{contains_none}
 use Rattle.dj_report.proofs.Adding.{adds_same, adds_nothing, adds_both, contains_map, from_contains_map, exactly_found}
 

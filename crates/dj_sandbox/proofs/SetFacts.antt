@@ -6,7 +6,7 @@ use Rattle.std.specs.Cmp.Lexicographic.{slice_cmp}
 use Rattle.std.proofs.lemmas.List.Elements.{All-nil, All-cons}
 use Rattle.std.proofs.lemmas.List.Kept.{AllPairs-cons}
 use Rattle.std.proofs.lemmas.List.Sorted.{Contains-permutation, IsPermutation-middle, IsPermutation-sym}
-use Rattle.dj_edge.specs.Held.{File}
+use Rattle.dj_edge.specs.trusted.Held.{File}
 use Rattle.dj_edge.proofs.Pairs.{AllPairs-nil}
 use Rattle.dj_report.proofs.Sorted.{contains_first, contains_later, contains_none, contains_cases}
 use Rattle.dj_sandbox.specs.ClassSets.{TextsRise, IsClassSet, AreByPath}

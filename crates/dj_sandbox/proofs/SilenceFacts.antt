@@ -1,14 +1,15 @@
 -- What silences the rules 17 to 19 of a set: the rules 1 to 6 do, and 7 to 16 don't.
 use Rattle.std.proofs.Common.{◌≡◌, ℕ, ◌<◌, List, inl, inr, arith}
-use Rattle.dj_edge.specs.Held.{File}
-use Rattle.dj_names.specs.Library.{deterministic_library}
-use Rattle.dj_class.specs.ClassFile.{ClassFile}
+use Rattle.dj_edge.specs.trusted.Held.{File}
+use Rattle.dj_names.specs.trusted.Library.{deterministic_library}
+use Rattle.dj_class.specs.trusted.ClassFile.{ClassFile}
 use Rattle.dj_report.specs.declared.report.Violation.{Violation}
-use Rattle.dj_report.specs.Lines.{file_line}
-use Rattle.dj_classes.specs.Tables.{declared_program}
-use Rattle.dj_check.specs.Rules.{IsEarlyLine}
-use Rattle.dj_judge.specs.Lines.{IsLinkedLine}
-use Rattle.dj_sandbox.specs.Checked.{HoldsHierarchy, AreGoodFiles, IsLateLine, IsCheckLine}
+use Rattle.dj_report.specs.trusted.Lines.{file_line}
+use Rattle.dj_classes.specs.trusted.Tables.{declared_program}
+use Rattle.dj_check.specs.trusted.Rules.{IsEarlyLine}
+use Rattle.dj_judge.specs.trusted.Lines.{IsLinkedLine}
+use Rattle.dj_sandbox.specs.trusted.Checked.{HoldsHierarchy, AreGoodFiles, IsLateLine}
+use Rattle.dj_sandbox.specs.Checked.{IsCheckLine}
 
 module _ (files : List File) where
   -- lines of rule 7 alone

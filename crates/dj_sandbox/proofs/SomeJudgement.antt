@@ -1,17 +1,18 @@
 -- Files are not without a report: each stage of judging them has an answer where those before it handed on.
 use Rattle.std.proofs.Common.{◌≢◌, ℕ, List, [], ◌∷◌, length, Option, Some, None, refl, inl, inr}
-use Rattle.dj_edge.specs.Held.{File}
+use Rattle.dj_edge.specs.trusted.Held.{File}
 use Rattle.dj_names.specs.declared.run.Thresholds.{Thresholds}
-use Rattle.dj_report.specs.Stages.{Stage, Answers, AnswerInTurn}
+use Rattle.dj_report.specs.trusted.Stages.{Stage}
+use Rattle.dj_report.specs.Stages.{Answers, AnswerInTurn}
 use Rattle.dj_report.specs.declared.report.Report.{Report}
 use Rattle.dj_report.specs.declared.report.Report.TheVariants as reports
 use Rattle.dj_report.specs.declared.report.Violation.{Violation}
-use Rattle.dj_rules.specs.Violations.{AreViolations}
-use Rattle.dj_straight.specs.Program.{Program}
-use Rattle.dj_straight.specs.Straight.{IsStraightSet, IsNotStraight}
-use Rattle.dj_sandbox.specs.Checked.{AreCheckViolations}
-use Rattle.dj_sandbox.specs.Entry.{AreRunViolations}
-use Rattle.dj_sandbox.specs.Judging.{JudgesSet, JudgesFiles, Accepts, FindsStraight, JudgesRun, Runs, check_stages, run_stages}
+use Rattle.dj_rules.specs.trusted.Violations.{AreViolations}
+use Rattle.dj_straight.specs.trusted.Program.{Program}
+use Rattle.dj_straight.specs.trusted.Straight.{IsStraightSet, IsNotStraight}
+use Rattle.dj_sandbox.specs.trusted.Checked.{AreCheckViolations}
+use Rattle.dj_sandbox.specs.trusted.Entry.{AreRunViolations}
+use Rattle.dj_sandbox.specs.trusted.Judging.{JudgesSet, JudgesFiles, Accepts, FindsStraight, JudgesRun, Runs, check_stages, run_stages}
 use Rattle.dj_sandbox.proofs.Classical.{NotNot, so, decide}
 use Rattle.dj_sandbox.proofs.SomeLines.{some_violations}
 use Rattle.dj_sandbox.proofs.SomeLateLines.{some_check_violations}

@@ -1,36 +1,37 @@
 -- The lines of the rules 17 to 19, and those of all that `check` judges: whatever the files are, there is a list of them.
 use Rattle.std.proofs.Common.{◌≡◌, ℕ, ◌⊎◌, List, ◌++◌, Option, Some, Contains, refl, sym, ap, ◌∙◌, subst, inl, inr}
 use Rattle.std.specs.Prelude.{codes, IsSomeAnd}
-use Rattle.dj_edge.specs.Held.{File}
-use Rattle.dj_names.specs.Library.{Library, deterministic_library, raw_library}
-use Rattle.dj_names.specs.Types.{Name}
+use Rattle.dj_edge.specs.trusted.Held.{File}
+use Rattle.dj_names.specs.trusted.Library.{Library, deterministic_library, raw_library}
+use Rattle.dj_names.specs.trusted.Types.{Name}
 use Rattle.dj_ops.specs.declared.instruction.Instr.{Instr}
-use Rattle.dj_pool.specs.Pool.{Constant, constant_at}
+use Rattle.dj_pool.specs.trusted.Pool.{Constant, constant_at}
 use Rattle.dj_pool.proofs.Decides.{tests_decide}
-use Rattle.dj_class.specs.ClassFile.{MemberInfo, ClassFile}
+use Rattle.dj_class.specs.trusted.ClassFile.{MemberInfo, ClassFile}
 use Rattle.dj_class.proofs.ClassLaws.{one_class_file}
 use Rattle.dj_labels.specs.declared.labelled.Protected.{Protected}
 use Rattle.dj_labels.specs.declared.labelled.Labelled.{Labelled}
-use Rattle.dj_model.specs.Program.{Program}
+use Rattle.dj_model.specs.trusted.Program.{Program}
 use Rattle.dj_report.specs.declared.report.Violation.{Violation}
-use Rattle.dj_report.specs.Lines.{file_line}
-use Rattle.dj_rules.specs.Violations.{member_text, this_name}
-use Rattle.dj_check.specs.Malformed.{IsGood, IsFaulty, IsFaultyMethod}
-use Rattle.dj_check.specs.Methods.{CatchesError}
-use Rattle.dj_check.specs.Rules.{line_at, IsMemberLine, IsEarlyLine}
-use Rattle.dj_classes.specs.Tables.{declared_program}
-use Rattle.dj_link.specs.Foreign.{IsForeign, IsForeignConstant}
-use Rattle.dj_link.specs.Unlinked.{IsUnlinked, IsUnlinkedCatch}
-use Rattle.dj_link.specs.Lines.{IsFirstOf, IsUntold, LinkViolates, LinkViolatesAt, CatchViolates, HandlerLinkViolates, CodeLinkViolates, MethodLinkViolates, IsFileLinkLine, IsLinkLine}
-use Rattle.dj_model.specs.Kinds.{Signature}
-use Rattle.dj_model.specs.Shape.{IsShapeFault}
+use Rattle.dj_report.specs.trusted.Lines.{file_line}
+use Rattle.dj_rules.specs.trusted.Violations.{member_text, this_name}
+use Rattle.dj_check.specs.trusted.Malformed.{IsGood, IsFaulty, IsFaultyMethod}
+use Rattle.dj_check.specs.trusted.Methods.{CatchesError}
+use Rattle.dj_check.specs.trusted.Rules.{line_at, IsMemberLine, IsEarlyLine}
+use Rattle.dj_classes.specs.trusted.Tables.{declared_program}
+use Rattle.dj_link.specs.trusted.Foreign.{IsForeign, IsForeignConstant}
+use Rattle.dj_link.specs.trusted.Unlinked.{IsUnlinked, IsUnlinkedCatch}
+use Rattle.dj_link.specs.trusted.Lines.{IsFirstOf, IsUntold, LinkViolates, LinkViolatesAt, CatchViolates, HandlerLinkViolates, CodeLinkViolates, MethodLinkViolates, IsFileLinkLine, IsLinkLine}
+use Rattle.dj_model.specs.trusted.Kinds.{Signature}
+use Rattle.dj_model.specs.trusted.Shape.{IsShapeFault}
 use Rattle.dj_model.proofs.Shapes.{one_shape_fault}
-use Rattle.dj_program.specs.Codes.{CodeParts, code_in}
+use Rattle.dj_program.specs.trusted.Codes.{CodeParts, code_in}
 use Rattle.dj_program.proofs.Once.{one_code_parts}
-use Rattle.dj_shape.specs.Rule.{LacksShape}
-use Rattle.dj_judge.specs.Lines.{MethodShapeViolates, IsFileShapeLine, IsShapeLine, IsLinkedLine}
-use Rattle.dj_sandbox.specs.Checked.{AreGoodFiles, HoldsHierarchy, IsLateLine, IsLineBy, IsCheckLine, AreCheckViolations}
-use Rattle.dj_sandbox.specs.RawRules.{LacksEntry, IsRawLine, AreRawViolations}
+use Rattle.dj_shape.specs.trusted.Rule.{LacksShape}
+use Rattle.dj_judge.specs.trusted.Lines.{MethodShapeViolates, IsFileShapeLine, IsShapeLine, IsLinkedLine}
+use Rattle.dj_sandbox.specs.trusted.Checked.{AreGoodFiles, HoldsHierarchy, IsLateLine, IsLineBy, AreCheckViolations}
+use Rattle.dj_sandbox.specs.Checked.{IsCheckLine}
+use Rattle.dj_sandbox.specs.trusted.RawRules.{LacksEntry, IsRawLine, AreRawViolations}
 use Rattle.dj_sandbox.proofs.Classical.{NotNot, bind, decide, IsFinite, finite_same, finite_none, finite_one, finite_either, finite_among}
 use Rattle.dj_sandbox.proofs.InsertedLines.{finite_in_order}
 use Rattle.dj_sandbox.proofs.GoodFiles.{same_good}

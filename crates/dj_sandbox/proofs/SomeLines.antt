@@ -1,13 +1,13 @@
 -- The lines of files: whatever the files are, there is a list of them.
 use Rattle.std.proofs.Common.{◌≡◌, ℕ, ◌⊎◌, List, Contains, subst, inl, inr}
-use Rattle.dj_edge.specs.Held.{File}
-use Rattle.dj_pool.specs.Pool.{Constant}
-use Rattle.dj_class.specs.ClassFile.{MemberInfo, ClassFile, IsClassFile, IsMalformed}
+use Rattle.dj_edge.specs.trusted.Held.{File}
+use Rattle.dj_pool.specs.trusted.Pool.{Constant}
+use Rattle.dj_class.specs.trusted.ClassFile.{MemberInfo, ClassFile, IsClassFile, IsMalformed}
 use Rattle.dj_pool.proofs.Decides.{tests_decide}
 use Rattle.dj_class.proofs.ClassLaws.{one_class_file}
 use Rattle.dj_report.specs.declared.report.Violation.{Violation}
-use Rattle.dj_report.specs.Lines.{file_line, member_line}
-use Rattle.dj_rules.specs.Violations.{member_text, IsNamedAs, this_name, IsNative, IsFinalizer, HasOtherVersion, IsMethodLine, IsClassLine, IsLineOf, IsViolation, AreViolations}
+use Rattle.dj_report.specs.trusted.Lines.{file_line, member_line}
+use Rattle.dj_rules.specs.trusted.Violations.{member_text, IsNamedAs, this_name, IsNative, IsFinalizer, HasOtherVersion, IsMethodLine, IsClassLine, IsLineOf, IsViolation, AreViolations}
 use Rattle.dj_sandbox.proofs.Classical.{NotNot, bind, decide, IsFinite, finite_same, finite_none, finite_if, finite_either, finite_among}
 use Rattle.dj_sandbox.proofs.InsertedLines.{finite_in_order}
 

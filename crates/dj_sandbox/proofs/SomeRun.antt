@@ -1,25 +1,27 @@
 -- Runs of straight sets: the lines of their rules, and the end of a run where there are none.
 use Rattle.std.proofs.Common.{◌≡◌, ℕ, ◌*◌, ◌<◌, ◌&&◌, ◌⊎◌, Bool, true, false, List, [], ◌∷◌, ◌++◌, length, Option, Some, Contains, refl, sym, ap, ◌∙◌, subst, inl, inr, codes}
 use Rattle.std.specs.List.{AllByRecursion}
-use Rattle.dj_edge.specs.Held.{File}
+use Rattle.dj_edge.specs.trusted.Held.{File}
 use Rattle.dj_names.specs.declared.run.Outcome.{Outcome}
 use Rattle.dj_names.specs.declared.run.Costs.{Costs}
 use Rattle.dj_names.specs.declared.run.Thresholds.{Thresholds}
-use Rattle.dj_pool.specs.Pool.{Constant}
-use Rattle.dj_class.specs.ClassFile.{MemberInfo}
-use Rattle.dj_straight.specs.Program.{Name, Program, HasNoFields, Class, Method, Code, Body, Abstract, Runs, same_name, method_in, body_code, code_in, code_of, runs_static}
-use Rattle.dj_straight.specs.FrameKinds.{Signature}
-use Rattle.dj_straight.specs.Shape.{HasShape, IsShapeFault}
-use Rattle.dj_straight.specs.Metered.{RunsTo}
+use Rattle.dj_pool.specs.trusted.Pool.{Constant}
+use Rattle.dj_class.specs.trusted.ClassFile.{MemberInfo}
+use Rattle.dj_straight.specs.trusted.Program.{Name, Program, Class, Method, Code, Body, Abstract, Runs, same_name, method_in, body_code, code_in, code_of, runs_static}
+use Rattle.dj_straight.specs.Program.{HasNoFields}
+use Rattle.dj_straight.specs.trusted.FrameKinds.{Signature}
+use Rattle.dj_straight.specs.trusted.Shape.{IsShapeFault}
+use Rattle.dj_straight.specs.Shape.{HasShape}
+use Rattle.dj_straight.specs.trusted.Metered.{RunsTo}
 use Rattle.dj_straight.specs.Laws.{IsStraightEntry}
 use Rattle.dj_straight.proofs.Shapes.{one_shape_fault, shape_or_fault as some_shape_or_fault}
 use Rattle.dj_straight.proofs.Runs.{straight_code_ends}
 use Rattle.dj_report.specs.declared.report.Violation.{Violation}
 use Rattle.dj_report.proofs.Sorted.{contains_none, contains_first, contains_later}
-use Rattle.dj_report.specs.Lines.{file_line}
-use Rattle.dj_straight.specs.Methods.{straight_descriptor, straight_signature}
-use Rattle.dj_straight.specs.Straight.{IsStraightMethod, AreStraightMethods, IsStraightSet}
-use Rattle.dj_sandbox.specs.Entry.{entry_method, has_entry, IsShapeLine, IsShapeLineOf, IsEntryLine, AreRunViolations}
+use Rattle.dj_report.specs.trusted.Lines.{file_line}
+use Rattle.dj_straight.specs.trusted.Methods.{straight_descriptor, straight_signature}
+use Rattle.dj_straight.specs.trusted.Straight.{IsStraightMethod, AreStraightMethods, IsStraightSet}
+use Rattle.dj_sandbox.specs.trusted.Entry.{entry_method, has_entry, IsShapeLine, IsShapeLineOf, IsEntryLine, AreRunViolations}
 use Rattle.dj_sandbox.specs.Shaped.{shape_line}
 use Rattle.dj_straight.proofs.Straights.{has_some, no_initialisers}
 use Rattle.dj_sandbox.proofs.RunRules.{entry_is_there}
@@ -77,7 +79,7 @@ some_run_violations files program class =
 
 -- ---- shape
 
--- code has shape, or it is told how it is reported
+-- code has shape, or there is a fault to be reported
 shape_or_fault : (signature : Signature) (code : Code) → NotNot (HasShape signature code ⊎ ((n : Option ℕ) × IsShapeFault signature code n))
 shape_or_fault signature code none = some_shape_or_fault signature code (λ shape. none (inl shape)) (λ n fault. none (inr (n, fault)))
 

@@ -1,29 +1,29 @@
 -- The lines of the rules 1 to 16: whatever the files are, there is a list of them.
 use Rattle.std.proofs.Common.{◌≡◌, ℕ, zero, suc, ◌⊎◌, List, [], ◌∷◌, Option, Some, None, Contains, slice_get, refl, ap, ◌∙◌, subst, inl, inr}
-use Rattle.dj_edge.specs.Held.{File}
+use Rattle.dj_edge.specs.trusted.Held.{File}
 use Rattle.dj_ops.specs.declared.instruction.Instr.{Instr}
-use Rattle.dj_pool.specs.Pool.{Constant}
+use Rattle.dj_pool.specs.trusted.Pool.{Constant}
 use Rattle.dj_pool.proofs.Decides.{tests_decide}
-use Rattle.dj_class.specs.ClassFile.{MemberInfo, ClassFile}
-use Rattle.dj_class.specs.Code.{CodeInfo, IsCode}
+use Rattle.dj_class.specs.trusted.ClassFile.{MemberInfo, ClassFile}
+use Rattle.dj_class.specs.trusted.Code.{CodeInfo, IsCode}
 use Rattle.dj_class.proofs.ClassLaws.{one_class_file}
 use Rattle.dj_class.proofs.CodeLaws.{one_code}
 use Rattle.dj_labels.specs.declared.labelled.Protected.{Protected}
 use Rattle.dj_labels.specs.declared.labelled.Labelled.{Labelled}
-use Rattle.dj_labels.specs.Labels.{IsLabelled}
+use Rattle.dj_labels.specs.trusted.Labels.{IsLabelled}
 use Rattle.dj_labels.proofs.Once.{one_labelling_is}
 use Rattle.dj_report.specs.declared.report.Violation.{Violation}
-use Rattle.dj_report.specs.Lines.{file_line}
-use Rattle.dj_rules.specs.Violations.{member_text, this_name, IsClassLine}
-use Rattle.dj_hierarchy.specs.Hierarchy.{ViolatesHierarchy}
-use Rattle.dj_check.specs.Attributes.{codes_of}
-use Rattle.dj_check.specs.Classes.{IsReserved}
-use Rattle.dj_check.specs.Heads.{head_of, StandsAmong, HasRepeats}
-use Rattle.dj_check.specs.Instructions.{IsDynamic, IsReflection, IsFloat, IsSubroutine, IsBreakpoint, IsMultiArray}
-use Rattle.dj_check.specs.Malformed.{IsRefused, IsGood}
-use Rattle.dj_check.specs.Members.{HasFloatConstant, IsFloatField, IsFloatMethod, HasInterfaceCode}
-use Rattle.dj_check.specs.Methods.{InstrViolates, CatchesError, ViolatesAt, HandlerViolates, CodeViolates, ViolatesWhole, MethodViolates}
-use Rattle.dj_check.specs.Rules.{line_at, IsMemberLine, FieldViolates, IsNamingLine, IsOwnLine, IsLoneLine, IsAmongLoneLines, HasDouble, IsDuplicateLine, IsHierarchyLine, IsEarlyLine}
+use Rattle.dj_report.specs.trusted.Lines.{file_line}
+use Rattle.dj_rules.specs.trusted.Violations.{member_text, this_name, IsClassLine}
+use Rattle.dj_hierarchy.specs.trusted.Hierarchy.{ViolatesHierarchy}
+use Rattle.dj_check.specs.trusted.Attributes.{codes_of}
+use Rattle.dj_check.specs.trusted.Classes.{IsReserved}
+use Rattle.dj_check.specs.trusted.Heads.{head_of, StandsAmong, HasRepeats}
+use Rattle.dj_check.specs.trusted.Instructions.{IsDynamic, IsReflection, IsFloat, IsSubroutine, IsBreakpoint, IsMultiArray}
+use Rattle.dj_check.specs.trusted.Malformed.{IsRefused, IsGood}
+use Rattle.dj_check.specs.trusted.Members.{HasFloatConstant, IsFloatField, IsFloatMethod, HasInterfaceCode}
+use Rattle.dj_check.specs.trusted.Methods.{InstrViolates, CatchesError, ViolatesAt, HandlerViolates, CodeViolates, ViolatesWhole, MethodViolates}
+use Rattle.dj_check.specs.trusted.Rules.{line_at, IsMemberLine, FieldViolates, IsNamingLine, IsOwnLine, IsLoneLine, IsAmongLoneLines, HasDouble, IsDuplicateLine, IsHierarchyLine, IsEarlyLine}
 use Rattle.dj_sandbox.proofs.Classical.{bind, decide, IsFinite, finite_same, finite_none, finite_if, finite_either, finite_among}
 use Rattle.dj_sandbox.proofs.SomeLines.{class_lines}
 

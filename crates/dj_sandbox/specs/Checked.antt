@@ -1,44 +1,9 @@
--- What `check` judges: the rules 1 to 16, and the rules 17 to 19 where the rules 1 to 6 hold of the whole set. These ask the program of the files
--- and a library, which for `check` is the deterministic one.
-use Rattle.std.specs.Prelude.{◌<◌, ◌⊎◌, ⊤, List, [], ◌∷◌}
-use Rattle.dj_edge.specs.Held.{File}
-use Rattle.dj_names.specs.Library.{Library, deterministic_library}
-use Rattle.dj_class.specs.ClassFile.{ClassFile}
+-- Beside trusted/Checked.antt: what no clause of the call `djvm` reaches.
+use Rattle.std.specs.Prelude.{List}
+use Rattle.dj_edge.specs.trusted.Held.{File}
+use Rattle.dj_names.specs.trusted.Library.{deterministic_library}
 use Rattle.dj_report.specs.declared.report.Violation.{Violation}
-use Rattle.dj_report.specs.Lines.{AreExactly}
-use Rattle.dj_check.specs.Malformed.{IsGood}
-use Rattle.dj_check.specs.Rules.{IsEarlyLine}
-use Rattle.dj_classes.specs.Tables.{declared_program}
-use Rattle.dj_judge.specs.Lines.{IsLinkedLine}
-
--- the class files of the files, side by side; none violates rule 1
-abbrev pub AreGoodFiles : List File → List ClassFile → Type 0
-AreGoodFiles [] [] = ⊤
-AreGoodFiles (file ∷ files) (c ∷ classes) = IsGood file.1 c × AreGoodFiles files classes
-AreGoodFiles files classes = ⊥
-
--- none of the rules 1 to 6 is violated
-abbrev pub HoldsHierarchy : List File → Type 0
-HoldsHierarchy files = (v : Violation) → IsEarlyLine files v → 6 < v.rule
-
--- a line of the rules 17 to 19, of the program of all classes and the library
-pub record IsLateLine (library : Library) (files : List File) (v : Violation) : Type 0 where
-  pub hierarchy : HoldsHierarchy files
-  pub classes : List ClassFile
-  pub good : AreGoodFiles files classes
-  pub line : IsLinkedLine (declared_program library classes) files v
-
--- a line of the rules 1 to 19
-abbrev pub IsLineBy : Library → List File → Violation → Type 0
-IsLineBy library files v = IsEarlyLine files v ⊎ IsLateLine library files v
-
--- all violations of these, in order, each once
-abbrev pub AreViolationsBy : Library → List File → List Violation → Type 0
-AreViolationsBy library files = AreExactly (IsLineBy library files)
+use Rattle.dj_sandbox.specs.trusted.Checked.{IsLineBy}
 
 abbrev pub IsCheckLine : List File → Violation → Type 0
 IsCheckLine files v = IsLineBy deterministic_library files v
-
--- all violations that are judged, in order, each once
-abbrev pub AreCheckViolations : List File → List Violation → Type 0
-AreCheckViolations files = AreViolationsBy deterministic_library files

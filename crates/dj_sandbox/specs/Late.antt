@@ -1,20 +1,21 @@
--- The code's own: lines that hide those of later rules, the classes of files, and what links them.
+-- Used by the code alone: whether the rules 1 to 6 hold, so that later rules are judged, the classes of files, and what links them.
 use Rattle.std.specs.Prelude.{◌≡◌, ℕ, ⊤, ◌≤◌, ◌⊎◌, List, [], ◌∷◌, ◌++◌, map, Option, Some, None, Contains}
-use Rattle.dj_edge.specs.Held.{File}
-use Rattle.dj_names.specs.Types.{Name}
-use Rattle.dj_names.specs.Library.{Library, deterministic_library, raw_library}
-use Rattle.dj_class.specs.ClassFile.{ClassFile, IsClassFile, IsMalformed}
+use Rattle.dj_edge.specs.trusted.Held.{File}
+use Rattle.dj_names.specs.trusted.Types.{Name}
+use Rattle.dj_names.specs.trusted.Library.{Library, deterministic_library, raw_library}
+use Rattle.dj_class.specs.trusted.ClassFile.{ClassFile, IsClassFile, IsMalformed}
 use Rattle.dj_natives.specs.declared.library.LibClass.{LibClass}
 use Rattle.dj_natives.specs.Views.{library_class_view}
-use Rattle.dj_model.specs.Program.{Class}
-use Rattle.dj_model.specs.Libraries.{library_class, joined}
+use Rattle.dj_model.specs.trusted.Program.{Class}
+use Rattle.dj_model.specs.trusted.Libraries.{library_class, joined}
 use Rattle.dj_report.specs.declared.report.Violation.{Violation}
 use Rattle.dj_report.specs.Lines.{Adds}
-use Rattle.dj_declared.specs.Files.{declared_class}
-use Rattle.dj_classes.specs.Tables.{IsShared, declared_program}
+use Rattle.dj_declared.specs.trusted.Files.{declared_class}
+use Rattle.dj_classes.specs.trusted.Tables.{declared_program}
+use Rattle.dj_classes.specs.Tables.{IsShared}
 use Rattle.dj_linking.specs.Linked.{Linked}
 use Rattle.dj_loader.specs.Loads.{IsOwnAncestor}
-use Rattle.dj_sandbox.specs.Checked.{HoldsHierarchy, IsLineBy}
+use Rattle.dj_sandbox.specs.trusted.Checked.{HoldsHierarchy, IsLineBy}
 use Rattle.dj_sandbox.specs.declared.judging.JudgedSet.{JudgedSet}
 use Rattle.dj_sandbox.specs.declared.late.Links.{Links}
 use Rattle.dj_sandbox.specs.declared.late.Links.TheVariants as links
@@ -23,18 +24,18 @@ use Rattle.dj_sandbox.specs.declared.late.Links.TheVariants as links
 abbrev pub HasHierarchyLine : List Violation → Type 0
 HasHierarchyLine lines = (v : Violation) × Contains lines v × (v.rule ≤ 6)
 
--- the class files of the files, side by side
+-- the class files of the files, each at its file's place
 abbrev pub AreReadFiles : List File → List ClassFile → Type 0
 AreReadFiles [] [] = ⊤
 AreReadFiles (file ∷ files) (c ∷ classes) = IsClassFile file.1 c × AreReadFiles files classes
 AreReadFiles files classes = ⊥
 
--- the class of the class file that the bytes are, and nothing where they are none
+-- the class of the class file that the bytes are; none where the bytes are no class file
 abbrev pub IsDeclaredFrom : List ℕ → Option Class → Type 0
 IsDeclaredFrom bytes None = IsMalformed bytes
 IsDeclaredFrom bytes (Some class) = (c : ClassFile) × IsClassFile bytes c × (class ≡ declared_class c)
 
--- those of the files, side by side
+-- the classes of the files, each at its file's place
 abbrev pub AreDeclared : List File → List Class → Type 0
 AreDeclared files declared = (classes : List ClassFile) × AreReadFiles files classes × (declared ≡ map declared_class classes)
 
@@ -46,7 +47,7 @@ abbrev pub AreDeclaredOrNot : List File → Option (List Class) → Type 0
 AreDeclaredOrNot files None = HasMalformed files
 AreDeclaredOrNot files (Some declared) = AreDeclared files declared
 
--- the library of `check`, or the one whose host answers
+-- the library of `check`, or that of `raw`
 abbrev pub IsJudging : Library → Type 0
 IsJudging library = (library ≡ deterministic_library) ⊎ (library ≡ raw_library)
 
@@ -54,7 +55,7 @@ IsJudging library = (library ≡ deterministic_library) ⊎ (library ≡ raw_lib
 abbrev pub row_class : LibClass → Class
 row_class row = library_class (library_class_view row)
 
--- it links the classes of the files and of the library under their own names
+-- linked has the classes of the files and of the library, under their own names
 abbrev pub LinksFiles : Library → List File → Linked → Type 0
 LinksFiles library files linked =
     (classes : List ClassFile) × AreReadFiles files classes × (linked ≡ record { program = declared_program library classes; prefix = [] })
@@ -71,7 +72,7 @@ SharesName library files = (declared : List Class) × AreDeclared files declared
 abbrev pub HasCycle : List Class → Type 0
 HasCycle classes = (name : Name) × IsOwnAncestor classes name
 
--- one of those of the files and of the library is
+-- the same for the classes of the files and of the library
 abbrev pub GoesRound : Library → List File → Type 0
 GoesRound library files = (declared : List Class) × AreDeclared files declared × HasCycle (with_library library declared)
 
@@ -82,21 +83,21 @@ IsLinkOf table links.NotClassFile = ⊥
 IsLinkOf table links.SharedName = ⊥
 IsLinkOf table links.Cycle = HasCycle table
 
--- how these classes are linked
+-- how the classes of the library and these are linked
 abbrev pub AreLinksOf : Library → List Class → Links → Type 0
 AreLinksOf library declared (links.Linked linked) = linked ≡ record { program = joined (with_library library declared) []; prefix = [] }
 AreLinksOf library declared links.NotClassFile = ⊥
 AreLinksOf library declared links.SharedName = (name : Name) × IsShared (with_library library declared) name
 AreLinksOf library declared links.Cycle = HasCycle (with_library library declared)
 
--- how those of the files are
+-- how the classes of the library and of the files are linked
 abbrev pub AreLinks : Library → List File → Links → Type 0
 AreLinks library files (links.Linked linked) = LinksFiles library files linked
 AreLinks library files links.NotClassFile = HasMalformed files
 AreLinks library files links.SharedName = SharesName library files
 AreLinks library files links.Cycle = GoesRound library files
 
--- it links them, and the rules 1 to 6 hold; or one of these is violated
+-- it links them and none of the rules 1 to 6 is violated, or one of these is violated and there is none
 abbrev pub IsLinkedWhereHeld : Library → List File → Option Linked → Type 0
 IsLinkedWhereHeld library files None = HoldsHierarchy files → ⊥
 IsLinkedWhereHeld library files (Some linked) = HoldsHierarchy files × LinksFiles library files linked

@@ -1,10 +1,8 @@
 pub mod Limits
 pub mod ClassSets
-pub mod Entry
 pub mod Shaped
 pub mod Statuses
 pub mod Checked
-pub mod RawRules
 pub mod RawEntry
 pub mod Late
-pub mod Judging
+pub mod trusted

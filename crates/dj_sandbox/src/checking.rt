@@ -1,11 +1,12 @@
 ghost use Rattle.std.specs.Prelude.{◌<◌, ◌≤◌, ◌^◌, length, map, All, IfOk};
-ghost use Rattle.dj_report.specs.Stages.{IsDecided};
-ghost use Rattle.dj_report.specs.Text.{report_status};
+ghost use Rattle.dj_report.specs.trusted.Stages.{IsDecided};
+ghost use Rattle.dj_report.specs.trusted.Text.{report_status};
 ghost use Rattle.dj_rules.specs.Views.{path_file_view};
-ghost use Rattle.dj_sandbox.specs.Checked.{AreCheckViolations};
-ghost use Rattle.dj_sandbox.specs.Judging.{check_stages};
-ghost use Rattle.dj_sandbox.specs.Limits.{most_files};
-ghost use Rattle.dj_sandbox.specs.Statuses.{IsAmong, check_statuses};
+ghost use Rattle.dj_sandbox.specs.trusted.Checked.{AreCheckViolations};
+ghost use Rattle.dj_sandbox.specs.trusted.Judging.{check_stages};
+ghost use Rattle.dj_sandbox.specs.trusted.Limits.{most_files};
+ghost use Rattle.dj_sandbox.specs.trusted.Statuses.{IsAmong};
+ghost use Rattle.dj_sandbox.specs.Statuses.{check_statuses};
 
 use crate::class_set::ClassSet;
 use crate::error::SandboxError;
@@ -15,7 +16,7 @@ use dj_report::{PathFile, Report, Violations, in_order};
 use dj_rules::RulesError;
 use std::alloc::Global;
 
-// All violations that `check` judges, in order, each once.
+// All violations that `check` reports, in order, each once.
 fn check_violations(alloc: Global, files: &[PathFile<'_>]) -> Result<Violations, RulesError>
     requires few { length files.now ≤ most_files }
     requires short { All (λ file. length file.bytes.now < 2 ^ 32) files.now }

@@ -5,14 +5,14 @@ ghost use Rattle.std.specs.String.{string_cmp};
 ghost use Rattle.dj_edge.specs.InMemory.{file_in, files_in, PathsDiffer};
 ghost use Rattle.dj_rules.specs.Views.{path_file_view};
 ghost use Rattle.dj_sandbox.specs.ClassSets.{IsClassSet, AreByPath};
-ghost use Rattle.dj_sandbox.specs.Limits.{most_files, AreWithin};
+ghost use Rattle.dj_sandbox.specs.trusted.Limits.{most_files, AreWithin};
 
 use crate::error::SandboxError;
 use dj_report::PathFile;
 use std::alloc::Global;
 use std::marker::Model;
 
-/// The class files of a folder, each under its path within it, in the order of the bytes of their paths.
+/// The class files of a folder, each under its path within the folder, in the order of these paths' bytes.
 #[derive(Drop)]
 pub struct ClassSet {
     files: Vec<(String, Vec<u8>)>,
@@ -20,7 +20,7 @@ pub struct ClassSet {
 
 impl Model for ClassSet {
     ghost use Rattle.std.specs.Prelude.{List};
-    ghost use Rattle.dj_edge.specs.Held.{File};
+    ghost use Rattle.dj_edge.specs.trusted.Held.{File};
 
     ghost Value = { List File };
 
@@ -32,7 +32,7 @@ impl Model for ClassSet {
     ghost invariant = { λ set. IsClassSet (files_in set.files.items) };
 }
 
-// Puts files in the order of their paths. Their own bytes are compared only where two have one path.
+// Puts files in the order of their paths. Their contents are compared only where two have the same path.
 fn sort_by_path(alloc: Global, files: &mut [(String, Vec<u8>)]) -> Result<(), SandboxError>
     ensures moved { IsPermutation files.old files.new }
     ensures sorted { OnOk result (IsSortedByKey (λ file. file.0) string_cmp files.new) }
@@ -41,7 +41,7 @@ fn sort_by_path(alloc: Global, files: &mut [(String, Vec<u8>)]) -> Result<(), Sa
     Ok(())
 }
 
-// The file, lent.
+// The file, borrowed.
 fn lend_file(file: &(String, Vec<u8>)) -> PathFile<'_>
     ensures { path_file_view result ≡ file_in file.now }
 {
@@ -51,7 +51,7 @@ fn lend_file(file: &(String, Vec<u8>)) -> PathFile<'_>
     }
 }
 
-// The files, lent.
+// The files, borrowed.
 fn lend_files(alloc: Global, files: &[(String, Vec<u8>)]) -> Result<Vec<PathFile<'_>>, SandboxError>
     ensures { IfOk result (λ lent. map path_file_view lent.items ≡ files_in files.now) }
 {
@@ -63,7 +63,7 @@ fn lend_files(alloc: Global, files: &[(String, Vec<u8>)]) -> Result<Vec<PathFile
 }
 
 impl ClassSet {
-    /// The set of these files. Fails for want of memory alone.
+    /// The set of these files. Fails only for want of memory.
     pub fn new(alloc: Global, mut files: Vec<(String, Vec<u8>)>) -> Result<ClassSet, SandboxError>
         requires few { length files.items ≤ most_files }
         requires within { AreWithin (files_in files.items) }
@@ -74,7 +74,7 @@ impl ClassSet {
         Ok(ClassSet { files })
     }
 
-    /// The files in their order, lent to those that judge them.
+    /// The files in their order, borrowed.
     pub fn path_files(&self, alloc: Global) -> Result<Vec<PathFile<'_>>, SandboxError>
         ensures lent { IfOk result (λ lent. map path_file_view lent.items ≡ self.now) }
         ensures set { IsClassSet self.now }

@@ -1,12 +1,12 @@
 ghost use Rattle.std.specs.Prelude.{◌≡◌, ◌++◌, ◌==◌, if◌then◌else◌, OnOk, IfOk};
-ghost use Rattle.dj_names.specs.ModifiedUtf8.{unit_text};
-ghost use Rattle.dj_sandbox.specs.Entry.{entry_name};
+ghost use Rattle.dj_names.specs.trusted.ModifiedUtf8.{unit_text};
+ghost use Rattle.dj_sandbox.specs.trusted.Entry.{entry_name};
 
 use dj_names::{Name, NoMemory};
 use dj_rules::{RulesError, units_of_path};
 use std::alloc::Global;
 
-// A dot is taken as a slash.
+// A dot becomes a slash.
 fn with_slash(unit: u16) -> u16
     ensures { result ≡ if unit == 46 then 47 else unit }
 {
@@ -30,7 +30,7 @@ fn add_unit(text: &mut Name, unit: u16) -> Result<(), NoMemory>
     }
 }
 
-/// The name of the class that the word of the command line names, whose parts a dot or a slash may split.
+/// The name of the class that a word of the command line names, with dots or slashes between its parts.
 pub fn entry_name(alloc: Global, word: &str) -> Result<Name, RulesError>
     ensures { IfOk result (λ name. name ≡ entry_name word.now) }
 {

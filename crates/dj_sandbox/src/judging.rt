@@ -1,11 +1,11 @@
-//! The lines of files by a library, and how their classes are linked with it.
+//! The violations of files by a library, and how their classes are linked with it.
 ghost use Rattle.std.specs.Prelude.{◌<◌, ◌≤◌, ◌^◌, ◌↔◌, List, length, map, All, IfOk, IsTrue};
-ghost use Rattle.dj_names.specs.Library.{LibraryClass};
+ghost use Rattle.dj_names.specs.trusted.Library.{LibraryClass};
 ghost use Rattle.dj_natives.specs.Views.{library_view};
 ghost use Rattle.dj_rules.specs.Views.{path_file_view};
-ghost use Rattle.dj_sandbox.specs.Checked.{HoldsHierarchy};
+ghost use Rattle.dj_sandbox.specs.trusted.Checked.{HoldsHierarchy};
 ghost use Rattle.dj_sandbox.specs.Late.{HasHierarchyLine, IsJudging, IsJudgedSet, LinksFiles};
-ghost use Rattle.dj_sandbox.specs.Limits.{most_files};
+ghost use Rattle.dj_sandbox.specs.trusted.Limits.{most_files};
 
 use crate::late::{Links, link_files};
 use dj_judge::{JudgedFiles, judge_files};
@@ -15,13 +15,13 @@ use dj_report::{PathFile, Violation, add_in_order};
 use dj_rules::RulesError;
 use std::alloc::Global;
 
-// The number of the rule HIERARCHY. Where it or one before it is violated the rules 17 to 20 are not judged.
+// The number of the rule HIERARCHY. Where it or one before it is violated, the rules 17 to 20 are not judged.
 const HIERARCHY: u8 = 6;
 
-/// What is known of files that were judged by the rules 1 to 19.
+/// What is known of files once they were judged by the rules 1 to 19.
 #[derive(Drop)]
 pub struct JudgedSet {
-    /// Their lines, in any order, with repeats.
+    /// Their violations, in any order, with repeats.
     pub found: Vec<Violation>,
     /// What links their classes with those of the library, where none of the rules 1 to 6 is violated.
     pub linker: Option<Linker>,
@@ -39,7 +39,7 @@ fn breaks_hierarchy(lines: &[Violation]) -> bool
     false
 }
 
-// Judges files of which one of the rules 1 to 6 is violated: none is of a later rule.
+// Judges files that violate one of the rules 1 to 6: no later rule than 16 is judged.
 fn judge_broken(alloc: Global, files: &[PathFile<'_>]) -> Result<JudgedSet, RulesError>
     requires short { All (λ file. length file.bytes.now < 2 ^ 32) files.now }
     requires broken { HoldsHierarchy (map path_file_view files.now) → ⊥ }
@@ -78,7 +78,7 @@ fn judge_linked(
     })
 }
 
-/// Judges files by the rules 1 to 19, with the library of `check` or with the one whose host answers.
+/// Judges files by the rules 1 to 19, with the library of `check` or with that of `raw`.
 pub fn judge_set(
     alloc: Global,
     files: &[PathFile<'_>],

@@ -1,15 +1,15 @@
 ghost use Rattle.std.specs.Prelude.{◌≡◌, ◌++◌, ◌<◌, ◌≤◌, ◌^◌, length, map, All, IfOk, OnOk};
 ghost use Rattle.std.specs.Option.{option_map};
-ghost use Rattle.dj_names.specs.Descriptors.{IsDesc};
-ghost use Rattle.dj_class.specs.ClassFile.{IsValid};
+ghost use Rattle.dj_names.specs.trusted.Descriptors.{IsDesc};
+ghost use Rattle.dj_class.specs.trusted.ClassFile.{IsValid};
 ghost use Rattle.dj_class.specs.Views.{class_of};
 ghost use Rattle.dj_natives.specs.Views.{library_view};
-ghost use Rattle.dj_model.specs.Libraries.{library_class};
+ghost use Rattle.dj_model.specs.trusted.Libraries.{library_class};
 ghost use Rattle.dj_rules.specs.Views.{path_file_view};
-ghost use Rattle.dj_declared.specs.Files.{declared_class};
-ghost use Rattle.dj_classes.specs.Rows.{RiseStrictly};
+ghost use Rattle.dj_declared.specs.trusted.Files.{declared_class};
+ghost use Rattle.dj_classes.specs.ClassRows.{RiseStrictly};
 ghost use Rattle.dj_sandbox.specs.Late.{IsDeclaredFrom, AreDeclaredOrNot, IsJudging, IsLinkOf, AreLinksOf, AreLinks, row_class};
-ghost use Rattle.dj_sandbox.specs.Limits.{most_files};
+ghost use Rattle.dj_sandbox.specs.trusted.Limits.{most_files};
 
 use dj_class::ClassView;
 use dj_declared::{DeclaredClass, declare_file, declare_library_class};
@@ -28,7 +28,7 @@ fn declare_view(alloc: Global, view: &ClassView<'_>) -> Result<DeclaredClass, Ru
     declare_file(alloc, view).map_err(|_| RulesError::Memory)
 }
 
-// Reads a file for its class, and answers nothing where it is no class file.
+// The class that a file declares, or none where it is no class file.
 fn declare_path_file(
     alloc: Global,
     file: &PathFile<'_>,
@@ -42,7 +42,7 @@ fn declare_path_file(
     }
 }
 
-// The classes of the files, or nothing where one is no class file.
+// The classes of the files, or none where one is no class file.
 fn declare_files(
     alloc: Global,
     files: &[PathFile<'_>],
@@ -112,13 +112,11 @@ pub enum Links {
 fn link_acyclic(alloc: Global, table: ClassTable) -> Result<Links, RulesError>
     ensures { IfOk result (IsLinkOf table) }
 {
-    match Linker::of(alloc, table, BaseNames::Plain) {
-        Ok(linker) => Ok(Links::Linked(linker)),
-        Err(_) => Err(RulesError::Memory),
-    }
+    let linker = Linker::of(alloc, table, BaseNames::Plain).or(Err(RulesError::Memory))?;
+    Ok(Links::Linked(linker))
 }
 
-// Links classes that are in order, unless one is its own ancestor: no look-up is to walk upward from such.
+// Links classes that are in order, unless one is its own ancestor: a look-up that walks upward needs an end.
 fn link_table(alloc: Global, table: ClassTable) -> Result<Links, RulesError>
     requires { RiseStrictly table }
     ensures { IfOk result (IsLinkOf table) }

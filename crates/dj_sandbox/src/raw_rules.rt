@@ -1,16 +1,17 @@
-//! The rules that are judged of a run with the library whose host answers.
+//! The rules that are judged before a run of `raw`.
 ghost use Rattle.std.specs.Prelude.{◌≡◌, ◌<◌, ◌≤◌, ◌^◌, ◌++◌, [], List, codes, length, map, All, Some, IfOk, OnOk, slice_get};
 ghost use Rattle.std.specs.Option.{option_map};
-ghost use Rattle.dj_edge.specs.Held.{File};
-ghost use Rattle.dj_names.specs.Library.{raw_library};
-ghost use Rattle.dj_model.specs.Program.{method_in, runs_static};
-ghost use Rattle.dj_report.specs.Lines.{file_line, Adds};
+ghost use Rattle.dj_edge.specs.trusted.Held.{File};
+ghost use Rattle.dj_names.specs.trusted.Library.{raw_library};
+ghost use Rattle.dj_model.specs.trusted.Program.{method_in, runs_static};
+ghost use Rattle.dj_report.specs.trusted.Lines.{file_line};
+ghost use Rattle.dj_report.specs.Lines.{Adds};
 ghost use Rattle.dj_rules.specs.Views.{path_file_view};
 ghost use Rattle.dj_classes.specs.Tables.{methods_at};
-ghost use Rattle.dj_sandbox.specs.Limits.{most_files};
+ghost use Rattle.dj_sandbox.specs.trusted.Limits.{most_files};
 ghost use Rattle.dj_sandbox.specs.Late.{IsJudgedSet};
 ghost use Rattle.dj_sandbox.specs.RawEntry.{method_has_code, EntryLine};
-ghost use Rattle.dj_sandbox.specs.RawRules.{entry_desc, runs_entry, IsRawLine, AreRawViolations};
+ghost use Rattle.dj_sandbox.specs.trusted.RawRules.{entry_desc, runs_entry, IsRawLine, AreRawViolations};
 
 use crate::judging::{JudgedSet, judge_set};
 use dj_library::raw;
@@ -80,7 +81,7 @@ fn runs_entry(table: &ClassTable, entry: &[u8]) -> bool
 
 // ---- the lines
 
-// The line of an entry that is not there.
+// The line of an entry that isn't there.
 fn entry_line(alloc: Global, entry: &[u8]) -> Result<Violation, RulesError>
     ensures { IfOk result (λ line. line ≡ file_line (entry.now ++ codes ".class") 20) }
 {
@@ -95,7 +96,7 @@ fn entry_line(alloc: Global, entry: &[u8]) -> Result<Violation, RulesError>
     })
 }
 
-// Appends the line of an entry that is not there.
+// Appends the line of an entry that isn't there.
 fn add_entry_line(
     alloc: Global,
     found: &mut Vec<Violation>,
@@ -137,7 +138,7 @@ fn raw_lines(alloc: Global, judged: JudgedSet, entry: &[u8]) -> Result<Vec<Viola
     }
 }
 
-/// All violations that are judged of a run with the library whose host answers, in order, each once. The class of the entry is named.
+/// All violations that `raw` reports, in order, each once. `entry` is the name of the entry's class.
 pub fn raw_violations(
     alloc: Global,
     files: &[PathFile<'_>],

@@ -1,8 +1,9 @@
 ghost use Rattle.std.specs.Prelude.{◌≡◌, true, false, ◌<◌, ◌^◌, ◌++◌, [], ◌∷◌, length, map, codes, All, Contains, Some, None, IfOk, OnOk, MatchOption};
-ghost use Rattle.dj_straight.specs.Program.{code_of, is_static, method_in};
-ghost use Rattle.dj_sandbox.specs.Entry.{entry_method, has_entry, AreRunViolations, IsEntryLine, IsShapeLine, IsShapeLineOf};
+ghost use Rattle.dj_straight.specs.trusted.Program.{code_of, is_static, method_in};
+ghost use Rattle.dj_sandbox.specs.trusted.Entry.{entry_method, has_entry, AreRunViolations, IsEntryLine, IsShapeLine, IsShapeLineOf};
 ghost use Rattle.dj_report.specs.Lines.{Adds};
-ghost use Rattle.dj_straight.specs.Methods.{code_view, method_view, program_view, straight_descriptor};
+ghost use Rattle.dj_straight.specs.trusted.Methods.{straight_descriptor};
+ghost use Rattle.dj_straight.specs.Methods.{code_view, method_view, program_view};
 ghost use Rattle.dj_sandbox.specs.Shaped.{shape_line, AreTold, AreShaped, AreShort, IsTold, IsMethodOf};
 ghost use Rattle.dj_rules.specs.Views.{path_file_view};
 
@@ -28,7 +29,7 @@ fn is_static(flags: u16) -> bool
     AccessFlags(flags).is_static()
 }
 
-// The first method verify.
+// The first method named verify.
 fn verify_of(methods: &[StraightMethod]) -> Option<&StraightMethod>
     ensures { MatchOption result
         (method_in (map method_view methods.now) (codes "verify") straight_descriptor ≡ None)
@@ -44,7 +45,7 @@ fn verify_of(methods: &[StraightMethod]) -> Option<&StraightMethod>
 }
 
 /// The method that is run: the static method verify of the class of this name.
-#[tactic(auto, unfolding(dj_straight::specs::Program::code_of))]
+#[tactic(auto, unfolding(dj_straight::specs::trusted::Program::code_of))]
 pub fn entry_of<'a>(class: &'a Option<StraightClass>, entry: &[u8]) -> Option<&'a StraightMethod>
     ensures { MatchOption result
         (has_entry (program_view class.now) entry.now ≡ false)
@@ -153,7 +154,7 @@ fn add_class_lines(
     }
 }
 
-// Appends the line of an entry that is not there.
+// Appends the line of an entry that isn't there.
 fn add_entry_line(
     alloc: Global,
     found: &mut Vec<Violation>,
@@ -178,7 +179,7 @@ fn add_entry_line(
     Ok(())
 }
 
-/// All violations of the rules SHAPE and ENTRY by a straight set, in order, each once. The class of the entry is named.
+/// All violations of the rules SHAPE and ENTRY in a straight set, in order, each once. `entry` is the name of the entry's class.
 pub fn run_violations(
     alloc: Global,
     files: &[PathFile<'_>],

@@ -1,19 +1,22 @@
 ghost use Rattle.std.specs.Prelude.{◌≡◌, ◌≤◌, ◌<◌, ◌^◌, ℕ, List, length, map, true, false, All, IfOk};
 ghost use Rattle.dj_names.specs.declared.run.Outcome.TheVariants.{Link};
-ghost use Rattle.dj_report.specs.Stages.{IsDecided};
-ghost use Rattle.dj_report.specs.Text.{report_status};
+ghost use Rattle.dj_report.specs.trusted.Stages.{IsDecided};
+ghost use Rattle.dj_report.specs.trusted.Text.{report_status};
 ghost use Rattle.dj_report.specs.declared.report.Report.TheVariants.{Later};
 ghost use Rattle.dj_rules.specs.Views.{path_file_view};
-ghost use Rattle.dj_straight.specs.Program.{HasNoFields, has_initialiser};
-ghost use Rattle.dj_straight.specs.Metered.{RunsTo};
+ghost use Rattle.dj_straight.specs.trusted.Program.{has_initialiser};
+ghost use Rattle.dj_straight.specs.Program.{HasNoFields};
+ghost use Rattle.dj_straight.specs.trusted.Metered.{RunsTo};
 ghost use Rattle.dj_straight.specs.Methods.{program_view};
-ghost use Rattle.dj_straight.specs.Straight.{IsNotStraight};
+ghost use Rattle.dj_straight.specs.trusted.Straight.{IsNotStraight};
 ghost use Rattle.dj_straight.specs.Running.{IsStraightEnd, AreRunnable};
-ghost use Rattle.dj_sandbox.specs.Limits.{most_input_bytes, IsWithinMost};
-ghost use Rattle.dj_sandbox.specs.Entry.{entry_method, has_entry};
-ghost use Rattle.dj_sandbox.specs.Judging.{IsFirstPath, run_stages};
+ghost use Rattle.dj_sandbox.specs.trusted.Limits.{most_input_bytes};
+ghost use Rattle.dj_sandbox.specs.Limits.{IsWithinMost};
+ghost use Rattle.dj_sandbox.specs.trusted.Entry.{entry_method, has_entry};
+ghost use Rattle.dj_sandbox.specs.trusted.Judging.{IsFirstPath, run_stages};
 ghost use Rattle.dj_sandbox.specs.Shaped.{AreShaped};
-ghost use Rattle.dj_sandbox.specs.Statuses.{IsAmong, run_statuses};
+ghost use Rattle.dj_sandbox.specs.trusted.Statuses.{IsAmong};
+ghost use Rattle.dj_sandbox.specs.Statuses.{run_statuses};
 
 use crate::class_set::ClassSet;
 use crate::error::SandboxError;
@@ -24,14 +27,14 @@ use dj_rules::{RulesError, judge_files};
 use dj_straight::{Ending, StraightSet, run_method, straight_set};
 use std::alloc::Global;
 
-// The report that the set with the file of this path is not run yet.
+// The report LATER: the set whose first file has this path is not supported yet.
 fn later(alloc: Global, path: &str) -> Result<Report, RulesError>
     ensures { IfOk result (λ report. report ≡ Later path.now) }
 {
     Ok(Report::Later(Name::from_slice(alloc, path.as_bytes())?))
 }
 
-/// The report that a set which isn't straight is not run yet, by its first file.
+/// The report LATER on a set that isn't straight, with the path of its first file.
 fn later_first(alloc: Global, files: &[PathFile<'_>]) -> Result<Report, RulesError>
     requires not_straight { IsNotStraight (map path_file_view files.now) }
     ensures { IfOk result (λ report. (path : List ℕ) × (report ≡ Later path) × IsFirstPath (map path_file_view files.now) path) }
@@ -67,7 +70,7 @@ fn run_entry(
     }
 }
 
-// The report on a run of the class of this name on the input, within the thresholds. Each file stands under its path within the folder.
+// The report on a run of the class of this name on the input, within the thresholds. Each file is under its path within the folder.
 fn verify_files(
     alloc: Global,
     files: &[PathFile<'_>],

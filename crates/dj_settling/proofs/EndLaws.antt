@@ -7,10 +7,10 @@ use Rattle.std.proofs.lemmas.Bool.{cases_lt, eq-eqb, ne_eqb}
 use Rattle.std.proofs.lemmas.List.{length-append, length-map}
 use Rattle.dj_names.specs.declared.run.Charge.{Charge}
 use Rattle.dj_names.specs.declared.descriptor.Ty.{Ty}
-use Rattle.dj_names.specs.Types.{Name, class_type}
-use Rattle.dj_names.specs.Descriptors.{type_text}
-use Rattle.dj_model.specs.Program.{Program, Class}
-use Rattle.dj_model.specs.Linking.{member_class}
+use Rattle.dj_names.specs.trusted.Types.{Name, class_type}
+use Rattle.dj_names.specs.trusted.Descriptors.{type_text}
+use Rattle.dj_model.specs.trusted.Program.{Program, Class}
+use Rattle.dj_model.specs.trusted.Linking.{member_class}
 use Rattle.dj_calls.specs.Known.{IsClassType}
 use Rattle.dj_natives.specs.Numbered.{TellsStop, is_number}
 use Rattle.dj_classes.specs.Tables.{name_of, name_at}

@@ -3,12 +3,12 @@ use Rattle.std.proofs.Common.{◌≡◌, ◌+◌, ◌<◌, ◌^◌, ℕ, List, [
 use Rattle.std.specs.Option.{option_map}
 use Rattle.dj_names.specs.declared.run.Value.{Value}
 use Rattle.dj_names.specs.declared.descriptor.Ty.{Ty}
-use Rattle.dj_names.specs.Heaps.{class_of}
-use Rattle.dj_model.specs.Program.{Program}
-use Rattle.dj_model.specs.State.{State}
-use Rattle.dj_model.specs.Charging.{new_account}
-use Rattle.dj_model.specs.Runs.{empty_heap}
-use Rattle.dj_model.specs.Step.{Went}
+use Rattle.dj_names.specs.trusted.Heaps.{class_of}
+use Rattle.dj_model.specs.trusted.Program.{Program}
+use Rattle.dj_model.specs.trusted.State.{State}
+use Rattle.dj_model.specs.trusted.Charging.{new_account}
+use Rattle.dj_model.specs.trusted.Runs.{empty_heap}
+use Rattle.dj_model.specs.trusted.Step.{Went}
 use Rattle.dj_heap.specs.Heaps.{LimitedHeap, object_in}
 use Rattle.dj_stack.specs.Frames.{StackFrame}
 use Rattle.dj_types.specs.Typed.{types_of, type_at}

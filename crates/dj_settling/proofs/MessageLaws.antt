@@ -6,12 +6,13 @@ use Rattle.std.proofs.lemmas.Option.{slice_get-get_or}
 use Rattle.dj_names.specs.declared.descriptor.Ty.{Ty}
 use Rattle.dj_names.specs.declared.run.Message.TheVariants as messages
 use Rattle.dj_names.specs.declared.run.Element.{Element}
-use Rattle.dj_names.specs.Heaps.{Object, Instance, Array, Text, object_map, object_at}
+use Rattle.dj_names.specs.trusted.Heaps.{Object, Instance, Array, Text, object_at}
+use Rattle.dj_names.specs.Heaps.{object_map}
 use Rattle.dj_heap.specs.Heaps.{LimitedHeap, object_in, fields_of, units_of, field_in, unit_in}
 use Rattle.dj_heap.specs.Lengths.{object_length}
 use Rattle.dj_heap.specs.Calls.{made_as}
 use Rattle.dj_heap.specs.declared.object.Made.TheVariants as made
-use Rattle.dj_model.specs.Step.{text_in, message_of}
+use Rattle.dj_model.specs.trusted.Step.{text_in, message_of}
 use Rattle.dj_natives.specs.Numbered.{type_at}
 use Rattle.dj_calls.specs.Calls.{typed_heap}
 use Rattle.dj_calls.specs.Seen.{field_held, units_held, is_text_held, field_at, units_at, is_text_at}

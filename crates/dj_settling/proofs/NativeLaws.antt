@@ -4,11 +4,12 @@ use Rattle.std.specs.Prelude.{Result, Ok, Err, IfOk}
 use Rattle.std.specs.Option.{option_map}
 use Rattle.std.proofs.lemmas.Bool.{false≢true, and_parts}
 use Rattle.dj_names.specs.declared.descriptor.Ty.{Ty}
-use Rattle.dj_names.specs.Heaps.{Object, class_of, object_map}
-use Rattle.dj_names.specs.Types.{class_type, same_of}
-use Rattle.dj_names.specs.Library.{stop_class}
-use Rattle.dj_model.specs.Types.{Prefix, is_stop}
-use Rattle.dj_model.specs.Performing.{class_at_number, class_in}
+use Rattle.dj_names.specs.trusted.Heaps.{Object, class_of}
+use Rattle.dj_names.specs.Heaps.{object_map}
+use Rattle.dj_names.specs.trusted.Types.{class_type, same_of}
+use Rattle.dj_names.specs.trusted.Library.{stop_class}
+use Rattle.dj_model.specs.trusted.Types.{Prefix, is_stop}
+use Rattle.dj_model.specs.trusted.Performing.{class_at_number, class_in}
 use Rattle.dj_model.proofs.MappedHeaps.{class_of_mapped}
 use Rattle.dj_natives.specs.Numbered as numbered
 use Rattle.dj_names.specs.declared.run.Value.{Value}
@@ -16,8 +17,8 @@ use Rattle.dj_names.specs.declared.run.Charge.{Charge}
 use Rattle.dj_names.specs.declared.native.NativeId.{NativeId}
 use Rattle.dj_names.specs.declared.native.NativeId.TheVariants as natives
 use Rattle.dj_names.specs.declared.lists.NoMemory.{NoMemory}
-use Rattle.dj_model.specs.State.{Flow, Catch, Stop}
-use Rattle.dj_model.specs.Natives.{reference}
+use Rattle.dj_model.specs.trusted.State.{Flow, Catch, Stop}
+use Rattle.dj_model.specs.trusted.Natives.{reference}
 use Rattle.dj_heap.specs.Heaps.{LimitedHeap, object_in}
 use Rattle.dj_stack.specs.Frames.{StackFrame}
 use Rattle.dj_calls.specs.Calls.{stop_told, typed_heap}
@@ -172,7 +173,7 @@ by_object imaged exceeded h old new id args exception result some is e settles =
     by_flow imaged exceeded h h old new (Catch exception) (stop_told id args) result (ap Catch e ∙ sym (ap (λ (i : NativeId). stop_told i args) is))
     (as_caught imaged exceeded exception h old new result some settles)
 
--- ---- whether its number is told
+-- ---- whether its number is known
 
 pub told_before : (imaged : Imaged) (h : LimitedHeap) (stop : ℕ) (result : Result Settled NoMemory) → IfOk result (λ settled. KeepsStop imaged h stop stop)
 told_before imaged h stop (Err e) = tt

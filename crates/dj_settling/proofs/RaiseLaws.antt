@@ -7,14 +7,14 @@ use Rattle.std.proofs.lemmas.Option.{none-some}
 use Rattle.dj_names.specs.declared.run.Raised.{Raised}
 use Rattle.dj_names.specs.declared.run.Charge.{Charge}
 use Rattle.dj_names.specs.declared.descriptor.Ty.{Ty}
-use Rattle.dj_names.specs.Heaps.{Instance}
-use Rattle.dj_names.specs.Values.{raised_class}
-use Rattle.dj_names.specs.Types.{Name, same_name, class_type}
-use Rattle.dj_names.specs.Descriptors.{type_text}
-use Rattle.dj_model.specs.Types.{Prefix, raised_type}
-use Rattle.dj_model.specs.Program.{Program}
-use Rattle.dj_model.specs.State.{Terms, State}
-use Rattle.dj_model.specs.Step.{throw_new}
+use Rattle.dj_names.specs.trusted.Heaps.{Instance}
+use Rattle.dj_names.specs.trusted.Values.{raised_class}
+use Rattle.dj_names.specs.trusted.Types.{Name, same_name, class_type}
+use Rattle.dj_names.specs.trusted.Descriptors.{type_text}
+use Rattle.dj_model.specs.trusted.Types.{Prefix, raised_type}
+use Rattle.dj_model.specs.trusted.Program.{Program}
+use Rattle.dj_model.specs.trusted.State.{Terms, State}
+use Rattle.dj_model.specs.trusted.Step.{throw_new}
 use Rattle.dj_heap.specs.Heaps.{LimitedHeap}
 use Rattle.dj_stack.specs.Frames.{StackFrame}
 use Rattle.dj_classes.specs.Tables.{name_of, class_number}

@@ -1,12 +1,12 @@
--- What is told, and what follows an effect, by plain values.
+-- What is reported, and what follows an effect, by plain values.
 use Rattle.std.proofs.Common.{◌≡◌, [], ◌∷◌, Some, None, refl}
 use Rattle.dj_names.specs.declared.run.Message.TheVariants as messages
 use Rattle.dj_names.specs.declared.run.Outcome.TheVariants as outcomes
-use Rattle.dj_names.specs.Heaps.{Instance, Text}
-use Rattle.dj_model.specs.State.{State}
-use Rattle.dj_model.specs.Charging.{new_account}
-use Rattle.dj_model.specs.Step.{Went, Ended, IllFormed}
-use Rattle.dj_model.specs.Runs.{empty_heap}
+use Rattle.dj_names.specs.trusted.Heaps.{Instance, Text}
+use Rattle.dj_model.specs.trusted.State.{State}
+use Rattle.dj_model.specs.trusted.Charging.{new_account}
+use Rattle.dj_model.specs.trusted.Step.{Went, Ended, IllFormed}
+use Rattle.dj_model.specs.trusted.Runs.{empty_heap}
 use Rattle.dj_heap.specs.Heaps.{LimitedHeap}
 use Rattle.dj_image.specs.Imaged.{Imaged}
 use Rattle.dj_settling.specs.Told.{On, Over, Nowhere, told_of}
@@ -18,7 +18,7 @@ image = record { sources = []; prefix = []; arrays = []; texts = [] }
 abbrev state : State
 state = record { heap = empty_heap; statics = []; initialised = []; literals = []; frames = []; account = new_account; answers = [] }
 
--- ---- what is told
+-- ---- what is reported
 
 tells : (told_of (Went state) ≡ On state) × (told_of (Ended outcomes.OkNull state) ≡ Over outcomes.OkNull new_account []) × (told_of IllFormed ≡ Nowhere)
 tells = (refl, refl, refl)
@@ -40,6 +40,6 @@ init_is_no_throw e = absurd cc
 first_of_class : (stop_number_from 5 1 heap.heap.objects ≡ Some 2) × (stop_number_from 6 1 heap.heap.objects ≡ Some 3) × (stop_number_from 7 1 heap.heap.objects ≡ None)
 first_of_class = (refl, refl, refl)
 
--- 0 tells nothing
+-- of 0 nothing is required
 untold : IsStop image heap 0
 untold some = absurd (some refl)

@@ -9,11 +9,12 @@ use Rattle.std.proofs.lemmas.List.Elements.{All-head, All-tail}
 use Rattle.std.proofs.lemmas.Option.{none-some, same_Some}
 use Rattle.dj_names.specs.declared.run.Charge.{Charge}
 use Rattle.dj_names.specs.declared.descriptor.Ty.{Ty}
-use Rattle.dj_names.specs.Heaps.{Object, Instance, class_of, object_map}
-use Rattle.dj_names.specs.Types.{class_type}
-use Rattle.dj_names.specs.Library.{stop_class}
-use Rattle.dj_model.specs.Types.{Prefix, is_stop}
-use Rattle.dj_model.specs.Step.{stop_from, throw_new, throw_stop_or}
+use Rattle.dj_names.specs.trusted.Heaps.{Object, Instance, class_of}
+use Rattle.dj_names.specs.Heaps.{object_map}
+use Rattle.dj_names.specs.trusted.Types.{class_type}
+use Rattle.dj_names.specs.trusted.Library.{stop_class}
+use Rattle.dj_model.specs.trusted.Types.{Prefix, is_stop}
+use Rattle.dj_model.specs.trusted.Step.{stop_from, throw_new, throw_stop_or}
 use Rattle.dj_model.proofs.MappedHeaps.{class_of_mapped}
 use Rattle.dj_natives.specs.Numbered as numbered
 use Rattle.dj_natives.specs.Numbered.{TellsStop}

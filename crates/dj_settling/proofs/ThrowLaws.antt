@@ -9,14 +9,15 @@ use Rattle.dj_names.specs.declared.run.Message.{Message}
 use Rattle.dj_names.specs.declared.run.Outcome.{Outcome}
 use Rattle.dj_names.specs.declared.run.Outcome.TheVariants as outcomes
 use Rattle.dj_names.specs.declared.descriptor.Ty.{Ty}
-use Rattle.dj_names.specs.Types.{Name}
-use Rattle.dj_names.specs.Heaps.{Object, Instance, Heap, class_of, object_map, heap_map, object_size, instance_size, with_new, next_number}
-use Rattle.dj_model.specs.Types.{is_stop}
-use Rattle.dj_model.specs.Linking.{member_class}
-use Rattle.dj_model.specs.State.{Terms, State}
-use Rattle.dj_model.specs.Arrays.{passes_limit}
-use Rattle.dj_model.specs.Performing.{class_in, class_at_number}
-use Rattle.dj_model.specs.Step.{Answer, Ended, stopped_by, message_of, throw}
+use Rattle.dj_names.specs.trusted.Types.{Name}
+use Rattle.dj_names.specs.trusted.Heaps.{Object, Instance, Heap, class_of, object_size, instance_size, with_new, next_number}
+use Rattle.dj_names.specs.Heaps.{object_map, heap_map}
+use Rattle.dj_model.specs.trusted.Types.{is_stop}
+use Rattle.dj_model.specs.trusted.Linking.{member_class}
+use Rattle.dj_model.specs.trusted.State.{Terms, State}
+use Rattle.dj_model.specs.trusted.Arrays.{passes_limit}
+use Rattle.dj_model.specs.trusted.Performing.{class_in, class_at_number}
+use Rattle.dj_model.specs.trusted.Step.{Answer, Ended, stopped_by, message_of, throw}
 use Rattle.dj_model.proofs.MappedHeaps.{class_of_mapped, new_mapped, number_alike}
 use Rattle.dj_natives.specs.Numbered as numbered
 use Rattle.dj_heap.specs.Heaps.{LimitedHeap, object_in, Makes, Refuses}

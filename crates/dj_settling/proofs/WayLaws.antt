@@ -7,10 +7,10 @@ use Rattle.dj_names.specs.declared.run.Value.{Value}
 use Rattle.dj_names.specs.declared.run.Outcome.{Outcome}
 use Rattle.dj_names.specs.declared.descriptor.Ty.{Ty}
 use Rattle.dj_names.specs.Heaps.{heap_map}
-use Rattle.dj_model.specs.Types.{Declared, Prefix}
-use Rattle.dj_model.specs.Program.{Program}
-use Rattle.dj_model.specs.State.{Terms, State, Frame, Flow, Way, Next, To, Raise, Back, Goes, Catch, Stop, Call, End}
-use Rattle.dj_model.specs.Step.{settle, result_outcome}
+use Rattle.dj_model.specs.trusted.Types.{Declared, Prefix}
+use Rattle.dj_model.specs.trusted.Program.{Program}
+use Rattle.dj_model.specs.trusted.State.{Terms, State, Frame, Flow, Way, Next, To, Raise, Back, Goes, Catch, Stop, Call, End}
+use Rattle.dj_model.specs.trusted.Step.{settle, result_outcome}
 use Rattle.dj_natives.specs.Numbered as numbered
 use Rattle.dj_heap.specs.Heaps.{LimitedHeap}
 use Rattle.dj_stack.specs.Frames.{StackFrame, SameButNumber, SameButOperands, top_number, top_operands}

@@ -1,7 +1,7 @@
 -- How a run goes on without memory.
 use Rattle.std.specs.Prelude.{◌≡◌, ℕ, ◌+◌, ◌<◌, ◌^◌, List, ◌∷◌}
-use Rattle.dj_model.specs.State.{State}
-use Rattle.dj_model.specs.Step.{Went, throw}
+use Rattle.dj_model.specs.trusted.State.{State}
+use Rattle.dj_model.specs.trusted.Step.{Went, throw}
 use Rattle.dj_heap.specs.Heaps.{LimitedHeap}
 use Rattle.dj_stack.specs.Frames.{StackFrame, top_number}
 use Rattle.dj_effects.specs.declared.way.Way.{Way}

@@ -8,17 +8,17 @@ use Rattle.dj_names.specs.declared.run.Message.{Message}
 use Rattle.dj_names.specs.declared.run.Message.TheVariants as messages
 use Rattle.dj_names.specs.declared.run.Outcome.{Outcome}
 use Rattle.dj_names.specs.declared.run.Outcome.TheVariants as outcomes
-use Rattle.dj_names.specs.Heaps.{Object, Instance, Text, class_of}
-use Rattle.dj_names.specs.Values.{raised_class}
-use Rattle.dj_names.specs.Types.{Name}
-use Rattle.dj_names.specs.Library.{stop_class}
-use Rattle.dj_model.specs.Types.{Prefix, Declared, is_stop}
-use Rattle.dj_model.specs.Program.{Program}
-use Rattle.dj_model.specs.State.{Terms, Frame, State, Flow}
-use Rattle.dj_model.specs.Step.{Answer, IllFormed, stopped_by, throw, throw_new, new_exception, stop_from, throw_stop_or, settle}
+use Rattle.dj_names.specs.trusted.Heaps.{Object, Instance, Text, class_of}
+use Rattle.dj_names.specs.trusted.Values.{raised_class}
+use Rattle.dj_names.specs.trusted.Types.{Name}
+use Rattle.dj_names.specs.trusted.Library.{stop_class}
+use Rattle.dj_model.specs.trusted.Types.{Prefix, Declared, is_stop}
+use Rattle.dj_model.specs.trusted.Program.{Program}
+use Rattle.dj_model.specs.trusted.State.{Terms, Frame, State, Flow}
+use Rattle.dj_model.specs.trusted.Step.{Answer, IllFormed, stopped_by, throw, throw_new, new_exception, stop_from, throw_stop_or, settle}
 use Rattle.dj_names.specs.declared.native.NativeId.{NativeId}
 use Rattle.dj_names.specs.declared.native.NativeId.TheVariants as natives
-use Rattle.dj_model.specs.Natives.{reference}
+use Rattle.dj_model.specs.trusted.Natives.{reference}
 use Rattle.dj_heap.specs.Heaps.{LimitedHeap, object_in, Makes}
 use Rattle.dj_stack.specs.Frames.{StackFrame, top_operands, top_room}
 use Rattle.dj_effects.specs.declared.way.Way.{Way}
@@ -40,18 +40,18 @@ use Rattle.dj_settling.specs.declared.settled.Settled.{Settled}
 use Rattle.dj_settling.specs.declared.settled.Settled.TheVariants as settles
 use Rattle.dj_settling.specs.Told.{Told, On, Over, told_of}
 
--- ---- what is told
+-- ---- what is answered
 
 -- a state with this heap and these frames
 abbrev pub seen_in : Imaged → LimitedHeap → List StackFrame → State → State
 seen_in imaged heap frames s = record s { heap = typed_heap (types_of (typed_of imaged)) heap; frames = frames_seen (program_of imaged) frames }
 
--- the run goes on in this state, or it has ended so
+-- the run goes on in this state, or it has ended with this outcome
 abbrev pub settled_told : Settled → State → Told
 settled_told settles.Went s = On s
 settled_told (settles.Ended outcome) s = Over outcome s.account s.answers
 
--- what the model answers in each state with this heap and these frames, whose account tells this charge as exceeded, and on terms of the heap's limit
+-- what the model answers in each state with this heap and these frames, whose account has this charge as exceeded, and on terms of the heap's limit
 abbrev pub Answers : Imaged → Option Charge → (Terms → State → Answer) → LimitedHeap → LimitedHeap → List StackFrame → List StackFrame → Settled → Type 0
 Answers imaged exceeded answer before after old new result = (terms : Terms) (s : State) → terms.limit ≡ Some before.limit → s.account.exceeded ≡ exceeded
     → told_of (answer terms (seen_in imaged before old s)) ≡ settled_told result (seen_in imaged after new s)
@@ -93,7 +93,7 @@ left_outcome imaged heap class exception None = outcomes.Threw (class_name_at (p
 left_outcome imaged heap class exception (Some left) =
     outcomes.Init (class_name_at (program_of imaged) left) (class_name_at (program_of imaged) class) (message_at heap exception)
 
--- by the object that stops a run it ends as stopped
+-- where it is the object that stops a run, the run ends as stopped
 abbrev pub stopping : Imaged → Option Charge → ℕ → Option Charge
 stopping imaged exceeded class = if is_stop imaged.prefix (type_at (typed_of imaged) class) then exceeded else None
 
@@ -110,11 +110,11 @@ settled_by imaged heap exceeded class exception unwinds.Threw = settles.Ended (u
 abbrev pub throwing : Imaged → ℕ → Terms → State → Answer
 throwing imaged exception terms s = throw (program_of imaged) imaged.prefix s exception
 
--- an instance of the class of this number, with so many fields, is made and thrown
+-- an instance of the class of this number, with this many fields, is made and thrown
 abbrev pub throwing_new : Imaged → ℕ → ℕ → Terms → State → Answer
 throwing_new imaged class fields terms s = throw_new (program_of imaged) imaged.prefix terms s (Instance (type_at (typed_of imaged) class) (replicate fields 0))
 
--- the object was made, and its number is told; or nothing has changed
+-- the object was made, and its number is kept; or nothing has changed
 abbrev pub IsMade : LimitedHeap → LimitedHeap → Object ℕ → ℕ → ℕ → Type 0
 IsMade before after object old new = Makes before after object new ⊎ ((after ≡ before) × (new ≡ old))
 
@@ -155,7 +155,7 @@ throwing_stop imaged terms s = throw_stop_or (program_of imaged) imaged.prefix t
 abbrev pub stop_found : Imaged → LimitedHeap → Option ℕ
 stop_found imaged heap = stop_from imaged.prefix 1 (typed_heap (types_of (typed_of imaged)) heap).objects
 
--- where it is told it is the one that is found; 0 stands for none
+-- where a number is kept it is that of the object that is found; 0 means that none is
 abbrev pub IsStop : Imaged → LimitedHeap → ℕ → Type 0
 IsStop imaged heap stop = (stop ≡ 0 → ⊥) → stop_found imaged heap ≡ Some stop
 
@@ -173,18 +173,18 @@ native_settled program prefix given flow terms s = of_frames s.frames where
   of_frames [] = IllFormed
   of_frames (f ∷ below) = settle program prefix terms s (record f { operands = given ++ f.operands }) below flow
 
--- an array can't be thrown again, nor what is null; and only rewritten classes come to the object that stops a run
+-- only an object that isn't null and is no array is thrown again; and only rewritten classes have the object that stops a run
 abbrev pub StopsBy : Imaged → LimitedHeap → NativeId → List Value → Type 0
 StopsBy imaged heap natives.CheckCatch args = IsThrown imaged heap (reference 0 args)
 StopsBy imaged heap id args = IsRewritten imaged.prefix
 
--- what the machine has to know where a native method's answer is such
+-- what the machine has to know where a native method gives this answer
 abbrev pub IsExpected : Imaged → LimitedHeap → List StackFrame → NativeId → List Value → NativeAnswer → Type 0
 IsExpected imaged heap frames id args (natively.Gives v) = length (top_operands frames) < top_room frames
 IsExpected imaged heap frames id args natively.Stop = StopsBy imaged heap id args
 IsExpected imaged heap frames id args answer = ⊤
 
--- the object's number is told as before, or from now on
+-- the object's number is kept as before, or from now on
 abbrev pub KeepsStop : Imaged → LimitedHeap → ℕ → ℕ → Type 0
 KeepsStop imaged after old new = (new ≡ old) ⊎ IsStop imaged after new
 

@@ -1,15 +1,15 @@
--- What an answer of the model tells.
+-- What an answer of the model says.
 use Rattle.std.specs.Prelude.{List}
 use Rattle.dj_names.specs.declared.run.Outcome.{Outcome}
 use Rattle.dj_edge.specs.declared.host.HostAnswer.{HostAnswer}
-use Rattle.dj_model.specs.State.{State, Account}
-use Rattle.dj_model.specs.Step.{Answer, Went, Ended, IllFormed}
+use Rattle.dj_model.specs.trusted.State.{State, Account}
+use Rattle.dj_model.specs.trusted.Step.{Answer, Went, Ended, IllFormed}
 
--- what an answer of the model tells; of the state in which a run ended its account and the answers that are left
+-- what an answer of the model says; of the state in which a run ended, its account and the answers that are left
 pub data Told : Type 0 where
   On : State → Told
   Over : Outcome → Account → List HostAnswer → Told
-  -- there is no such step
+  -- no step can be made
   Nowhere : Told
 
 abbrev pub told_of : Answer → Told

@@ -1,6 +1,6 @@
 ghost use Rattle.std.specs.Prelude.{◌≡◌, ◌<◌, ◌+◌, ◌^◌, Option, length, IfErr, IfOk, OnOk};
 ghost use Rattle.dj_names.specs.declared.run.Charge as charges;
-ghost use Rattle.dj_model.specs.State as states;
+ghost use Rattle.dj_model.specs.trusted.State as states;
 ghost use Rattle.dj_model.specs.Sound.{IsSound};
 ghost use Rattle.dj_stack.specs.Frames.{SameButNumber, top_number};
 ghost use Rattle.dj_effects.specs.Does.{way_view};
@@ -21,7 +21,7 @@ use dj_names::{Charge, NoMemory};
 use dj_stack::Frames;
 use std::alloc::Global;
 
-/// The run goes on after the top frame's instruction, as its effect tells.
+/// The run goes on after the top frame's instruction, as its effect says.
 #[tactic(auto, using(crate::proofs::WayLaws::as_raised))]
 pub fn go(
     alloc: Global,
@@ -61,7 +61,7 @@ pub(crate) fn go_next(image: &Image, frames: &mut Frames, heap: &Heap) -> Result
     Ok(Settled::Went)
 }
 
-// At the instruction of this number, for which there is no memory past the greatest.
+// At the instruction of this number. There is no memory for a number past the greatest.
 #[tactic(auto, using(crate::proofs::WayLaws::went_to))]
 fn go_to(image: &Image, frames: &mut Frames, heap: &Heap, number: u64) -> Result<Settled, NoMemory>
     requires stand { AreActivations image.now frames.old }

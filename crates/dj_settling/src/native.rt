@@ -1,6 +1,6 @@
 ghost use Rattle.std.specs.Prelude.{◌≡◌, ◌<◌, ◌∷◌, [], Option, Some, length, IfOk};
 ghost use Rattle.dj_names.specs.declared.run.Charge as charges;
-ghost use Rattle.dj_model.specs.State.{Flow, Goes, Next};
+ghost use Rattle.dj_model.specs.trusted.State.{Flow, Goes, Next};
 ghost use Rattle.dj_model.specs.Sound.{IsSound};
 ghost use Rattle.dj_stack.specs.Frames.{top_operands, top_room};
 ghost use Rattle.dj_calls.specs.Calls.{flow_told, given, stop_told};

@@ -1,5 +1,5 @@
 ghost use Rattle.std.specs.Prelude.{◌≡◌, ◌++◌, true, is_some};
-ghost use Rattle.dj_names.specs.Values.{raised_class};
+ghost use Rattle.dj_names.specs.trusted.Values.{raised_class};
 ghost use Rattle.dj_names.specs.declared.run.Raised.{Raised};
 ghost use Rattle.dj_classes.specs.Tables.{class_number};
 ghost use Rattle.dj_image.specs.Imaged.{program_of};
@@ -17,7 +17,7 @@ pub fn has_own(image: &Image) -> bool
     has_raised(image) && has_stop(image)
 }
 
-// Whether those of the exceptions are.
+// Whether the classes of the exceptions are there.
 #[tactic(auto, using(crate::proofs::OwnLaws::all_raised))]
 fn has_raised(image: &Image) -> bool
     ensures { result ≡ true → (raised : Raised) → HasClass (program_of image.now) (image.now.prefix ++ raised_class raised) }
@@ -31,7 +31,7 @@ fn has_raised(image: &Image) -> bool
         && has(image, Raised::StringIndexOutOfBounds)
 }
 
-// Whether that of the exception is.
+// Whether the class of the exception is there.
 #[tactic(auto, using(crate::proofs::OwnLaws::raised_there))]
 fn has(image: &Image, raised: Raised) -> bool
     ensures { result ≡ true → HasClass (program_of image.now) (image.now.prefix ++ raised_class raised) }
@@ -39,7 +39,7 @@ fn has(image: &Image, raised: Raised) -> bool
     has_class(image, name_in(image, raised))
 }
 
-// Whether that of the object that stops a run is, where classes are rewritten.
+// Whether the class of the object that stops a run is there, where classes are rewritten.
 #[tactic(auto, using(crate::proofs::OwnLaws::no_stop, crate::proofs::OwnLaws::stop_there))]
 fn has_stop(image: &Image) -> bool
     ensures { result ≡ true → HasStop image.now.prefix (program_of image.now) }

@@ -1,6 +1,6 @@
 ghost use Rattle.std.specs.Prelude.{◌≡◌, ◌++◌, IfOk};
-ghost use Rattle.dj_names.specs.Values.{raised_class};
-ghost use Rattle.dj_model.specs.Types.{raised_type};
+ghost use Rattle.dj_names.specs.trusted.Values.{raised_class};
+ghost use Rattle.dj_model.specs.trusted.Types.{raised_type};
 ghost use Rattle.dj_model.specs.Sound.{IsSound};
 ghost use Rattle.dj_calls.specs.Known.{AreKnown};
 ghost use Rattle.dj_types.specs.Typed.{types_of};

@@ -1,6 +1,6 @@
 ghost use Rattle.std.specs.Prelude.{◌<◌, length, Option, IfErr, IfOk};
 ghost use Rattle.dj_names.specs.declared.run.Charge.{Charge};
-ghost use Rattle.dj_model.specs.State.{Goes, Back};
+ghost use Rattle.dj_model.specs.trusted.State.{Goes, Back};
 ghost use Rattle.dj_calls.specs.Known.{AreKnown};
 ghost use Rattle.dj_types.specs.Typed.{types_of};
 ghost use Rattle.dj_image.specs.Imaged.{program_of, typed_of};

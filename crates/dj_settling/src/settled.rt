@@ -5,6 +5,6 @@ use dj_names::Outcome;
 pub enum Settled {
     /// With the top frame's instruction.
     Went,
-    /// Not at all.
+    /// The run has ended.
     Ended(Outcome),
 }

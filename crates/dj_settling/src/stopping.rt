@@ -14,8 +14,8 @@ use dj_names::{Charge, NoMemory};
 use dj_stack::Frames;
 use std::alloc::Global;
 
-/// The object that stops a run is thrown. Its number is told, and 0 where it wasn't needed before: then the first one of the heap is taken, or one is
-/// made, and from there on told.
+/// Throws the object that stops a run. It has the given number; where that is 0, as it wasn't needed before, the first one of the heap is taken, or one is
+/// made, and its number is kept.
 #[tactic(auto, using(crate::proofs::StopLaws::found_is))]
 pub fn throw_stop(
     alloc: Global,
@@ -44,7 +44,7 @@ pub fn throw_stop(
     }
 }
 
-// It is thrown, where it is there.
+// Throws the object, where there is one.
 #[tactic(auto, using(crate::proofs::StopLaws::found_thrown, crate::proofs::StopLaws::found_threw))]
 fn throw_found(
     alloc: Global,
@@ -66,7 +66,7 @@ fn throw_found(
     throw(alloc, image, frames, heap, exceeded, found)
 }
 
-// It is made and thrown, where it isn't there, and from there on told.
+// Makes and throws the object, where there is none, and keeps its number.
 #[tactic(auto, using(crate::proofs::StopLaws::made_threw, crate::proofs::StopLaws::made_is, crate::proofs::StopLaws::class_is))]
 fn make_stop(
     alloc: Global,
@@ -103,7 +103,7 @@ fn stop_class(image: &Image) -> u32
     }
 }
 
-// The object of this number, where it is told, and else the first one of the class.
+// The object of this number, where it is kept, and else the first one of the class.
 #[tactic(auto, using(crate::proofs::StopLaws::told_is, crate::proofs::StopLaws::by_number))]
 fn find(image: &Image, heap: &Heap, class: u32, stop: u32) -> Option<u32>
     requires known { AreKnown (types_of (typed_of image.now)) heap.now }

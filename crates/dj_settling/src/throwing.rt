@@ -1,5 +1,5 @@
 ghost use Rattle.std.specs.Prelude.{◌≡◌, ◌<◌, IfErr, IfOk, IfSome, IsSome, length, replicate};
-ghost use Rattle.dj_names.specs.Heaps.{Instance};
+ghost use Rattle.dj_names.specs.trusted.Heaps.{Instance};
 ghost use Rattle.dj_model.specs.Sound.{IsSound};
 ghost use Rattle.dj_calls.specs.Known.{AreKnown};
 ghost use Rattle.dj_types.specs.Typed.{types_of};
@@ -20,7 +20,7 @@ use dj_stack::Frames;
 use dj_unwinding::{Unwound, unwind};
 use std::alloc::Global;
 
-/// An object is thrown: the exception goes up the frames to the first handler, or the run ends. The charge is the one that has passed its threshold,
+/// Throws an object: the exception leaves frames up to the first with a handler, or the run ends. The charge is the one that has passed its threshold,
 /// where one has.
 #[tactic(auto, using(crate::proofs::ThrowLaws::threw_caught, crate::proofs::ThrowLaws::threw_out, crate::proofs::ThrowLaws::threw_last, crate::proofs::ThrowLaws::plain_class, crate::proofs::ThrowLaws::class_is, crate::proofs::ThrowLaws::is_there))]
 pub fn throw(
@@ -66,7 +66,7 @@ fn end(
     Ok(Settled::Ended(outcome))
 }
 
-/// An instance of a class, with so many fields, is made and thrown.
+/// An instance of a class, with this many fields, is made and thrown.
 pub fn throw_new(
     alloc: Global,
     image: &Image,
@@ -88,7 +88,7 @@ pub fn throw_new(
     )
 }
 
-// The same, and its number is told.
+// The same, and its number is kept.
 #[tactic(auto, using(crate::proofs::ThrowLaws::made_and_threw, crate::proofs::ThrowLaws::made_thrown, crate::proofs::ThrowLaws::made_known, crate::proofs::ThrowLaws::made_full, crate::proofs::ThrowLaws::was_made, crate::proofs::ThrowLaws::none_made))]
 pub(crate) fn make_and_throw(
     alloc: Global,

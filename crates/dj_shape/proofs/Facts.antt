@@ -4,19 +4,19 @@ use Rattle.std.specs.Option.{option_map}
 use Rattle.std.proofs.lemmas.Option.{same_Some}
 use Rattle.dj_names.specs.declared.descriptor.Kind.{Kind}
 use Rattle.dj_names.specs.declared.descriptor.Kind.TheVariants.{Int, Long, Ref}
-use Rattle.dj_names.specs.DescReading.{dims_read, name_read, class_read, of_read, type_read, params_read, field_read, return_read, method_read, desc_read}
-use Rattle.dj_names.specs.NameReading.{reads_class_name}
+use Rattle.dj_names.specs.trusted.DescReading.{dims_read, name_read, class_read, of_read, type_read, params_read, field_read, return_read, method_read, desc_read}
+use Rattle.dj_names.specs.trusted.NameReading.{reads_class_name}
 use Rattle.dj_ops.specs.declared.frames.Form.TheVariants as forms
 use Rattle.dj_ops.specs.declared.instruction.Instr.{Instr}
 use Rattle.dj_ops.specs.declared.instruction.Instr.TheVariants as instrs
-use Rattle.dj_pool.specs.Pool.{Constant, Utf8, Integer, Float, Long as LongConstant, Double, Class, Text, Field, Method, InterfaceMethod, NameAndType, Hole}
-use Rattle.dj_model.specs.Kinds.{Signature, Kinds, Entries, Placed, Map, Read, form_entries, frames_after}
-use Rattle.dj_model.specs.Opcodes.{instruction_of, simple}
-use Rattle.dj_model.specs.Program.{Code}
-use Rattle.dj_model.specs.Shape.{after}
-use Rattle.dj_model.specs.Values.{moved}
-use Rattle.dj_declared.specs.Files.{desc_in}
-use Rattle.dj_program.specs.Naming.{named_by, instruction_in}
+use Rattle.dj_pool.specs.trusted.Pool.{Constant, Utf8, Integer, Float, Long as LongConstant, Double, Class, Text, Field, Method, InterfaceMethod, NameAndType, Hole}
+use Rattle.dj_model.specs.trusted.Kinds.{Signature, Kinds, Entries, Placed, Map, Read, form_entries, frames_after}
+use Rattle.dj_model.specs.trusted.Opcodes.{instruction_of, simple}
+use Rattle.dj_model.specs.trusted.Program.{Code}
+use Rattle.dj_model.specs.trusted.Shape.{after}
+use Rattle.dj_model.specs.trusted.Values.{moved}
+use Rattle.dj_declared.specs.trusted.Files.{desc_in}
+use Rattle.dj_program.specs.trusted.Naming.{named_by, instruction_in}
 use Rattle.dj_shape.specs.Keeping.{text_kind, text_call, all_kinds, all_calls}
 use Rattle.dj_shape.specs.declared.pool.ConstantKind.TheVariants as constants
 
@@ -97,7 +97,7 @@ ref_and_long = Some Ref ∷ Some Long ∷ []
 abbrev locals_told : Entries → List (Option Kind)
 locals_told e = e.locals
 
--- the local variables that a frame tells which cuts so many of them
+-- the local variables that a frame declares which cuts this many of them
 abbrev chopped : List (Option Kind) → ℕ → Option (List (Option Kind))
 chopped before n = option_map locals_told (form_entries (room_for 4) before (forms.Chop n))
 

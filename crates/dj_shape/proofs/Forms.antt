@@ -1,4 +1,4 @@
--- What is told of instructions by their forms, whatever their indexes name.
+-- What is known of instructions by their forms, whatever their indexes name.
 use Rattle.std.proofs.Common.{◌≡◌, ℕ, zero, suc, ◌-◌, ◌<◌, ◌≤◌, Bool, true, false, ◌&&◌, ℤ, pos, List, [], ◌∷◌, map, Option, Some, None, All, Contains, slice_get, get_or, nat_eq, nat_lt, nat_le, unsigned_abs, Decides, refl, sym, ap, subst, ◌∙◌, inl, inr, arith}
 use Rattle.std.specs.Prelude.{⊤, ◌+ℤ◌}
 use Rattle.std.proofs.lemmas.Bool.Decides.{nat_tests}
@@ -8,17 +8,17 @@ use Rattle.dj_names.specs.declared.descriptor.Kind.TheVariants as kinds
 use Rattle.dj_names.specs.declared.descriptor.Base.{Base}
 use Rattle.dj_names.specs.declared.run.Element.{Element}
 use Rattle.dj_names.specs.declared.run.Value.TheVariants as values
-use Rattle.dj_names.specs.Types.{field_kind, base_array}
+use Rattle.dj_names.specs.trusted.Types.{field_kind, base_array}
 use Rattle.dj_ops.specs.declared.instruction.Instr.{Instr}
 use Rattle.dj_ops.specs.declared.instruction.Instr.TheVariants as instrs
-use Rattle.dj_pool.specs.Pool.{Constant}
-use Rattle.dj_model.specs.Types.{Member}
-use Rattle.dj_model.specs.Instructions.{Named, Nothing, AnInt, ALong, AText, AClass, AField, AMethod, AnInterfaceMethod, Instruction, Push, PushText, NewArray, Other, ends, targets}
-use Rattle.dj_model.specs.Opcodes.{Row, row_does, simple, constant_rows, store_rows, stack_rows, number_rows, bit_rows, last_rows, operand_does, local_rows, jump_rows, literal, member, member_does, field_rows, method_rows, interface_method_rows, interface_call, class_use, new_array, array_rows, table_pairs, lookup_pairs, instruction_of}
-use Rattle.dj_model.specs.Kinds.{Kinds}
+use Rattle.dj_pool.specs.trusted.Pool.{Constant}
+use Rattle.dj_model.specs.trusted.Types.{Member}
+use Rattle.dj_model.specs.trusted.Instructions.{Named, Nothing, AnInt, ALong, AText, AClass, AField, AMethod, AnInterfaceMethod, Instruction, Push, PushText, NewArray, Other, ends, targets}
+use Rattle.dj_model.specs.trusted.Opcodes.{Row, row_does, simple, constant_rows, store_rows, stack_rows, number_rows, bit_rows, last_rows, operand_does, local_rows, jump_rows, literal, member, member_does, field_rows, method_rows, interface_method_rows, interface_call, class_use, new_array, array_rows, table_pairs, lookup_pairs, instruction_of}
+use Rattle.dj_model.specs.trusted.Kinds.{Kinds}
 use Rattle.dj_model.proofs.MappedNames.{either}
 use Rattle.dj_model.proofs.Flows.{either_way}
-use Rattle.dj_program.specs.Naming.{instruction_in, named_at}
+use Rattle.dj_program.specs.trusted.Naming.{instruction_in, named_at}
 use Rattle.dj_shape.specs.Told.{ToldFrames, told_at}
 use Rattle.dj_shape.specs.Flows.{FlowsToFrame}
 use Rattle.dj_shape.specs.Forms.{StoresAt, form_ends, FormFlows}

@@ -5,10 +5,10 @@ use Rattle.std.specs.Option.{option_and_then}
 use Rattle.dj_names.specs.declared.descriptor.Kind.{Kind}
 use Rattle.dj_ops.specs.declared.frames.Form.{Form}
 use Rattle.dj_ops.specs.declared.frames.Frame.{Frame}
-use Rattle.dj_model.specs.Linking.{or_else}
-use Rattle.dj_model.specs.Program.{Code}
-use Rattle.dj_model.specs.Initialisation.{padded}
-use Rattle.dj_model.specs.Kinds.{Kinds, Entries, depth, entry_slots, stack_of, form_entries, fitting, with_fitting, with_frame, frames_after, Placed, Map, Read, Faulty, and_then, placed_at}
+use Rattle.dj_model.specs.trusted.Linking.{or_else}
+use Rattle.dj_model.specs.trusted.Program.{Code}
+use Rattle.dj_model.specs.trusted.Initialisation.{padded}
+use Rattle.dj_model.specs.trusted.Kinds.{Kinds, Entries, depth, entry_slots, stack_of, form_entries, fitting, with_fitting, with_frame, frames_after, Placed, Map, Read, Faulty, and_then, placed_at}
 use Rattle.dj_shape.specs.Told.{Told, ToldFrames, told_at, told_kinds, IsToldAs, AreTold, IsKept}
 use Rattle.dj_shape.specs.Reading.{ChangesTo, fits_of, TellsSome, with_all}
 
@@ -18,7 +18,7 @@ pub none_read : (code : Code) (e : Option Entries) → option_and_then (λ (x : 
 none_read code None n = refl
 none_read code (Some x) n = ap (λ (s : Option (List Kind)). fitting code x.locals s) n
 
--- whether what it tells fits
+-- whether what it declares fits
 fit_by : (code : Code) (locals : List (Option Kind)) (stack : List Kind) → length (entry_slots locals) ≤ code.max_locals → depth stack ≤ code.max_stack
     → fitting code locals (Some stack) ≡ Some (record { locals = padded code.max_locals (entry_slots locals); stack = reverse stack })
 fit_by code locals stack few low =

@@ -5,8 +5,8 @@ use Rattle.std.proofs.lemmas.Bool.{cases_lt}
 use Rattle.std.proofs.lemmas.Option.{slice_get_within, get_or_from_slice_get, slice_get_read}
 use Rattle.dj_names.specs.declared.descriptor.Kind.{Kind}
 use Rattle.dj_labels.specs.declared.labelled.Protected.{Protected}
-use Rattle.dj_model.specs.Initialisation.{padded}
-use Rattle.dj_model.specs.Values.{local_at}
+use Rattle.dj_model.specs.trusted.Initialisation.{padded}
+use Rattle.dj_model.specs.trusted.Values.{local_at}
 use Rattle.dj_shape.specs.declared.needs.Need.{Need}
 use Rattle.dj_shape.specs.declared.needs.Changed.{Changed}
 use Rattle.dj_shape.specs.declared.handlers.Handlers.{Handlers}

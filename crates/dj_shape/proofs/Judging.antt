@@ -10,19 +10,20 @@ use Rattle.dj_ops.specs.declared.frames.VType.TheVariants as types
 use Rattle.dj_ops.specs.declared.frames.Form.{Form}
 use Rattle.dj_ops.specs.declared.frames.Form.TheVariants as forms
 use Rattle.dj_ops.specs.declared.frames.Frame.{Frame}
-use Rattle.dj_model.specs.Instructions.{Instruction, makes_uninitialised}
-use Rattle.dj_model.specs.Program.{Code}
-use Rattle.dj_model.specs.Numbers.{is_wide}
-use Rattle.dj_model.specs.Initialisation.{padded}
-use Rattle.dj_model.specs.Values.{in_slots}
-use Rattle.dj_model.specs.Kinds.{Signature, with_receiver, Kinds, Entry, Entries, entry_slots, entry_of, made_by, entries_of, with_entry, with_locals, with_stack, full_entries, form_entries, with_frame, with_fitting, fitting, stack_of, frames_after, frames_in, map_of, parameter_entries, Map, Read, Faulty, Placed}
-use Rattle.dj_model.specs.Shape.{first_kinds, ParametersFit, AllHold, IsFrameOrFault}
+use Rattle.dj_model.specs.trusted.Instructions.{Instruction, makes_uninitialised}
+use Rattle.dj_model.specs.trusted.Program.{Code}
+use Rattle.dj_model.specs.trusted.Numbers.{is_wide}
+use Rattle.dj_model.specs.trusted.Initialisation.{padded}
+use Rattle.dj_model.specs.trusted.Values.{in_slots}
+use Rattle.dj_model.specs.trusted.Kinds.{Signature, with_receiver, Kinds, Entry, Entries, entry_slots, entry_of, made_by, entries_of, with_entry, with_locals, with_stack, full_entries, form_entries, with_frame, with_fitting, fitting, stack_of, frames_after, frames_in, map_of, parameter_entries, Map, Read, Faulty, Placed}
+use Rattle.dj_model.specs.trusted.Shape.{first_kinds, ParametersFit, IsFrameOrFault}
+use Rattle.dj_model.specs.Shape.{AllHold}
 use Rattle.dj_shape.specs.Standing.{Standing, HasRoomOf, standing_in}
 use Rattle.dj_ops.specs.declared.instruction.Instr.{Instr}
-use Rattle.dj_pool.specs.Pool.{Constant}
+use Rattle.dj_pool.specs.trusted.Pool.{Constant}
 use Rattle.dj_program.specs.declared.code.MethodCode.{MethodCode}
-use Rattle.dj_program.specs.Naming.{instruction_in}
-use Rattle.dj_program.specs.Codes.{code_in, range_in}
+use Rattle.dj_program.specs.trusted.Naming.{instruction_in}
+use Rattle.dj_program.specs.trusted.Codes.{code_in, range_in}
 use Rattle.dj_program.specs.Views.{parts_of}
 use Rattle.dj_shape.specs.Kept.{KeptKinds}
 use Rattle.dj_shape.specs.Pools.{ArePoolKinds}
@@ -32,7 +33,7 @@ use Rattle.dj_shape.specs.Passing.{Case, IsFirst}
 use Rattle.dj_shape.specs.Judging.{IsFaultOf, IsJudged, fault_told}
 use Rattle.dj_shape.specs.Rule.{IsShapeAnswer}
 
--- ---- frames tell of the code whether its instructions make objects, and its room
+-- ---- what frames depend on in the code: whether its instructions make objects, and its room
 
 module _ (code : Code) (made : List Bool) (are : made ≡ map makes_uninitialised code.instructions) where
   abbrev own : Code
@@ -221,7 +222,7 @@ pub none_so : {A : Type 0} (x : Option A) → x ≡ None → IsNone x
 none_so None e = refl
 none_so (Some x) e = absurd cc
 
--- what is told of code with a stack map
+-- what is reported of code with a stack map
 pub answer_of : (signature : Signature) (code : Code) (fault : Option ℕ) → IsFaultOf signature code fault → IsShapeAnswer signature code (fault_told fault)
 answer_of signature code None has = has
 answer_of signature code (Some number) fault = fault

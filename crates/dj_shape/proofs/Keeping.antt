@@ -8,18 +8,18 @@ use Rattle.dj_names.specs.declared.descriptor.Of.{Of}
 use Rattle.dj_names.specs.declared.descriptor.Of.TheVariants as ofs
 use Rattle.dj_names.specs.declared.descriptor.Desc.{Desc}
 use Rattle.dj_names.specs.declared.descriptor.Desc.TheVariants as descs
-use Rattle.dj_names.specs.Descriptors.{Describes, IsFieldDescriptor, type_kind, type_text}
+use Rattle.dj_names.specs.trusted.Descriptors.{Describes, IsFieldDescriptor, type_kind, type_text}
 use Rattle.dj_names.specs.declared.descriptor.Ty.{Ty}
-use Rattle.dj_names.specs.DescReading.{desc_read, field_read, opens}
-use Rattle.dj_names.specs.Types.{field_kind}
+use Rattle.dj_names.specs.trusted.DescReading.{desc_read, field_read, opens}
+use Rattle.dj_names.specs.trusted.Types.{field_kind}
 use Rattle.dj_names.proofs.DescLaws.{desc_again, desc_takes}
 use Rattle.dj_pool.specs.declared.pool.Entry.{Entry}
-use Rattle.dj_pool.specs.Pool.{Constant}
+use Rattle.dj_pool.specs.trusted.Pool.{Constant}
 use Rattle.dj_pool.specs.Views.{constant_of}
-use Rattle.dj_model.specs.Kinds.{Signature}
-use Rattle.dj_model.specs.Members.{with_kind}
-use Rattle.dj_model.specs.Types.{no_parameters}
-use Rattle.dj_declared.specs.Files.{desc_in}
+use Rattle.dj_model.specs.trusted.Kinds.{Signature}
+use Rattle.dj_model.specs.trusted.Members.{with_kind}
+use Rattle.dj_model.specs.trusted.Types.{no_parameters}
+use Rattle.dj_declared.specs.trusted.Files.{desc_in}
 use Rattle.dj_shape.specs.Keeping.{text_kind, text_call, kind_by, call_by}
 use Rattle.dj_shape.specs.declared.pool.ConstantKind.{ConstantKind}
 use Rattle.dj_shape.specs.declared.pool.ConstantKind.TheVariants as constants
@@ -46,7 +46,7 @@ pub desc_in_is : (text : List ℕ) (desc : Desc) → Describes text desc → des
 unfolding desc_in
 desc_in_is text desc d = ap (λ (o : Option Desc). unwrap_or o no_parameters) (desc_again text desc d)
 
--- the first byte tells the kind
+-- the first byte decides the kind
 kind_at : (dims : ℕ) (of : Of) → text_kind (type_text (record { dims = dims; of = of })) ≡ type_kind (record { dims = dims; of = of })
 kind_at zero (ofs.Base bases.Boolean) = refl
 kind_at zero (ofs.Base bases.Byte) = refl

@@ -19,3 +19,4 @@ pub mod Places
 pub mod Keeping
 pub mod Linked
 pub mod Facts
+mod SignatureFacts

@@ -1,4 +1,4 @@
--- What is kept of the constants of a valid pool tells what shape asks of them.
+-- What is kept of the constants of a valid pool answers what shape asks of them.
 use Rattle.std.proofs.Common.{◌≡◌, ℕ, zero, suc, Bool, true, false, cond, List, [], ◌∷◌, map, get_or, Option, Some, None, IsSomeAnd, slice_get, option_and_then, unwrap_or, refl, sym, ap, subst, ◌∙◌, inl, inr}
 use Rattle.std.specs.Prelude.{⊤}
 use Rattle.std.specs.List.{AllByRecursion}
@@ -8,16 +8,16 @@ use Rattle.dj_names.specs.declared.descriptor.Of.{Of}
 use Rattle.dj_names.specs.declared.descriptor.Of.TheVariants as ofs
 use Rattle.dj_names.specs.declared.descriptor.Desc.{Desc}
 use Rattle.dj_names.specs.declared.descriptor.Desc.TheVariants as descs
-use Rattle.dj_names.specs.Descriptors.{Describes, IsFieldDescriptor, IsMethodDescriptor, type_text, desc_text}
-use Rattle.dj_names.specs.Types.{field_kind}
+use Rattle.dj_names.specs.trusted.Descriptors.{Describes, IsFieldDescriptor, IsMethodDescriptor, type_text, desc_text}
+use Rattle.dj_names.specs.trusted.Types.{field_kind}
 use Rattle.dj_names.proofs.DescLaws.{desc_again}
-use Rattle.dj_pool.specs.Pool.{Constant, Utf8, Integer, Float, Long, Double, Class, Text, Field, Method, InterfaceMethod, NameAndType, Hole, takes_two, indexed, constant_at, text_of, text_at, class_text_of, class_name_at, names_of, name_and_type_at, desc_at, both, NamesAnyClass, NamesDesc, AreNames, IsLinked, IsConstant, IsPool}
-use Rattle.dj_model.specs.Types.{Member}
-use Rattle.dj_model.specs.Instructions.{Named, AField, AMethod, AnInterfaceMethod}
-use Rattle.dj_model.specs.Kinds.{Signature, call_signature}
-use Rattle.dj_declared.specs.Files.{desc_in, name_in}
+use Rattle.dj_pool.specs.trusted.Pool.{Constant, Utf8, Integer, Float, Long, Double, Class, Text, Field, Method, InterfaceMethod, NameAndType, Hole, takes_two, indexed, constant_at, text_of, text_at, class_text_of, class_name_at, names_of, name_and_type_at, desc_at, both, NamesAnyClass, NamesDesc, AreNames, IsLinked, IsConstant, IsPool}
+use Rattle.dj_model.specs.trusted.Types.{Member}
+use Rattle.dj_model.specs.trusted.Instructions.{Named, AField, AMethod, AnInterfaceMethod}
+use Rattle.dj_model.specs.trusted.Kinds.{Signature, call_signature}
+use Rattle.dj_declared.specs.trusted.Files.{desc_in, name_in}
 use Rattle.dj_declared.specs.Members.{IsDescriptor}
-use Rattle.dj_program.specs.Naming.{member_from, member_in, named_or_another, named_by, named_at}
+use Rattle.dj_program.specs.trusted.Naming.{member_from, member_in, named_or_another, named_by, named_at}
 use Rattle.dj_shape.specs.Kept.{KeptKinds}
 use Rattle.dj_shape.specs.Keeping.{text_kind, field_kept, method_kept, interface_method_kept, desc_index_at, kind_by, call_by, all_kinds, all_calls}
 use Rattle.dj_shape.specs.Pools.{call_at, TellsKind, ArePoolKinds}

@@ -3,7 +3,7 @@ use Rattle.std.proofs.Common.{◌≡◌, ℕ, zero, suc, ◌+◌, ◌<◌, ◌�
 use Rattle.std.proofs.lemmas.Bool.{cases_lt}
 use Rattle.std.proofs.lemmas.List.{get_or_past}
 use Rattle.dj_names.specs.declared.descriptor.Kind.{Kind}
-use Rattle.dj_model.specs.Values.{local_at}
+use Rattle.dj_model.specs.trusted.Values.{local_at}
 use Rattle.dj_shape.specs.declared.needs.Need.{Need}
 use Rattle.dj_shape.specs.declared.needs.Changed.{Changed}
 use Rattle.dj_shape.specs.declared.needs.Changed.TheVariants as changes
@@ -26,7 +26,7 @@ length_more (y ∷ needs) x = let e = length_more needs x in omega arith
 
 -- ---- the local variables of a frame, from the last on
 
--- with one local variable more, whose kind is told or isn't
+-- with one local variable more, whose kind is known or isn't
 module _ (told rest new done : List (Option Kind)) (x : Option Kind) (end : ℕ) (old needs more : List Need) (split : told ≡ rest ++ done) (last : rest ≡ new ++ x ∷ []) (here : need_at more (length new) ≡ raised x end (need_at needs (length new))) (others : (slot : ℕ) → (slot ≡ length new → ⊥) → need_at more slot ≡ need_at needs slot) where
   pub raised_above : ((slot : ℕ) → length rest ≤ slot → need_at needs slot ≡ raised (local_at told slot) end (need_at old slot))
       → ((slot : ℕ) → slot < length rest → need_at needs slot ≡ need_at old slot)

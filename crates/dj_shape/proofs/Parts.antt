@@ -1,4 +1,4 @@
--- What an instruction has to meet, part by part: as the model tells it, and as it is told of what is kept.
+-- What an instruction has to meet, part by part: by the model, and by what is kept.
 use Rattle.std.proofs.Common.{◌≡◌, ℕ, zero, suc, ◌<◌, ◌≤◌, Bool, true, false, not, ◌&&◌, ◌||◌, IsTrue, List, [], ◌∷◌, map, reverse, Option, Some, None, Contains, slice_get, nat_eq, nat_lt, nat_le, refl, sym, ap, subst, ◌∙◌, inl, inr, arith}
 use Rattle.std.specs.List.{list_all}
 use Rattle.std.specs.Cmp.Lexicographic.{pointwise}
@@ -7,14 +7,14 @@ use Rattle.std.proofs.lemmas.Option.{slice_get_within, get_or_from_slice_get, sl
 use Rattle.dj_names.specs.declared.descriptor.Kind.{Kind}
 use Rattle.dj_names.specs.declared.descriptor.Kind.TheVariants as kinds
 use Rattle.dj_labels.specs.declared.labelled.Protected.{Protected}
-use Rattle.dj_pool.specs.Pool.{Constant}
-use Rattle.dj_program.specs.Codes.{range_in}
-use Rattle.dj_model.specs.Program.{Range}
-use Rattle.dj_model.specs.Numbers.{same_kind}
-use Rattle.dj_model.specs.Values.{local_at}
-use Rattle.dj_model.specs.Initialisation.{padded}
-use Rattle.dj_model.specs.Kinds.{Kinds, Placed, placed_at}
-use Rattle.dj_model.specs.Shape.{flows_to, flows_to_frame, locals_flow_to, is_handler_frame, covers}
+use Rattle.dj_pool.specs.trusted.Pool.{Constant}
+use Rattle.dj_program.specs.trusted.Codes.{range_in}
+use Rattle.dj_model.specs.trusted.Program.{Range}
+use Rattle.dj_model.specs.trusted.Numbers.{same_kind}
+use Rattle.dj_model.specs.trusted.Values.{local_at}
+use Rattle.dj_model.specs.trusted.Initialisation.{padded}
+use Rattle.dj_model.specs.trusted.Kinds.{Kinds, Placed, placed_at}
+use Rattle.dj_model.specs.trusted.Shape.{flows_to, flows_to_frame, locals_flow_to, is_handler_frame, covers}
 use Rattle.dj_shape.specs.Told.{Told, ToldFrames, told_at, told_kinds, IsToldAs, AreTold}
 use Rattle.dj_shape.specs.Flows.{FlowsTo, FlowsToFrame}
 use Rattle.dj_shape.specs.Handlers.{Tells, Handled}

@@ -9,9 +9,9 @@ use Rattle.std.proofs.lemmas.Option.{slice_get-get_or}
 use Rattle.dj_names.specs.declared.descriptor.Kind.{Kind}
 use Rattle.dj_ops.specs.declared.frames.Form.{Form}
 use Rattle.dj_ops.specs.declared.frames.Form.TheVariants as forms
-use Rattle.dj_model.specs.Linking.{or_else}
-use Rattle.dj_model.specs.Program.{Code}
-use Rattle.dj_model.specs.Kinds.{Entries, entry_slots, entries_of, form_entries, with_locals, with_stack}
+use Rattle.dj_model.specs.trusted.Linking.{or_else}
+use Rattle.dj_model.specs.trusted.Program.{Code}
+use Rattle.dj_model.specs.trusted.Kinds.{Entries, entry_slots, entries_of, form_entries, with_locals, with_stack}
 use Rattle.dj_shape.specs.declared.arena.Slot.{Slot}
 use Rattle.dj_shape.specs.declared.arena.Place.{Place}
 use Rattle.dj_shape.specs.declared.frames.KeptFrame.{KeptFrame}
@@ -214,7 +214,7 @@ told_more old new at kept slots more number =
       by None true = refl
       by None false = refl
 
--- more slots change nothing of what frames tell
+-- more slots change nothing of what frames declare
 pub told_still : (old new : ToldFrames) → Grows old new → (number : ℕ) → told_at new number ≡ told_at old number
 unfolding told_at
 told_still old new grows number =

@@ -5,11 +5,11 @@ use Rattle.std.proofs.lemmas.List.{reverse-reverse}
 use Rattle.std.specs.Cmp.Lexicographic.{pointwise}
 use Rattle.dj_names.specs.declared.descriptor.Kind.{Kind}
 use Rattle.dj_names.specs.declared.descriptor.Kind.TheVariants as kinds
-use Rattle.dj_model.specs.Numbers.{same_kind}
-use Rattle.dj_model.specs.Values.{local_at}
-use Rattle.dj_model.specs.Initialisation.{padded}
-use Rattle.dj_model.specs.Kinds.{Kinds}
-use Rattle.dj_model.specs.Shape.{is_kind, locals_flow, flows_into}
+use Rattle.dj_model.specs.trusted.Numbers.{same_kind}
+use Rattle.dj_model.specs.trusted.Values.{local_at}
+use Rattle.dj_model.specs.trusted.Initialisation.{padded}
+use Rattle.dj_model.specs.trusted.Kinds.{Kinds}
+use Rattle.dj_model.specs.trusted.Shape.{is_kind, locals_flow, flows_into}
 use Rattle.dj_shape.specs.Flows.{LocalsFlow}
 
 -- ---- padding

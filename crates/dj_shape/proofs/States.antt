@@ -2,10 +2,10 @@
 use Rattle.std.proofs.Common.{◌≡◌, ℕ, zero, suc, ◌+◌, ◌-◌, ◌<◌, ◌≤◌, List, [], ◌∷◌, ◌++◌, length, set, reverse, replicate, take, Option, Some, None, nat_eq, slice_get, refl, sym, ap, subst, ◌∙◌, inl, inr, arith}
 use Rattle.std.proofs.lemmas.List.{append_assoc, length-append, length-replicate, length-set, replicate-append-replicate, reverse-append, length-reverse, set-append_left, take-append-le, take_all}
 use Rattle.dj_names.specs.declared.descriptor.Kind.{Kind}
-use Rattle.dj_model.specs.Initialisation.{padded}
-use Rattle.dj_model.specs.Kinds.{Kinds, depth}
-use Rattle.dj_model.specs.Numbers.{is_wide}
-use Rattle.dj_model.specs.Values.{is_some_wide, last_slot, local_at, stored, without_half}
+use Rattle.dj_model.specs.trusted.Initialisation.{padded}
+use Rattle.dj_model.specs.trusted.Kinds.{Kinds, depth}
+use Rattle.dj_model.specs.trusted.Numbers.{is_wide}
+use Rattle.dj_model.specs.trusted.Values.{is_some_wide, last_slot, local_at, stored, without_half}
 use Rattle.dj_model.proofs.MappedNames.{either}
 
 -- ---- depth

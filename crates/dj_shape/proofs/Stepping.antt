@@ -4,13 +4,13 @@ use Rattle.std.proofs.lemmas.Bool.Decides.{nat_tests}
 use Rattle.dj_names.specs.declared.descriptor.Kind.{Kind}
 use Rattle.dj_ops.specs.declared.instruction.Instr.{Instr}
 use Rattle.dj_labels.specs.declared.labelled.Protected.{Protected}
-use Rattle.dj_program.specs.Naming.{instruction_in}
-use Rattle.dj_model.specs.Instructions.{Instruction, Other}
-use Rattle.dj_model.specs.Linking.{or_else}
-use Rattle.dj_model.specs.Values.{local_at}
-use Rattle.dj_model.specs.Program.{Code}
-use Rattle.dj_model.specs.Kinds.{Kinds, Signature, depth, placed_at}
-use Rattle.dj_model.specs.Shape.{after, first_kinds, state_before, Holds}
+use Rattle.dj_program.specs.trusted.Naming.{instruction_in}
+use Rattle.dj_model.specs.trusted.Instructions.{Instruction, Other}
+use Rattle.dj_model.specs.trusted.Linking.{or_else}
+use Rattle.dj_model.specs.trusted.Values.{local_at}
+use Rattle.dj_model.specs.trusted.Program.{Code}
+use Rattle.dj_model.specs.trusted.Kinds.{Kinds, Signature, depth, placed_at}
+use Rattle.dj_model.specs.trusted.Shape.{after, first_kinds, state_before, Holds}
 use Rattle.dj_shape.specs.declared.needs.Changed.{Changed}
 use Rattle.dj_shape.specs.declared.handlers.Handlers.{Handlers}
 use Rattle.dj_shape.specs.declared.pass.Method.{Method}
@@ -28,7 +28,7 @@ is_kept : (going : Bool) (k : Kinds) (x : Kinds) → Some x ≡ kept going k →
 is_kept true k x e = cc
 is_kept false k x e = absurd cc
 
--- what a frame tells stands where there is room for it
+-- what a frame declares stands where there is room for it
 told_stands : (s : Standing) (code : Code) (told : Told) → HasRoomOf s code → length told.locals ≤ code.max_locals → depth told.stack ≤ code.max_stack
     → standing_in s told.locals told.stack ≡ Some (told_kinds code.max_locals told)
 told_stands s code told room locals stack =

@@ -7,12 +7,12 @@ use Rattle.std.proofs.lemmas.List.{length-map}
 use Rattle.std.specs.Option.{option_map}
 use Rattle.dj_ops.specs.declared.instruction.Instr.{Instr}
 use Rattle.dj_labels.specs.declared.labelled.Protected.{Protected}
-use Rattle.dj_program.specs.Naming.{instruction_in}
-use Rattle.dj_model.specs.Program.{Range}
-use Rattle.dj_model.specs.Instructions.{Instruction, ends, targets}
-use Rattle.dj_model.specs.Linking.{or_else}
-use Rattle.dj_model.specs.Kinds.{Kinds, placed_at}
-use Rattle.dj_model.specs.Shape.{after, first_kinds, flows_to, is_handler_frame, locals_flow_to, covers, goes_on_with, state_before, Holds}
+use Rattle.dj_program.specs.trusted.Naming.{instruction_in}
+use Rattle.dj_model.specs.trusted.Program.{Range}
+use Rattle.dj_model.specs.trusted.Instructions.{Instruction, ends, targets}
+use Rattle.dj_model.specs.trusted.Linking.{or_else}
+use Rattle.dj_model.specs.trusted.Kinds.{Kinds, placed_at}
+use Rattle.dj_model.specs.trusted.Shape.{after, first_kinds, flows_to, is_handler_frame, locals_flow_to, covers, goes_on_with, state_before, Holds}
 use Rattle.dj_shape.specs.declared.pass.Method.{Method}
 use Rattle.dj_shape.specs.Told.{told_at}
 use Rattle.dj_shape.specs.Flows.{FlowsTo}

@@ -2,12 +2,12 @@
 use Rattle.std.proofs.Common.{◌≡◌, ℕ, zero, suc, ◌+◌, ◌-◌, ◌<◌, ◌≤◌, Bool, true, false, List, [], ◌∷◌, set, reverse, Option, Some, None, nat_eq, nat_lt, nat_le, if◌then◌else◌, refl, sym, ap, subst, ◌∙◌, inl, inr, arith}
 use Rattle.dj_names.specs.declared.descriptor.Kind.{Kind}
 use Rattle.dj_names.specs.declared.descriptor.Kind.TheVariants as kinds
-use Rattle.dj_model.specs.Instructions.{Instruction}
-use Rattle.dj_model.specs.Numbers.{is_wide}
-use Rattle.dj_model.specs.Program.{Code}
-use Rattle.dj_model.specs.Values.{local_at, stored, with_second, without_half, is_some_wide, last_slot, moved}
-use Rattle.dj_model.specs.Kinds.{Kinds, depth}
-use Rattle.dj_model.specs.Shape.{is_kind, taken, leaving, with_result, gives, store_kind, same_result, result_list}
+use Rattle.dj_model.specs.trusted.Instructions.{Instruction}
+use Rattle.dj_model.specs.trusted.Numbers.{is_wide}
+use Rattle.dj_model.specs.trusted.Program.{Code}
+use Rattle.dj_model.specs.trusted.Values.{local_at, stored, with_second, without_half, is_some_wide, last_slot, moved}
+use Rattle.dj_model.specs.trusted.Kinds.{Kinds, depth}
+use Rattle.dj_model.specs.trusted.Shape.{is_kind, taken, leaving, with_result, gives, store_kind, same_result, result_list}
 use Rattle.dj_model.proofs.MappedNames.{either}
 use Rattle.dj_shape.specs.Needs.{IsChanged}
 use Rattle.dj_shape.specs.Forms.{StoresAt, around}

@@ -1,14 +1,14 @@
--- What is kept of a constant tells what a member's instruction does with it.
+-- What is kept of a constant says what a member's instruction does with it.
 use Rattle.std.proofs.Common.{◌≡◌, ℕ, List, Option, get_or, nat_eq, refl, sym, ap, ◌∙◌, inl, inr}
-use Rattle.dj_names.specs.Types.{field_kind}
-use Rattle.dj_pool.specs.Pool.{Constant}
+use Rattle.dj_names.specs.trusted.Types.{field_kind}
+use Rattle.dj_pool.specs.trusted.Pool.{Constant}
 use Rattle.dj_ops.specs.declared.instruction.Instr.TheVariants as instrs
-use Rattle.dj_model.specs.Types.{Member}
-use Rattle.dj_model.specs.Instructions.{Named, Nothing, AnInt, ALong, AText, AClass, AField, AMethod, AnInterfaceMethod, Another}
-use Rattle.dj_model.specs.Kinds.{Signature, call_signature}
-use Rattle.dj_model.specs.Opcodes.{instruction_of, member}
+use Rattle.dj_model.specs.trusted.Types.{Member}
+use Rattle.dj_model.specs.trusted.Instructions.{Named, Nothing, AnInt, ALong, AText, AClass, AField, AMethod, AnInterfaceMethod, Another}
+use Rattle.dj_model.specs.trusted.Kinds.{Signature, call_signature}
+use Rattle.dj_model.specs.trusted.Opcodes.{instruction_of, member}
 use Rattle.dj_model.proofs.MappedNames.{either}
-use Rattle.dj_program.specs.Naming.{named_at, instruction_in}
+use Rattle.dj_program.specs.trusted.Naming.{named_at, instruction_in}
 use Rattle.dj_shape.specs.Kept.{KeptKinds}
 use Rattle.dj_shape.specs.Pools.{TellsKind, ArePoolKinds}
 use Rattle.dj_shape.specs.Works.{field_work, method_work, interface_method_work, member_work, work_of}

@@ -10,16 +10,16 @@ use Rattle.dj_names.specs.declared.descriptor.Of.TheVariants as ofs
 use Rattle.dj_names.specs.declared.descriptor.Ty.{Ty}
 use Rattle.dj_names.specs.declared.descriptor.Desc.{Desc}
 use Rattle.dj_names.specs.declared.descriptor.Desc.TheVariants as descs
-use Rattle.dj_names.specs.Descriptors.{slots_of, type_kind, type_slots}
-use Rattle.dj_names.specs.Types.{field_kind}
-use Rattle.dj_model.specs.Program.{Code}
-use Rattle.dj_model.specs.Instructions.{Instruction, Nop, Push, PushText, Load, Store, Increment, LoadElement, StoreElement, Move, Compute, Convert, Branch, Goto, Switch, Return, GetStatic, PutStatic, GetField, PutField, Invoke, New, NewArray, ArrayLength, Throw, CheckCast, InstanceOf, Monitor, Other, Mode, Virtual, Special, Static, Interface}
-use Rattle.dj_model.specs.Members.{with_kind, kinds_of}
-use Rattle.dj_model.specs.Numbers.{is_wide, same_kind}
-use Rattle.dj_model.specs.Values.{Cut, one_slot, two_slots, under_one, under_two, local_at, moved}
-use Rattle.dj_model.specs.Kinds.{Signature, signature_with, with_result, call_signature, with_receiver, signature_of, Kinds, kind_slots, depth}
-use Rattle.dj_model.specs.Shape as shapes
-use Rattle.dj_model.specs.Shape.{after, taken, leaving, gives, store_kind, is_kind, same_result, result_list, get_kind, put_kind, counts, is_static_mode, call_kinds}
+use Rattle.dj_names.specs.trusted.Descriptors.{slots_of, type_kind, type_slots}
+use Rattle.dj_names.specs.trusted.Types.{field_kind}
+use Rattle.dj_model.specs.trusted.Program.{Code}
+use Rattle.dj_model.specs.trusted.Instructions.{Instruction, Nop, Push, PushText, Load, Store, Increment, LoadElement, StoreElement, Move, Compute, Convert, Branch, Goto, Switch, Return, GetStatic, PutStatic, GetField, PutField, Invoke, New, NewArray, ArrayLength, Throw, CheckCast, InstanceOf, Monitor, Other, Mode, Virtual, Special, Static, Interface}
+use Rattle.dj_model.specs.trusted.Members.{with_kind, kinds_of}
+use Rattle.dj_model.specs.trusted.Numbers.{is_wide, same_kind}
+use Rattle.dj_model.specs.trusted.Values.{Cut, one_slot, two_slots, under_one, under_two, local_at, moved}
+use Rattle.dj_model.specs.trusted.Kinds.{Signature, signature_with, with_result, call_signature, with_receiver, signature_of, Kinds, kind_slots, depth}
+use Rattle.dj_model.specs.trusted.Shape as shapes
+use Rattle.dj_model.specs.trusted.Shape.{after, taken, leaving, gives, store_kind, is_kind, same_result, result_list, get_kind, put_kind, counts, is_static_mode, call_kinds}
 use Rattle.dj_model.proofs.MappedNames.{either}
 use Rattle.dj_shape.specs.declared.effect.Slots.{Slots}
 use Rattle.dj_shape.specs.declared.effect.Slots.TheVariants as slots

@@ -1,4 +1,4 @@
--- The code's own: slots of local variables, each above those before it.
+-- Used by the code alone: slots of local variables, each above those before it.
 use Rattle.std.specs.Prelude.{◌≡◌, ℕ, zero, suc, ◌<◌, ◌≤◌, List, [], ◌∷◌, ◌++◌, length, Option, Some, None, slice_get}
 use Rattle.dj_names.specs.declared.descriptor.Kind.{Kind}
 use Rattle.dj_shape.specs.declared.arena.Slot.{Slot}
@@ -14,7 +14,7 @@ abbrev pub with_slot : Option Slot → (ℕ → List (Option Kind)) → List (Op
 with_slot None below = []
 with_slot (Some slot) below = below slot.before ++ slot.kind ∷ []
 
--- the local variables that end here, so many at most
+-- the local variables that end here, at most this many
 unfoldable pub slots_within : ℕ → List Slot → ℕ → List (Option Kind)
 slots_within zero slots end = []
 slots_within (suc most) slots end = with_slot (slot_at slots end) (λ before. slots_within most slots before)

@@ -1,24 +1,24 @@
--- The code's own: when kinds that are left may go on at a frame.
+-- Used by the code alone: when kinds that are left may go on at a frame.
 use Rattle.std.specs.Prelude.{◌≡◌, ℕ, ⊤, List, reverse, Option, Some, None}
 use Rattle.dj_names.specs.declared.descriptor.Kind.{Kind}
-use Rattle.dj_model.specs.Values.{local_at}
-use Rattle.dj_model.specs.Kinds.{Kinds}
+use Rattle.dj_model.specs.trusted.Values.{local_at}
+use Rattle.dj_model.specs.trusted.Kinds.{Kinds}
 use Rattle.dj_shape.specs.Told.{Told}
 
--- each local variable of which the second list tells a kind has it in the first
+-- each local variable for which the second list has a kind has it in the first
 abbrev pub LocalsFlow : List (Option Kind) → List (Option Kind) → Type 0
 LocalsFlow locals told = (slot : ℕ) (kind : Kind) → local_at told slot ≡ Some kind → local_at locals slot ≡ Some kind
 
--- what is left may go on where a frame tells this
+-- with this left, the run may go on at a frame with these kinds
 abbrev pub Flows : Kinds → Told → Type 0
 Flows left told = LocalsFlow left.locals told.locals × (left.stack ≡ reverse told.stack)
 
--- the same, where there may be no frame
+-- the same; where there is no frame, the run may go on
 abbrev pub FlowsTo : Kinds → Option Told → Type 0
 FlowsTo left None = ⊤
 FlowsTo left (Some told) = Flows left told
 
--- the same, where there has to be one
+-- the same; where there is no frame, the run may not go on
 abbrev pub FlowsToFrame : Kinds → Option Told → Type 0
 FlowsToFrame left None = ⊥
 FlowsToFrame left (Some told) = Flows left told

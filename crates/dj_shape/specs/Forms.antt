@@ -1,10 +1,10 @@
--- The code's own: what is told of instructions by their forms, whatever their indexes name.
+-- Used by the code alone: what the forms of instructions say, whatever their indexes name.
 use Rattle.std.specs.Prelude.{◌≡◌, ℕ, ◌+◌, ◌-◌, ⊤, Bool, true, false, ℤ, Option, Some, None, All, unsigned_abs}
 use Rattle.dj_ops.specs.declared.instruction.Instr.{Instr}
 use Rattle.dj_ops.specs.declared.instruction.Instr.TheVariants as instrs
-use Rattle.dj_model.specs.Instructions.{Nothing, ends}
-use Rattle.dj_model.specs.Opcodes.{simple, operand_does, jump_rows}
-use Rattle.dj_model.specs.Kinds.{Kinds}
+use Rattle.dj_model.specs.trusted.Instructions.{Nothing, ends}
+use Rattle.dj_model.specs.trusted.Opcodes.{simple, operand_does, jump_rows}
+use Rattle.dj_model.specs.trusted.Kinds.{Kinds}
 use Rattle.dj_shape.specs.declared.needs.Changed.{Changed}
 use Rattle.dj_shape.specs.declared.needs.Changed.TheVariants as changes
 use Rattle.dj_shape.specs.Told.{ToldFrames, told_at}
@@ -29,7 +29,7 @@ form_ends (instrs.Table default low targets) = true
 form_ends (instrs.Lookup default pairs) = true
 form_ends instr = false
 
--- each of its targets has a frame, into which this flows
+-- each of its targets has a frame, and this fits it
 abbrev pub FlowsAt : Kinds → ToldFrames → ℤ → Type 0
 FlowsAt left frames target = FlowsToFrame left (told_at frames (unsigned_abs target))
 

@@ -1,8 +1,8 @@
--- The code's own: ranges in the order of their starts, and what the frames of their handlers ask.
+-- Used by the code alone: ranges in the order of their starts, and what the frames of their handlers require.
 use Rattle.std.specs.Prelude.{◌≡◌, ℕ, ◌+◌, ◌<◌, ◌≤◌, ◌⊎◌, Bool, true, false, List, Option, Some, None, slice_get}
 use Rattle.dj_names.specs.declared.descriptor.Kind.{Kind}
 use Rattle.dj_labels.specs.declared.labelled.Protected.{Protected}
-use Rattle.dj_model.specs.Values.{local_at}
+use Rattle.dj_model.specs.trusted.Values.{local_at}
 use Rattle.dj_shape.specs.declared.needs.Need.{Need}
 use Rattle.dj_shape.specs.declared.needs.Changed.{Changed}
 use Rattle.dj_shape.specs.declared.handlers.Handlers.{Handlers}
@@ -10,13 +10,13 @@ use Rattle.dj_shape.specs.Flows.{LocalsFlow}
 use Rattle.dj_shape.specs.Needs.{need_at, Meets, IsChanged, AreSame, AreRaised}
 use Rattle.dj_shape.specs.Told.{Told, ToldFrames, told_at}
 
--- the frame of the handler of a range tells this kind of the local variable
+-- the frame of the handler of a range has this kind for the local variable
 pub record Tells (frames : ToldFrames) (row : Protected) (slot : ℕ) (kind : Kind) : Type 0 where
   pub told : Told
   pub at : told_at frames row.handler ≡ Some told
   pub tells : local_at told.locals slot ≡ Some kind
 
--- the local variables before an instruction have the kinds that the frames of the handlers tell, of the ranges that it is in
+-- the local variables before an instruction have the kinds of the frames of the handlers of all ranges that the instruction is in
 abbrev pub Handled : List Protected → ToldFrames → ℕ → List (Option Kind) → Type 0
 Handled rows frames number locals = (k : ℕ) (row : Protected) (slot : ℕ) (kind : Kind) → slice_get rows k ≡ Some row → row.start ≤ number → number < row.end
     → Tells frames row slot kind → local_at locals slot ≡ Some kind
@@ -25,18 +25,18 @@ Handled rows frames number locals = (k : ℕ) (row : Protected) (slot : ℕ) (ki
 abbrev pub AreRising : List Protected → Type 0
 AreRising rows = (j k : ℕ) (a b : Protected) → j < k → slice_get rows j ≡ Some a → slice_get rows k ≡ Some b → a.start ≤ b.start
 
--- the first of the ranges have begun before the instruction of this number or at it, and the others haven't before it
+-- the first of the ranges have begun, before the instruction of this number or at it; the others haven't begun before it
 pub record Begun (frames : ToldFrames) (rows : List Protected) (number next : ℕ) (needs : List Need) : Type 0 where
   pub behind : (k : ℕ) (row : Protected) → k < next → slice_get rows k ≡ Some row → row.start ≤ number
   pub ahead : (k : ℕ) (row : Protected) → next ≤ k → slice_get rows k ≡ Some row → number ≤ row.start
-  -- what their handlers' frames tell is needed up to their ends
+  -- the kinds of their handlers' frames are needed up to their ends
   pub asked : (k : ℕ) (row : Protected) (slot : ℕ) (kind : Kind) → k < next → slice_get rows k ≡ Some row → number < row.end → Tells frames row slot kind
       → (row.end ≤ (need_at needs slot).until) × ((need_at needs slot).kind ≡ kind)
-  -- and what is needed one of them asks for
+  -- each kind that is needed is required by one of them
   pub real : (slot : ℕ) → number < (need_at needs slot).until
       → (k : ℕ) × (row : Protected) × (k < next) × (slice_get rows k ≡ Some row) × (row.end ≡ (need_at needs slot).until) × Tells frames row slot (need_at needs slot).kind
 
--- what is known of ranges before an instruction
+-- what is kept of ranges is right before an instruction
 pub record Stands (frames : ToldFrames) (number : ℕ) (h : Handlers) : Type 0 where
   pub rising : AreRising h.rows.items
   pub begun : Begun frames h.rows.items number h.next h.needs.items
@@ -48,7 +48,7 @@ MeetAll needs number locals = (slot : ℕ) → Meets needs number locals slot
 abbrev pub MeetOthers : Changed → List Need → ℕ → List (Option Kind) → Type 0
 MeetOthers changed needs number locals = (slot : ℕ) → (IsChanged changed slot → ⊥) → Meets needs number locals slot
 
--- a range begins: its handler's frame asks nothing, or something, which the local variables have or lack
+-- a range begins: its handler's frame requires nothing of the local variables, or something, which these have or lack
 abbrev pub AsksNothing : ToldFrames → Protected → Type 0
 AsksNothing frames row = (row.end ≤ row.start) ⊎ (told_at frames row.handler ≡ None)
 
@@ -75,7 +75,7 @@ IsKnown frames number locals h = Stands frames number h × MeetAll h.needs.items
 abbrev pub IsKnownBut : Changed → ToldFrames → ℕ → List (Option Kind) → Handlers → Type 0
 IsKnownBut changed frames number locals h = Stands frames number h × MeetOthers changed h.needs.items number locals
 
--- whether the local variables before an instruction have what handlers ask, and what is known then
+-- whether the local variables before an instruction have what handlers require, and what is kept then
 abbrev pub Enters : Bool → ToldFrames → ℕ → List (Option Kind) → Handlers → Type 0
 Enters true frames number locals h = Handled h.rows.items frames number locals × Stands frames (number + 1) h × MeetAll h.needs.items number locals
 Enters false frames number locals h = Handled h.rows.items frames number locals → ⊥

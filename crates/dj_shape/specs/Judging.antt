@@ -1,12 +1,13 @@
--- The code's own: the whole of a method's code.
+-- Used by the code alone: the whole of a method's code.
 use Rattle.std.specs.Prelude.{◌≡◌, ℕ, map, Option, Some, None}
 use Rattle.dj_names.specs.declared.descriptor.Kind.{Kind}
 use Rattle.dj_program.specs.declared.code.MethodCode.{MethodCode}
-use Rattle.dj_program.specs.Naming.{instruction_in}
-use Rattle.dj_program.specs.Codes.{range_in}
-use Rattle.dj_model.specs.Program.{Code}
-use Rattle.dj_model.specs.Kinds.{Signature}
-use Rattle.dj_model.specs.Shape.{first_kinds, HasShape, IsShapeFault}
+use Rattle.dj_program.specs.trusted.Naming.{instruction_in}
+use Rattle.dj_program.specs.trusted.Codes.{range_in}
+use Rattle.dj_model.specs.trusted.Program.{Code}
+use Rattle.dj_model.specs.trusted.Kinds.{Signature}
+use Rattle.dj_model.specs.trusted.Shape.{first_kinds, IsShapeFault}
+use Rattle.dj_model.specs.Shape.{HasShape}
 use Rattle.dj_shape.specs.declared.judge.ShapeFault.{ShapeFault}
 use Rattle.dj_shape.specs.Kept.{KeptKinds}
 use Rattle.dj_shape.specs.Pools.{ArePoolKinds}

@@ -1,15 +1,15 @@
--- The code's own: what is kept of each constant.
+-- Used by the code alone: what is kept of each constant.
 use Rattle.std.specs.Prelude.{ℕ, List, [], ◌∷◌, map, Option, Some, None, nat_eq, option_and_then, if◌then◌else◌}
 use Rattle.std.specs.Option.{option_map}
 use Rattle.dj_names.specs.declared.descriptor.Kind.{Kind}
 use Rattle.dj_names.specs.declared.descriptor.Kind.TheVariants as kinds
-use Rattle.dj_names.specs.DescReading.{desc_read}
-use Rattle.dj_pool.specs.Pool.{Constant, Utf8, Integer, Long, Class, Text, Field, Method, InterfaceMethod, constant_at, names_of, desc_at}
-use Rattle.dj_model.specs.Kinds.{Signature, call_signature}
+use Rattle.dj_names.specs.trusted.DescReading.{desc_read}
+use Rattle.dj_pool.specs.trusted.Pool.{Constant, Utf8, Integer, Long, Class, Text, Field, Method, InterfaceMethod, constant_at, names_of, desc_at}
+use Rattle.dj_model.specs.trusted.Kinds.{Signature, call_signature}
 use Rattle.dj_shape.specs.declared.pool.ConstantKind.{ConstantKind}
 use Rattle.dj_shape.specs.declared.pool.ConstantKind.TheVariants as constants
 
--- the kind of a field whose descriptor is this: its first byte tells it
+-- the kind of a field with this descriptor, by the descriptor's first byte
 abbrev pub text_kind : List ℕ → Option Kind
 text_kind [] = Some kinds.Int
 text_kind (b ∷ more) =
@@ -54,7 +54,7 @@ abbrev pub call_by : Constant → Option Signature
 call_by (Utf8 text) = text_call text
 call_by k = None
 
--- that of the index 0, and then of each index
+-- that of index 0, and then that of each index
 abbrev pub all_kinds : List Constant → List Constant → List ConstantKind
 all_kinds pool ks = constants.Other ∷ map (kind_by pool) ks
 

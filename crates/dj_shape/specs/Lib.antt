@@ -15,3 +15,4 @@ pub mod Reading
 pub mod Judging
 pub mod Makes
 pub mod Keeping
+pub mod trusted

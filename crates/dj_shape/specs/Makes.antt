@@ -1,4 +1,4 @@
--- The code's own: which instructions make an object of a class, by what is kept of constants.
+-- Used by the code alone: which instructions make an object of a class, by what is kept of constants.
 use Rattle.std.specs.Prelude.{◌&&◌, Bool, true, false, List, get_or, nat_eq}
 use Rattle.dj_ops.specs.declared.instruction.Instr.{Instr}
 use Rattle.dj_ops.specs.declared.instruction.Instr.TheVariants as instrs

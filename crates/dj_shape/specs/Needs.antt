@@ -1,8 +1,8 @@
--- The code's own: the kinds of local variables that are needed before each instruction of the ranges that were begun.
+-- Used by the code alone: the kinds of local variables that are needed before each instruction of the ranges that were begun.
 use Rattle.std.specs.Prelude.{◌≡◌, ℕ, ◌<◌, ◌≤◌, ⊤, List, get_or, max, Option, Some, None}
 use Rattle.dj_names.specs.declared.descriptor.Kind.{Kind}
 use Rattle.dj_names.specs.declared.descriptor.Kind.TheVariants as kinds
-use Rattle.dj_model.specs.Values.{local_at}
+use Rattle.dj_model.specs.trusted.Values.{local_at}
 use Rattle.dj_shape.specs.declared.needs.Need.{Need}
 use Rattle.dj_shape.specs.declared.needs.Changed.{Changed}
 use Rattle.dj_shape.specs.declared.needs.Changed.TheVariants as changes
@@ -27,7 +27,7 @@ abbrev pub IsChanged : Changed → ℕ → Type 0
 IsChanged changes.All slot = ⊤
 IsChanged (changes.Some from to) slot = (from ≤ slot) × (slot < to)
 
--- what is needed of a local variable after a range up to this end has begun, whose handler's frame tells this kind of it
+-- what is needed of a local variable once a range up to this end has begun whose handler's frame has this kind for it
 abbrev pub raised : Option Kind → ℕ → Need → Need
 raised None end need = need
 raised (Some kind) end need = record { until = max need.until end; kind = kind }

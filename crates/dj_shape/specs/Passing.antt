@@ -1,15 +1,15 @@
--- The code's own: the pass over the instructions of code, from the first to the last.
+-- Used by the code alone: the pass over the instructions of code, from the first to the last.
 use Rattle.std.specs.Prelude.{◌≡◌, ℕ, zero, suc, ◌<◌, ◌≤◌, ⊤, Bool, true, false, List, [], ◌∷◌, map, Option, Some, None, MatchOption, min, Contains, Decides, length, not, ◌⊎◌, slice_get, if◌then◌else◌}
 use Rattle.dj_names.specs.declared.descriptor.Kind.TheVariants as kinds
 use Rattle.dj_labels.specs.declared.labelled.Protected.{Protected}
-use Rattle.dj_pool.specs.Pool.{Constant}
-use Rattle.dj_program.specs.Naming.{instruction_in}
-use Rattle.dj_program.specs.Codes.{range_in}
-use Rattle.dj_model.specs.Program.{Code}
-use Rattle.dj_model.specs.Instructions.{Instruction, Other, ends, targets}
-use Rattle.dj_model.specs.Values.{local_at}
-use Rattle.dj_model.specs.Kinds.{Kinds, Signature, Placed}
-use Rattle.dj_model.specs.Shape.{after, first_kinds, goes_on_with, state_before, Holds, IsFirstFault}
+use Rattle.dj_pool.specs.trusted.Pool.{Constant}
+use Rattle.dj_program.specs.trusted.Naming.{instruction_in}
+use Rattle.dj_program.specs.trusted.Codes.{range_in}
+use Rattle.dj_model.specs.trusted.Program.{Code}
+use Rattle.dj_model.specs.trusted.Instructions.{Instruction, Other, ends, targets}
+use Rattle.dj_model.specs.trusted.Values.{local_at}
+use Rattle.dj_model.specs.trusted.Kinds.{Kinds, Signature, Placed}
+use Rattle.dj_model.specs.trusted.Shape.{after, first_kinds, goes_on_with, state_before, Holds, IsFirstFault}
 use Rattle.dj_shape.specs.declared.needs.Changed.{Changed}
 use Rattle.dj_shape.specs.declared.needs.Changed.TheVariants as changes
 use Rattle.dj_shape.specs.declared.pass.Method.{Method}
@@ -21,7 +21,7 @@ use Rattle.dj_shape.specs.Flows.{Flows, FlowsTo, FlowsToFrame}
 use Rattle.dj_shape.specs.Needs.{IsChanged}
 use Rattle.dj_shape.specs.Handlers.{IsKnownBut}
 
--- ---- what an instruction tells, whatever its index names
+-- ---- what an instruction's form says, whatever its index names
 
 -- no other local variables have another kind after it
 abbrev pub ChangesOnly : Changed → Instruction → Type 0
@@ -32,13 +32,13 @@ abbrev pub IsRun : Instruction → Type 0
 IsRun (Other op named) = ⊥
 IsRun i = ⊤
 
--- each target has a frame, into which this flows
+-- each target has a frame, and this fits it
 abbrev pub JumpsFlow : Kinds → ToldFrames → List ℕ → Type 0
 JumpsFlow left frames targets = (target : ℕ) → Contains targets target → FlowsToFrame left (told_at frames target)
 
 -- ---- handlers
 
--- the frame of a handler tells one operand, a reference
+-- the frame of a handler has one operand, a reference
 pub record HasHandlerFrame (frames : ToldFrames) (number : ℕ) : Type 0 where
   pub told : Told
   pub at : told_at frames number ≡ Some told
@@ -60,7 +60,7 @@ least_of (Some least) number = min least number
 
 -- ---- the pass
 
--- the code that a pool makes of what is gone through
+-- the code, as the pool gives the meaning of its indexes
 pub record Case : Type 0 where
   pub pool : List Constant
   pub signature : Signature
@@ -74,7 +74,7 @@ pub record IsCase (method : Method) (c : Case) : Type 0 where
   pub ranges : c.code.ranges ≡ map (range_in c.pool) method.rows.now
   pub frames : AreTold c.code.max_stack c.code.max_locals c.placed method.frames
 
--- what is left for an instruction that has no frame
+-- the kinds that are left for an instruction without a frame
 abbrev pub arriving : Case → ℕ → Option Kinds
 arriving c zero = Some (first_kinds c.signature c.code)
 arriving c (suc number) = goes_on_with c.signature c.code (state_before c.signature c.code c.placed number) (slice_get c.code.instructions number)
@@ -82,7 +82,7 @@ arriving c (suc number) = goes_on_with c.signature c.code (state_before c.signat
 abbrev pub kept : Bool → Kinds → Option Kinds
 kept going k = if going then Some k else None
 
--- the ranges in order are those of the method, and the handlers' frames were looked at, of which none before this instruction lacks what it needs
+-- the ranges in order are those of the method; the handlers' frames were looked at, and no handler before this instruction lacks the frame that it needs
 pub record IsReady (method : Method) (number : ℕ) (pass : Pass) : Type 0 where
   pub same : (row : Protected) → Contains method.rows.now row → Contains pass.handlers.rows.items row
   pub own : (row : Protected) → Contains pass.handlers.rows.items row → Contains method.rows.now row
@@ -98,7 +98,7 @@ pub record Before (method : Method) (c : Case) (number : ℕ) (pass : Pass) : Ty
 
 -- ---- the steps of the pass
 
--- whether kinds stand before the instruction, and which
+-- whether there are kinds before the instruction, and which
 abbrev pub MeetsFrame : Bool → Option Told → ℕ → Pass → Pass → Type 0
 MeetsFrame true None number old new = (old.going ≡ true) × (new.state.kinds ≡ old.state.kinds) × (new.changed ≡ old.changed)
 MeetsFrame true (Some told) number old new =
@@ -107,7 +107,7 @@ MeetsFrame false None number old new = old.going ≡ false
 MeetsFrame false (Some told) number old new =
     (standing_in old.state told.locals told.stack ≡ None) ⊎ ((number ≡ 0) × (Flows old.state.kinds told → ⊥))
 
--- what is left flows to where the run goes on
+-- what is left fits wherever the run goes on
 pub record Flowing (method : Method) (number : ℕ) (left : Kinds) (i : Instruction) : Type 0 where
   pub jumps : JumpsFlow left method.frames (targets i)
   pub goes_on : ends i ≡ false → (suc number < length method.code.now) × FlowsTo left (told_at method.frames (suc number))

@@ -1,8 +1,8 @@
--- The code's own: frames as they are kept, whose local variables stand in slots.
+-- Used by the code alone: frames as they are kept, with their local variables in slots.
 use Rattle.std.specs.Prelude.{◌≡◌, ℕ, Bool, true, false, List, get_or, Option, Some, None, nat_eq, if◌then◌else◌}
 use Rattle.std.specs.Ordering.{nat_cmp}
 use Rattle.std.specs.BTreeMap.{BTreeMap, get}
-use Rattle.dj_model.specs.Linking.{or_else}
+use Rattle.dj_model.specs.trusted.Linking.{or_else}
 use Rattle.dj_shape.specs.declared.arena.Slot.{Slot}
 use Rattle.dj_shape.specs.declared.frames.KeptFrame.{KeptFrame}
 use Rattle.dj_shape.specs.Arena.{IsIn}
@@ -10,7 +10,7 @@ use Rattle.dj_shape.specs.Arena.{IsIn}
 abbrev pub kept_at : BTreeMap ℕ KeptFrame → ℕ → Option KeptFrame
 kept_at told number = get nat_cmp told number
 
--- the local variables of each are a place of these slots
+-- the local variables of each frame are a place of these slots
 abbrev pub ArePlaced : List Slot → BTreeMap ℕ KeptFrame → Type 0
 ArePlaced slots told = (number : ℕ) (kept : KeptFrame) → kept_at told number ≡ Some kept → IsIn slots kept.place
 
@@ -18,7 +18,7 @@ ArePlaced slots told = (number : ℕ) (kept : KeptFrame) → kept_at told number
 abbrev pub AreMarked : List Bool → BTreeMap ℕ KeptFrame → Type 0
 AreMarked marked told = (number : ℕ) → get_or marked number true ≡ false → kept_at told number ≡ None
 
--- a frame is kept, where none was before
+-- a frame is kept, at an instruction that had none
 abbrev pub HasOneMore : BTreeMap ℕ KeptFrame → BTreeMap ℕ KeptFrame → ℕ → KeptFrame → Type 0
 HasOneMore old new at kept = (number : ℕ) → kept_at new number ≡ or_else (kept_at old number) (if nat_eq at number then Some kept else None)
 

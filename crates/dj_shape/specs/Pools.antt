@@ -1,13 +1,13 @@
--- What is kept of the constants of a pool tells what shape asks of what they name.
+-- What is kept of the constants of a pool says what shape needs to know of what they name.
 use Rattle.std.specs.Prelude.{◌≡◌, ℕ, ⊤, List, Option, None, get_or}
-use Rattle.dj_names.specs.Types.{field_kind}
-use Rattle.dj_pool.specs.Pool.{Constant}
-use Rattle.dj_model.specs.Types.{Member}
-use Rattle.dj_model.specs.Instructions.{Named, Nothing, AnInt, ALong, AText, AClass, AField, AMethod, AnInterfaceMethod, Another}
-use Rattle.dj_model.specs.Kinds.{Signature, call_signature}
-use Rattle.dj_declared.specs.Files.{desc_in, name_in}
+use Rattle.dj_names.specs.trusted.Types.{field_kind}
+use Rattle.dj_pool.specs.trusted.Pool.{Constant}
+use Rattle.dj_model.specs.trusted.Types.{Member}
+use Rattle.dj_model.specs.trusted.Instructions.{Named, Nothing, AnInt, ALong, AText, AClass, AField, AMethod, AnInterfaceMethod, Another}
+use Rattle.dj_model.specs.trusted.Kinds.{Signature, call_signature}
+use Rattle.dj_declared.specs.trusted.Files.{desc_in, name_in}
 use Rattle.dj_declared.specs.Members.{IsDescriptor}
-use Rattle.dj_program.specs.Naming.{named_at}
+use Rattle.dj_program.specs.trusted.Naming.{named_at}
 use Rattle.dj_shape.specs.Kept.{KeptKinds}
 use Rattle.dj_shape.specs.declared.pool.ConstantKind.{ConstantKind}
 use Rattle.dj_shape.specs.declared.pool.ConstantKind.TheVariants as constants
@@ -16,7 +16,7 @@ use Rattle.dj_shape.specs.declared.pool.ConstantKind.TheVariants as constants
 abbrev pub call_at : List (Option Signature) → ℕ → Option Signature
 call_at calls index = get_or calls index None
 
--- it tells what shape asks of this
+-- it says what shape needs to know of this
 abbrev pub TellsKind : List (Option Signature) → Named → ConstantKind → Type 0
 TellsKind calls (AnInt z) constants.Int = ⊤
 TellsKind calls (ALong z) constants.Long = ⊤
@@ -28,7 +28,7 @@ TellsKind calls (AnInterfaceMethod m) (constants.InterfaceMethod index) = call_s
 TellsKind calls Another constants.Other = ⊤
 TellsKind calls named kind = ⊥
 
--- of each index; and of each text that is a descriptor
+-- it does so for each index, and for each text that is a descriptor
 pub record ArePoolKinds (pool : List Constant) (kinds : KeptKinds) : Type 0 where
   pub each : (index : ℕ) → TellsKind kinds.calls (named_at pool index) (get_or kinds.constants index constants.Other)
   pub calls : (index : ℕ) → IsDescriptor (name_in pool index) → call_signature (desc_in (name_in pool index)) ≡ call_at kinds.calls index

@@ -1,15 +1,15 @@
--- The code's own: the frames of a stack map, read one after the other.
+-- Used by the code alone: the frames of a stack map, read one after the other.
 use Rattle.std.specs.Prelude.{◌≡◌, ℕ, suc, ◌≤◌, Bool, true, false, List, [], ◌∷◌, ◌++◌, map, length, take, min, Option, Some, None, Result, Ok, Err, slice_get}
 use Rattle.std.specs.Option.{option_and_then}
 use Rattle.dj_names.specs.declared.descriptor.Kind.{Kind}
 use Rattle.dj_names.specs.declared.descriptor.Kind.TheVariants as kinds
-use Rattle.dj_names.specs.Types.{class_type}
+use Rattle.dj_names.specs.trusted.Types.{class_type}
 use Rattle.dj_ops.specs.declared.frames.Form.{Form}
 use Rattle.dj_ops.specs.declared.frames.Form.TheVariants as forms
 use Rattle.dj_ops.specs.declared.frames.Frame.{Frame}
-use Rattle.dj_model.specs.Instructions.{Instruction, Nop, New}
-use Rattle.dj_model.specs.Program.{Code}
-use Rattle.dj_model.specs.Kinds.{Signature, Entry, Of, NoEntry, Entries, stack_of, fitting, entry_slots, frames_after, Map, Read, Faulty, and_then, Placed, Kinds, depth}
+use Rattle.dj_model.specs.trusted.Instructions.{Instruction, Nop, New}
+use Rattle.dj_model.specs.trusted.Program.{Code}
+use Rattle.dj_model.specs.trusted.Kinds.{Signature, Entry, Of, NoEntry, Entries, stack_of, fitting, entry_slots, frames_after, Map, Read, Faulty, and_then, Placed, Kinds, depth}
 use Rattle.dj_shape.specs.declared.arena.Slot.{Slot}
 use Rattle.dj_shape.specs.declared.arena.Place.{Place}
 use Rattle.dj_shape.specs.declared.frames.KeptFrame.{KeptFrame}
@@ -17,7 +17,7 @@ use Rattle.dj_shape.specs.declared.reading.Reader.{Reader}
 use Rattle.dj_shape.specs.Arena.{IsAt, IsIn}
 use Rattle.dj_shape.specs.Told.{Told, ToldFrames, AreTold, told_in, told_kinds}
 
--- what is read of code where its frames are: whether each instruction makes an object
+-- an instruction, as far as reading frames needs to know it: whether it makes an object
 abbrev pub made_as : Bool → Instruction
 made_as true = New (class_type [])
 made_as false = Nop
@@ -36,22 +36,22 @@ signature_with static call = record { parameters = parameters_with static call.p
 abbrev pub entries_with : Bool → Signature → List (Option Kind)
 entries_with static call = map (λ kind. Some kind) (parameters_with static call.parameters)
 
--- an entry as it is kept, with none for what tells nothing
+-- an entry as it is kept; none where a type has no entry
 abbrev pub entry_view : Option (Option Kind) → Entry
 entry_view None = NoEntry
 entry_view (Some kind) = Of kind
 
--- whether types tell something, and the entries then
+-- whether each type has an entry, and the entries then
 abbrev pub Gains : Bool → Option (List (Option Kind)) → List (Option Kind) → List (Option Kind) → Type 0
 Gains true told old new = (more : List (Option Kind)) × (told ≡ Some more) × (new ≡ old ++ more)
 Gains false told old new = told ≡ None
 
--- the operands that a form tells, and the local variables then
+-- the operands of a form, and the local variables then
 abbrev pub ChangesTo : Option (List Kind) → Option Entries → List (Option Kind) → Type 0
 ChangesTo None told new = option_and_then (λ (e : Entries). stack_of e.stack) told ≡ None
 ChangesTo (Some stack) told new = (e : Entries) × (told ≡ Some e) × (e.locals ≡ new) × (stack_of e.stack ≡ Some stack)
 
--- frames that were read, or the number of the first that tells no kinds
+-- frames that were read, or the number of the first without kinds
 abbrev pub AreRead : Code → List (Option Kind) → List Frame → Result ToldFrames ℕ → Type 0
 AreRead code before frames (Ok told) = (placed : List Placed) × (frames_after code before frames ≡ Read placed) × AreTold code.max_stack code.max_locals placed told
 AreRead code before frames (Err at) = frames_after code before frames ≡ Faulty at
@@ -61,12 +61,12 @@ abbrev pub with_all : List Placed → Map → Map
 with_all [] rest = rest
 with_all (p ∷ placed) rest = and_then p (with_all placed rest)
 
--- so many entries of the frame before are still there, of these many, where there are these many now
+-- how many of the entries of the frame before, which had `before` of them, are still there, where there are `now` of them now
 abbrev pub kept_entries : Form → ℕ → ℕ → ℕ
 kept_entries (forms.Full locals stack) before now = 0
 kept_entries form before now = min before now
 
--- the local variables of each place are those of the entries up to its own
+-- the local variables at each place are the entries up to the place's own
 abbrev pub ArePlaces : List Slot → List Place → List (Option Kind) → Type 0
 ArePlaces slots places entries = (k : ℕ) (place : Place) → slice_get places k ≡ Some place → IsAt slots place (entry_slots (take (suc k) entries))
 
@@ -78,7 +78,7 @@ pub record IsReading (reader : Reader) : Type 0 where
 abbrev pub fits_of : Code → Option Entries → Option Kinds
 fits_of code e = option_and_then (λ (x : Entries). fitting code x.locals (stack_of x.stack)) e
 
--- a frame was read: it tells none that fit, or these, and the local variables then
+-- a frame was read: it has no kinds that fit, or it has these, and these are the local variables then
 pub record TellsSome (code : Code) (e : Option Entries) (told : Told) (new : List (Option Kind)) : Type 0 where
   pub entries : Entries
   pub are : e ≡ Some entries
@@ -88,7 +88,7 @@ pub record TellsSome (code : Code) (e : Option Entries) (told : Told) (new : Lis
   pub few : length told.locals ≤ code.max_locals
   pub low : depth told.stack ≤ code.max_stack
 
--- what is kept of it, whose local variables stand in the reader's slots
+-- what is kept of the frame, whose local variables are in the reader's slots
 abbrev pub IsFrameRead : Code → Option Entries → Option KeptFrame → Reader → Type 0
 IsFrameRead code e None reader = fits_of code e ≡ None
 IsFrameRead code e (Some kept) reader =

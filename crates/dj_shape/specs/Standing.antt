@@ -1,15 +1,15 @@
--- The code's own: what is known before an instruction, and what its steps answer.
+-- Used by the code alone: what is known before an instruction, and what its steps answer.
 use Rattle.std.specs.Prelude.{◌≡◌, ◌≤◌, ℕ, Bool, true, false, ◌&&◌, List, [], ◌∷◌, length, reverse, Option, Some, None, nat_le, if◌then◌else◌}
 use Rattle.dj_names.specs.declared.descriptor.Kind.{Kind}
-use Rattle.dj_model.specs.Program.{Code}
-use Rattle.dj_model.specs.Initialisation.{padded}
-use Rattle.dj_model.specs.Kinds.{Kinds, Signature, depth}
-use Rattle.dj_model.specs.Shape.{taken}
-use Rattle.dj_model.specs.Values.{Cut}
+use Rattle.dj_model.specs.trusted.Program.{Code}
+use Rattle.dj_model.specs.trusted.Initialisation.{padded}
+use Rattle.dj_model.specs.trusted.Kinds.{Kinds, Signature, depth}
+use Rattle.dj_model.specs.trusted.Shape.{taken}
+use Rattle.dj_model.specs.trusted.Values.{Cut}
 use Rattle.dj_shape.specs.declared.state.Piece.{Piece}
 use Rattle.dj_shape.specs.declared.state.Piece.TheVariants as pieces
 
--- the kinds of the local variables and of the operands, where there is room for so many
+-- the kinds of the local variables and of the operands, with the room that there is for them
 pub record Standing : Type 0 where
   pub max_stack : ℕ
   pub max_locals : ℕ
@@ -26,12 +26,12 @@ SameRoom old new = (new.max_stack ≡ old.max_stack) × (new.max_locals ≡ old.
 abbrev pub GivesResult : Signature → Option Kind → Type 0
 GivesResult signature result = result ≡ signature.result
 
--- the answer tells whether something is left, and it is this
+-- the answer says whether something is left, and what
 abbrev pub Leaves : {A : Type 0} → Bool → Option A → A → Type 0
 Leaves true left now = left ≡ Some now
 Leaves false left now = left ≡ None
 
--- the operands count so much
+-- the operands take this many slots
 abbrev pub IsDepth : ℕ → List Kind → Type 0
 IsDepth count stack = count ≡ depth stack
 
@@ -45,15 +45,15 @@ standing_in s locals stack =
     if nat_le (length locals) s.max_locals && nat_le (depth stack) s.max_stack
     then Some (record { locals = padded s.max_locals locals; stack = reverse stack }) else None
 
--- no more local variables are kept than were, or than so many
+-- no more local variables are kept than before, or than this many
 abbrev pub IsWithin : ℕ → List (Option Kind) → List (Option Kind) → Type 0
 IsWithin count old new = (most : ℕ) → count ≤ most → length old ≤ most → length new ≤ most
 
--- where there are so many local variables, this became of all of them
+-- what became of the local variables, all of them counted
 abbrev pub ArePadded : ℕ → List (Option Kind) → (List (Option Kind) → List (Option Kind)) → List (Option Kind) → Type 0
 ArePadded count old change new = (most : ℕ) → count ≤ most → length old ≤ most → padded most new ≡ change (padded most old)
 
--- of the code, what the kinds after an instruction depend on
+-- as much of the code as the kinds after an instruction depend on
 abbrev pub room : Standing → Code
 room s = record { max_stack = s.max_stack; max_locals = s.max_locals; instructions = []; ranges = []; frames = None }
 
@@ -61,7 +61,7 @@ room s = record { max_stack = s.max_stack; max_locals = s.max_locals; instructio
 abbrev pub SameLocals : Standing → Standing → Type 0
 SameLocals old new = (new.kinds.locals ≡ old.kinds.locals) × SameRoom old new
 
--- the answer tells whether the top operand has the kind, and the operands below it are these
+-- the answer says whether the top operand has the kind, and these are the operands below it
 abbrev pub Takes : Bool → Kind → List Kind → List Kind → Type 0
 Takes true kind old new = (wanted : List Kind) → taken (kind ∷ wanted) old ≡ taken wanted new
 Takes false kind old new = (wanted : List Kind) → taken (kind ∷ wanted) old ≡ None
@@ -73,7 +73,7 @@ abbrev pub piece_kinds : Piece → List Kind
 piece_kinds (pieces.One kind) = kind ∷ []
 piece_kinds (pieces.Two top under) = top ∷ under ∷ []
 
--- the answer tells whether they were cut, and which operands are left
+-- the answer says whether they were cut, and which operands are left
 abbrev pub IsCut : Option Piece → Option (Cut Kind) → List Kind → Type 0
 IsCut None cut rest = cut ≡ None
 IsCut (Some piece) cut rest = cut ≡ Some (record { top = piece_kinds piece; rest = rest })

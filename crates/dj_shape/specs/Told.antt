@@ -1,39 +1,39 @@
--- The code's own: what the frames of a stack map tell, by the numbers of their instructions.
+-- Used by the code alone: the kinds of the frames of a stack map, by the numbers of their instructions.
 use Rattle.std.specs.Prelude.{◌≡◌, ℕ, ◌≤◌, List, length, reverse, Option, Some, None, nat_eq, if◌then◌else◌}
 use Rattle.std.specs.Option.{option_map}
 use Rattle.std.specs.Ordering.{nat_cmp}
 use Rattle.std.specs.BTreeMap.{get}
 use Rattle.dj_names.specs.declared.descriptor.Kind.{Kind}
-use Rattle.dj_model.specs.Initialisation.{padded}
-use Rattle.dj_model.specs.Linking.{or_else}
-use Rattle.dj_model.specs.Kinds.{Kinds, Placed, depth, placed_at}
+use Rattle.dj_model.specs.trusted.Initialisation.{padded}
+use Rattle.dj_model.specs.trusted.Linking.{or_else}
+use Rattle.dj_model.specs.trusted.Kinds.{Kinds, Placed, depth, placed_at}
 use Rattle.dj_shape.specs.declared.arena.Slot.{Slot}
 use Rattle.dj_shape.specs.declared.frames.KeptFrame.{KeptFrame}
 use Rattle.dj_shape.specs.declared.frames.Telling.{Telling}
 use Rattle.dj_shape.specs.declared.frames.Frames.{Frames}
 use Rattle.dj_shape.specs.Arena.{slots_at, Extends}
 
--- what a frame tells: local variables in their slots, of which those after the last have no kind, and operands, the top last
+-- the kinds of a frame: local variables in their slots, of which those after the last have no kind, and operands, the top last
 pub record Told : Type 0 where
   pub locals : List (Option Kind)
   pub stack : List Kind
 
--- as it is kept, where the local variables stand in these slots
+-- the kinds of a frame as it is kept, with its local variables in these slots
 abbrev pub told_in : List Slot → KeptFrame → Told
 told_in slots kept = record { locals = slots_at slots kept.place.end; stack = kept.stack.items }
 
--- as it is looked at
+-- the kinds of a frame as it is looked at
 abbrev pub told_by : Telling → Told
 told_by telling = record { locals = telling.locals; stack = telling.stack.now }
 
--- the kinds that a frame tells, where there are so many local variables
+-- the kinds of a frame, where there are this many local variables
 abbrev pub told_kinds : ℕ → Told → Kinds
 told_kinds max_locals told = record { locals = padded max_locals told.locals; stack = reverse told.stack }
 
 abbrev pub ToldFrames : Type 0
 ToldFrames = Frames
 
--- what a frame tells, by the number of its instruction
+-- the kinds of the frame at the instruction of this number
 unfoldable pub told_at : ToldFrames → ℕ → Option Told
 told_at frames number = option_map (told_in frames.slots.items) (get nat_cmp frames.told number)
 
@@ -41,7 +41,7 @@ told_at frames number = option_map (told_in frames.slots.items) (get nat_cmp fra
 abbrev pub Grows : ToldFrames → ToldFrames → Type 0
 Grows old new = Extends old.slots.items new.slots.items × (new.told ≡ old.told)
 
--- what is kept is what the frame tells, and fits
+-- what is kept is the frame's kinds, and fits
 abbrev pub IsToldAs : ℕ → ℕ → Option Told → Option Kinds → Type 0
 IsToldAs max_stack max_locals None kinds = kinds ≡ None
 IsToldAs max_stack max_locals (Some told) kinds =
@@ -51,6 +51,6 @@ IsToldAs max_stack max_locals (Some told) kinds =
 abbrev pub AreTold : ℕ → ℕ → List Placed → ToldFrames → Type 0
 AreTold max_stack max_locals placed frames = (number : ℕ) → IsToldAs max_stack max_locals (told_at frames number) (placed_at placed number)
 
--- what is told at an instruction is kept, where nothing was before
+-- a frame's kinds are kept at an instruction that had none
 abbrev pub IsKept : ToldFrames → ToldFrames → ℕ → Told → Type 0
 IsKept old new at told = (number : ℕ) → told_at new number ≡ or_else (told_at old number) (if nat_eq at number then Some told else None)

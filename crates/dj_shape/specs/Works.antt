@@ -1,16 +1,16 @@
--- The code's own: what instructions do to kinds, in few forms.
+-- Used by the code alone: what instructions do to kinds, in few forms.
 use Rattle.std.specs.Prelude.{ℕ, ◌+◌, Bool, true, false, List, [], ◌∷◌, reverse, Option, Some, None, nat_eq, if◌then◌else◌}
 use Rattle.dj_names.specs.declared.descriptor.Kind.{Kind}
 use Rattle.dj_names.specs.declared.descriptor.Kind.TheVariants as kinds
-use Rattle.dj_names.specs.Types.{field_kind}
-use Rattle.dj_names.specs.Values.{value_kind}
-use Rattle.dj_model.specs.Program.{Code}
-use Rattle.dj_model.specs.Instructions.{Instruction, Nop, Push, PushText, Load, Store, Increment, LoadElement, StoreElement, Move, Compute, Convert, Branch, Goto, Switch, Return, GetStatic, PutStatic, GetField, PutField, Invoke, New, NewArray, ArrayLength, Throw, CheckCast, InstanceOf, Monitor, Other, Mode, Interface, StackOperation, Pop, Pop2, Dup, DupX1, DupX2, Dup2, Dup2X1, Dup2X2, Swap}
-use Rattle.dj_model.specs.Numbers.{is_wide, left_kind, right_kind, given_kind, taken_kind, converted_kind, tested_kinds}
-use Rattle.dj_model.specs.Values.{Cut, one_slot, two_slots, under, local_at, moved}
-use Rattle.dj_model.specs.Arrays.{access_kind}
-use Rattle.dj_model.specs.Kinds.{Signature, call_signature, Kinds, depth}
-use Rattle.dj_model.specs.Shape.{is_kind, leaving, gives, store_kind, same_result, result_list, is_static_mode}
+use Rattle.dj_names.specs.trusted.Types.{field_kind}
+use Rattle.dj_names.specs.trusted.Values.{value_kind}
+use Rattle.dj_model.specs.trusted.Program.{Code}
+use Rattle.dj_model.specs.trusted.Instructions.{Instruction, Nop, Push, PushText, Load, Store, Increment, LoadElement, StoreElement, Move, Compute, Convert, Branch, Goto, Switch, Return, GetStatic, PutStatic, GetField, PutField, Invoke, New, NewArray, ArrayLength, Throw, CheckCast, InstanceOf, Monitor, Other, Mode, Interface, StackOperation, Pop, Pop2, Dup, DupX1, DupX2, Dup2, Dup2X1, Dup2X2, Swap}
+use Rattle.dj_model.specs.trusted.Numbers.{is_wide, left_kind, right_kind, given_kind, taken_kind, converted_kind, tested_kinds}
+use Rattle.dj_model.specs.trusted.Values.{Cut, one_slot, two_slots, under, local_at, moved}
+use Rattle.dj_model.specs.trusted.Arrays.{access_kind}
+use Rattle.dj_model.specs.trusted.Kinds.{Signature, call_signature, Kinds, depth}
+use Rattle.dj_model.specs.trusted.Shape.{is_kind, leaving, gives, store_kind, same_result, result_list, is_static_mode}
 use Rattle.dj_shape.specs.Pools.{call_at}
 use Rattle.dj_shape.specs.declared.pool.ConstantKind.{ConstantKind}
 use Rattle.dj_shape.specs.declared.pool.ConstantKind.TheVariants as constants

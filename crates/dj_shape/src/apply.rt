@@ -1,12 +1,12 @@
 ghost use Rattle.std.specs.Prelude.{◌≡◌, List, [], Some, None, Option, if◌then◌else◌, reverse, IfOk};
 ghost use Rattle.dj_names.specs.declared.descriptor.Kind.TheVariants as kinds;
-ghost use Rattle.dj_pool.specs.Pool.{Constant};
-ghost use Rattle.dj_program.specs.Naming.{instruction_in};
-ghost use Rattle.dj_model.specs.Program.{Code};
-ghost use Rattle.dj_model.specs.Instructions.{Instruction};
-ghost use Rattle.dj_model.specs.Kinds.{Signature};
-ghost use Rattle.dj_model.specs.Values.{local_at};
-ghost use Rattle.dj_model.specs.Shape.{after, gives, is_kind, result_list, same_result, taken};
+ghost use Rattle.dj_pool.specs.trusted.Pool.{Constant};
+ghost use Rattle.dj_program.specs.trusted.Naming.{instruction_in};
+ghost use Rattle.dj_model.specs.trusted.Program.{Code};
+ghost use Rattle.dj_model.specs.trusted.Instructions.{Instruction};
+ghost use Rattle.dj_model.specs.trusted.Kinds.{Signature};
+ghost use Rattle.dj_model.specs.trusted.Values.{local_at};
+ghost use Rattle.dj_model.specs.trusted.Shape.{after, gives, is_kind, result_list, same_result, taken};
 ghost use Rattle.dj_shape.specs.Pools.{ArePoolKinds, call_at};
 ghost use Rattle.dj_shape.specs.Standing.{HasRoomOf, SameRoom, SameLocals, Leaves, GivesResult, room};
 ghost use Rattle.dj_shape.specs.Works.{arguments_of, called, is_counted, performed, work_of, work_view};
@@ -23,8 +23,8 @@ use crate::state::KindState;
 use dj_names::Kind;
 use dj_ops::Instr;
 
-/// Whether the instruction with this effect finds what it takes, and what it gives fits. Then the kinds after it stand, and else it doesn't
-/// matter which.
+/// Whether the instruction with this effect finds what it takes, and what it gives fits. Then the state has the kinds after it; else the state
+/// doesn't matter any more.
 pub fn apply(
     state: &mut KindState,
     kinds: &PoolKinds,
@@ -39,7 +39,7 @@ pub fn apply(
 }
 
 /// What an instruction does.
-#[tactic(auto, unfolding(dj_model::specs::Opcodes::instruction_of))]
+#[tactic(auto, unfolding(dj_model::specs::trusted::Opcodes::instruction_of))]
 pub fn effect_of(kinds: &PoolKinds, instr: &Instr) -> Effect
     ensures { (pool : List Constant) → ArePoolKinds pool kinds.now → work_view kinds.now.calls result ≡ work_of (instruction_in pool instr.now) }
 {
@@ -103,7 +103,7 @@ fn give_back(
     }
 }
 
-// Whether the count that stands beside a method's index is that of its parameters' slots and one.
+// Whether the count beside a method's index is one more than the slots of its parameters.
 fn is_counted(count: Option<u8>, parameters: &[Kind]) -> bool
     ensures { result ≡ is_counted count parameters.now }
 {
@@ -116,7 +116,7 @@ fn is_counted(count: Option<u8>, parameters: &[Kind]) -> bool
     }
 }
 
-// Whether the operands are what a method takes, the last parameter on top. They are popped.
+// Whether the operands on top are what a method takes, the last parameter at the top. They are popped.
 #[tactic(auto, using(crate::proofs::Works::no_parameters))]
 fn take_arguments(state: &mut KindState, is_static: bool, parameters: &[Kind]) -> bool
     ensures locals { SameLocals state.old state.new }
@@ -142,7 +142,7 @@ fn call_method(
     }
 }
 
-// What a call does, whose method's descriptor has this index.
+// What a call of a method does whose descriptor has this index.
 fn call_by(
     state: &mut KindState,
     kinds: &PoolKinds,

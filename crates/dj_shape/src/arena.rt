@@ -13,15 +13,15 @@ pub struct Slot {
     pub before: u32,
 }
 
-/// Where local variables end among slots, and how many they are.
+/// Where local variables end in the list of slots, and how many there are.
 #[derive(Clone, Copy)]
 pub struct Place {
-    /// One more than the index of the last one's slot, and 0 where there is none.
+    /// One more than the index of the last one's slot; 0 where there is none.
     pub end: u32,
     pub count: u32,
 }
 
-/// Local variables that stand in slots, which are looked at from the last to the first.
+/// Local variables that are kept in slots, and are looked at from the last to the first.
 #[derive(Drop)]
 pub struct Locals<'a> {
     slots: &'a [Slot],
@@ -40,7 +40,7 @@ impl<'a> Model for Locals<'a> {
     ghost invariant = { λ locals. AreLinked locals.slots.now × IsIn locals.slots.now locals.place };
 }
 
-// The slot at which local variables end.
+// The slot of the last of the local variables that end here.
 #[tactic(auto, using(crate::proofs::Links::slot_below))]
 fn slot_at(slots: &[Slot], end: u32) -> Option<Slot>
     ensures { result ≡ slot_at slots.now end }
@@ -55,7 +55,7 @@ fn slot_at(slots: &[Slot], end: u32) -> Option<Slot>
 }
 
 impl<'a> Locals<'a> {
-    /// Those of a place.
+    /// The local variables of a place.
     pub fn new(slots: &'a [Slot], place: Place) -> Locals<'a>
         requires linked { AreLinked slots.now }
         requires within { IsIn slots.now place }
@@ -64,14 +64,14 @@ impl<'a> Locals<'a> {
         Locals { slots, place }
     }
 
-    /// How many they are.
+    /// How many there are.
     pub fn len(&self) -> usize
         ensures { result ≡ length self.now }
     {
         self.place.count as usize
     }
 
-    /// The same once more, to take off one after the other.
+    /// A copy, from which they can be taken one after the other.
     pub fn again(&self) -> Locals<'a>
         ensures { result ≡ self.now }
     {
@@ -81,7 +81,7 @@ impl<'a> Locals<'a> {
         }
     }
 
-    /// Takes the last one off, and gives its slot and its kind.
+    /// Takes the last one away, and returns its slot among local variables and its kind.
     pub fn pop(&mut self) -> Option<(usize, Option<Kind>)>
         ensures { MatchOption result (self.old ≡ []) (λ last. (self.old ≡ self.new ++ last.1 ∷ []) × (last.0 ≡ length self.new)) }
     {
@@ -97,7 +97,7 @@ impl<'a> Locals<'a> {
     }
 }
 
-// Where local variables end whose last one stands in the next slot after so many.
+// Where local variables end whose last one has the slot of this index.
 fn next_end(count: usize) -> Result<u32, ShapeError>
     ensures { IfOk result (λ end. (end ≡ count + 1) × (end < 2 ^ 32)) }
 {
@@ -107,7 +107,7 @@ fn next_end(count: usize) -> Result<u32, ShapeError>
     Ok(count as u32 + 1)
 }
 
-/// Appends a local variable to those of a place, which stay what they are.
+/// Appends a local variable to those of a place, which stay as they are.
 pub fn add_slot(
     slots: &mut Vec<Slot>,
     place: Place,

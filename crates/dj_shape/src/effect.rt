@@ -1,14 +1,14 @@
 ghost use Rattle.std.specs.Prelude.{◌≡◌, ℕ, List, Option, Some, None};
-ghost use Rattle.dj_model.specs.Instructions.{Nothing};
-ghost use Rattle.dj_model.specs.Kinds.{Signature};
-ghost use Rattle.dj_model.specs.Opcodes.{array_rows, bit_rows, constant_rows, jump_rows, last_rows, local_rows, new_array, number_rows, operand_does, row_does, simple, stack_rows, store_rows};
+ghost use Rattle.dj_model.specs.trusted.Instructions.{Nothing};
+ghost use Rattle.dj_model.specs.trusted.Kinds.{Signature};
+ghost use Rattle.dj_model.specs.trusted.Opcodes.{array_rows, bit_rows, constant_rows, jump_rows, last_rows, local_rows, new_array, number_rows, operand_does, row_does, simple, stack_rows, store_rows};
 ghost use Rattle.dj_shape.specs.Pools.{call_at};
 ghost use Rattle.dj_shape.specs.Works.{Calls, class_work, field_work, interface_method_work, interface_work, literal_work, member_work, method_work, work_of, work_view};
 
 use crate::pool::ConstantKind;
 use dj_names::Kind;
 
-/// What takes one slot, or two.
+/// One operand that takes one slot, or what takes two.
 #[derive(Clone, Copy)]
 pub enum Slots {
     One,
@@ -22,7 +22,7 @@ pub enum Movement {
     Drop(Slots),
     /// They are pushed once more.
     Double(Slots),
-    /// They are put once more below those under them.
+    /// They are pushed once more, below those under them.
     Under(Slots, Slots),
     /// The upper two change places.
     Swap,
@@ -47,14 +47,14 @@ pub enum Effect {
         count: Option<u8>,
         desc: u16,
     },
-    /// It isn't run.
+    /// It isn't supported.
     Fails,
 }
 
 // ---- instructions without operands
 
 /// What an instruction without operands does.
-#[tactic(auto, unfolding(dj_model::specs::Opcodes::simple))]
+#[tactic(auto, unfolding(dj_model::specs::trusted::Opcodes::simple))]
 pub fn simple_effect(op: u8) -> Effect
     ensures { (calls : List (Option Signature)) → work_view calls result ≡ work_of (simple Nothing op) }
 {
@@ -163,7 +163,7 @@ fn last_effect(op: u8) -> Effect
 
 // ---- instructions with operands that name no constant
 
-/// What an instruction does that a slot follows.
+/// What an instruction with a slot does.
 pub fn local_effect(op: u8, slot: u16) -> Effect
     ensures { (calls : List (Option Signature)) → work_view calls result ≡ work_of (operand_does local_rows Nothing op slot) }
 {
@@ -236,7 +236,7 @@ fn put_field(kind: Kind) -> Effect
     }
 }
 
-// What an instruction does with a field of such values.
+// What an instruction does with a field whose values have this kind.
 fn field_effect(op: u8, kind: Option<Kind>) -> Effect
     ensures { (calls : List (Option Signature)) → work_view calls result ≡ field_work op kind }
 {
@@ -271,7 +271,7 @@ fn method_effect(op: u8, desc: u16) -> Effect
     }
 }
 
-// The same of a method of an interface.
+// The same for a method of an interface.
 fn interface_method_effect(op: u8, desc: u16) -> Effect
     ensures { (calls : List (Option Signature)) → work_view calls result ≡ interface_method_work op (call_at calls desc) }
 {
@@ -282,7 +282,7 @@ fn interface_method_effect(op: u8, desc: u16) -> Effect
     }
 }
 
-/// What an instruction does with a field or a method, but for invokeinterface.
+/// What an instruction does with a field or a method, except invokeinterface.
 pub fn member_effect(op: u8, constant: ConstantKind) -> Effect
     ensures { (calls : List (Option Signature)) → work_view calls result ≡ member_work calls op constant }
 {

@@ -1,6 +1,6 @@
 ghost use Rattle.std.specs.Prelude.{◌≡◌, Decides, Some};
 ghost use Rattle.dj_names.specs.declared.descriptor.Kind.{Kind};
-ghost use Rattle.dj_model.specs.Values.{local_at};
+ghost use Rattle.dj_model.specs.trusted.Values.{local_at};
 ghost use Rattle.dj_shape.specs.Flows.{Flows, FlowsTo, FlowsToFrame, LocalsFlow};
 ghost use Rattle.dj_shape.specs.Told.{told_at, told_by};
 
@@ -17,7 +17,7 @@ pub fn has_kind(locals: &[Option<Kind>], slot: usize, kind: Kind) -> bool
     local_at(locals, slot) == Some(kind)
 }
 
-// Whether a local variable has the kind that is told of it, if one is.
+// Whether a local variable has the kind that the frame has for it, if it has one.
 fn has_told(locals: &[Option<Kind>], slot: usize, told: Option<Kind>) -> bool
     ensures { Decides result ((kind : Kind) → told ≡ Some kind → local_at locals.now slot ≡ Some kind) }
 {
@@ -27,7 +27,7 @@ fn has_told(locals: &[Option<Kind>], slot: usize, told: Option<Kind>) -> bool
     }
 }
 
-/// Whether each local variable of which a frame tells a kind has it. Those after the last are told none.
+/// Whether each local variable for which a frame has a kind is of that kind. For those after its last the frame has none.
 pub fn locals_flow(locals: &[Option<Kind>], told: &Locals<'_>) -> bool
     ensures { Decides result (LocalsFlow locals.now told.now) }
 {
@@ -47,7 +47,7 @@ pub fn same_stacks(left: &[Kind], told: &[Kind]) -> bool
     left == told
 }
 
-/// Whether the run may go on with these kinds where a frame tells those.
+/// Whether the run may go on with these kinds at a frame with those.
 pub fn flows(state: &KindState, told: &Telling<'_>) -> bool
     ensures { Decides result (Flows state.now.kinds (told_by told.now)) }
 {
@@ -57,7 +57,7 @@ pub fn flows(state: &KindState, told: &Telling<'_>) -> bool
     same_stacks(state.stack(), told.stack)
 }
 
-/// The same of the frame at the instruction of this number, where there may be none.
+/// The same for the frame at the instruction of this number; where there is no frame, the run may go on.
 pub fn flows_to(state: &KindState, frames: &Frames, number: u64) -> bool
     ensures { Decides result (FlowsTo state.now.kinds (told_at frames.now number)) }
 {
@@ -70,7 +70,7 @@ pub fn flows_to(state: &KindState, frames: &Frames, number: u64) -> bool
     }
 }
 
-/// The same, where there has to be one.
+/// The same; where there is no frame, the run may not go on.
 pub fn flows_to_frame(state: &KindState, frames: &Frames, number: u64) -> bool
     ensures { Decides result (FlowsToFrame state.now.kinds (told_at frames.now number)) }
 {

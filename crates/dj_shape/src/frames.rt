@@ -8,7 +8,7 @@ use dj_names::Kind;
 use std::alloc::Global;
 use std::collections::BTreeMap;
 
-/// What a frame of a stack map tells, as it is kept.
+/// The kinds of a frame of a stack map, as they are kept.
 #[derive(Drop)]
 pub struct KeptFrame {
     pub place: Place,
@@ -16,7 +16,7 @@ pub struct KeptFrame {
     pub stack: Vec<Kind>,
 }
 
-/// What a frame of a stack map tells.
+/// The kinds of a frame of a stack map.
 #[derive(Drop)]
 pub struct Telling<'a> {
     /// The kinds of the local variables in their slots; those after the last have none.
@@ -25,20 +25,20 @@ pub struct Telling<'a> {
     pub stack: &'a [Kind],
 }
 
-/// What the frames of a stack map tell, by the numbers of their instructions. Their local variables stand in slots, of which a frame shares
+/// The kinds of the frames of a stack map, by the numbers of their instructions. Their local variables are kept in slots, and a frame shares the slots of
 /// those that it has from the frame before it: so all frames together take no more memory than their stack map, and a byte for each instruction.
 #[derive(Drop)]
 pub struct Frames {
     slots: Vec<Slot>,
     told: BTreeMap<u64, KeptFrame>,
-    // Of each instruction, whether it may have a frame, so that most aren't looked up.
+    // For each instruction, whether it may have a frame, so that most aren't looked up.
     marked: Vec<bool>,
     pub ghost linked: { AreLinked slots.items },
     pub ghost placed: { ArePlaced slots.items told },
     pub ghost marks: { AreMarked marked.items told },
 }
 
-// A frame is kept, if none is at the instruction yet.
+// Keeps a frame, where there is none at the instruction yet.
 fn keep(told: &mut BTreeMap<u64, KeptFrame>, at: u64, kept: KeptFrame) -> Result<(), ShapeError>
     ensures more { IfOk result (λ x. HasOneMore told.old told.new at kept) }
     ensures same { IfErr result (λ e. HasSame told.old told.new) }
@@ -59,7 +59,7 @@ fn is_marked(marked: &[bool], number: u64) -> bool
     }
 }
 
-// The instruction of the number may have a frame.
+// Marks the instruction of this number as one that may have a frame.
 #[tactic(auto, using(crate::proofs::Places::marked_set, crate::proofs::Places::marked_past))]
 fn mark(marked: &mut [bool], number: u64)
     ensures { (other : ℕ) → get_or marked.new other true ≡ false → (other ≡ number → ⊥) × (get_or marked.old other true ≡ false) }
@@ -75,7 +75,7 @@ impl Frames {
     ghost use Rattle.dj_shape.specs.Arena.{IsAt, IsIn, slots_at};
     ghost use Rattle.dj_shape.specs.Told.{Grows, IsKept, told_at, told_by, told_in};
 
-    /// No frames, of code of so many instructions.
+    /// No frames, of code with this many instructions.
     pub fn new(alloc: Global, count: usize) -> Result<Frames, ShapeError>
         ensures { IfOk result (λ frames. (number : ℕ) → told_at frames number ≡ None) }
     {
@@ -93,7 +93,7 @@ impl Frames {
         is_marked(&self.marked, number)
     }
 
-    /// What the frame at the instruction of this number tells, if there is one.
+    /// The kinds of the frame at the instruction of this number, if there is one.
     pub fn at(&self, number: u64) -> Option<Telling<'_>>
         ensures { MatchOption result (told_at self.now number ≡ None) (λ telling. told_at self.now number ≡ Some (told_by telling)) }
     {
@@ -134,7 +134,7 @@ impl Frames {
         add_slot(&mut self.slots, place, kind)
     }
 
-    /// A frame is kept, if none is at the instruction yet.
+    /// Keeps a frame, where there is none at the instruction yet.
     pub fn keep(&mut self, at: u64, kept: KeptFrame) -> Result<(), ShapeError>
         requires { IsIn self.old.slots.items kept.place }
         ensures same { self.new.slots.items ≡ self.old.slots.items }

@@ -12,14 +12,14 @@ use dj_labels::Protected;
 use dj_names::Kind;
 use std::alloc::Global;
 
-/// The ranges of an exception table, of which the first have begun.
+/// The ranges of an exception table; the first ones have begun.
 #[derive(Drop)]
 pub struct Handlers {
     // In the order of their starts.
     rows: Vec<Protected>,
-    // So many have begun.
+    // This many have begun.
     next: usize,
-    // By the slots of local variables.
+    // What is needed of each local variable, by its slot.
     needs: Vec<Need>,
 }
 
@@ -34,7 +34,7 @@ fn in_order(alloc: Global, rows: &[Protected]) -> Result<Vec<Protected>, ShapeEr
     Ok(sorted)
 }
 
-// The range begins. Whether the local variables have the kinds that its handler's frame tells, if it has any instruction.
+// Begins a range. Whether the local variables have the kinds of its handler's frame, if the range has any instruction.
 fn begin(
     needs: &mut Vec<Need>,
     frames: &Frames,
@@ -72,7 +72,7 @@ impl Handlers {
         })
     }
 
-    // The ranges begin that start at the instruction. Whether the local variables have the kinds that their handlers' frames tell.
+    // Begins the ranges that start at the instruction. Whether the local variables have the kinds of their handlers' frames.
     fn begin_all(
         &mut self,
         frames: &Frames,
@@ -94,8 +94,8 @@ impl Handlers {
         Ok(true)
     }
 
-    /// The ranges begin that start at the instruction, of whose local variables those may have changed. Whether they have the kinds that the
-    /// frames of the handlers tell, of all ranges that the instruction is in.
+    /// Begins the ranges that start at the instruction; only these local variables may have changed. Whether the local variables have the kinds of the
+    /// frames of the handlers of all ranges that the instruction is in.
     pub fn enter(
         &mut self,
         frames: &Frames,

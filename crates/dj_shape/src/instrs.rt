@@ -1,9 +1,9 @@
 ghost use Rattle.std.specs.Prelude.{◌≡◌, ℕ, List, All, Option, Decides};
-ghost use Rattle.dj_pool.specs.Pool.{Constant};
-ghost use Rattle.dj_program.specs.Naming.{instruction_in};
-ghost use Rattle.dj_model.specs.Instructions.{Instruction, Nothing, ends, targets};
-ghost use Rattle.dj_model.specs.Kinds.{Signature};
-ghost use Rattle.dj_model.specs.Opcodes.{jump_rows, last_rows, operand_does, row_does, simple};
+ghost use Rattle.dj_pool.specs.trusted.Pool.{Constant};
+ghost use Rattle.dj_program.specs.trusted.Naming.{instruction_in};
+ghost use Rattle.dj_model.specs.trusted.Instructions.{Instruction, Nothing, ends, targets};
+ghost use Rattle.dj_model.specs.trusted.Kinds.{Signature};
+ghost use Rattle.dj_model.specs.trusted.Opcodes.{jump_rows, last_rows, operand_does, row_does, simple};
 ghost use Rattle.dj_shape.specs.Forms.{FlowsAt, FormFlows, StoresAt, around, form_ends};
 ghost use Rattle.dj_shape.specs.Makes.{form_makes, is_class};
 ghost use Rattle.dj_shape.specs.Passing.{ChangesOnly, IsRun, JumpsFlow};
@@ -29,7 +29,7 @@ fn last_ends(op: u8) -> bool
     }
 }
 
-// The same of an instruction without operands.
+// The same for an instruction without operands.
 fn simple_ends(op: u8) -> bool
     ensures { result ≡ ends (simple Nothing op) }
 {
@@ -39,7 +39,7 @@ fn simple_ends(op: u8) -> bool
     last_ends(op)
 }
 
-// The same of a jump.
+// The same for a jump.
 fn jump_ends(op: u8) -> bool
     ensures { (target : ℕ) → result ≡ ends (operand_does jump_rows Nothing op target) }
 {
@@ -61,7 +61,7 @@ fn form_ends(instr: &Instr) -> bool
     }
 }
 
-/// Whether the run never goes on at the instruction after it.
+/// Whether the run never goes on at the next instruction.
 pub fn ends(instr: &Instr) -> bool
     ensures { (pool : List Constant) → result ≡ ends (instruction_in pool instr.now) }
 {
@@ -145,7 +145,7 @@ fn form_flows(state: &KindState, frames: &Frames, instr: &Instr) -> bool
     }
 }
 
-/// Whether each target of the instruction has a frame, into which these kinds flow, if it is one that is run.
+/// Whether each target of the instruction has a frame, into which these kinds flow; an instruction that isn't supported has no targets.
 pub fn jumps_flow(state: &KindState, frames: &Frames, instr: &Instr) -> bool
     ensures { (pool : List Constant) → IsRun (instruction_in pool instr.now) → Decides result (JumpsFlow state.now.kinds frames.now (targets (instruction_in pool instr.now))) }
 {

@@ -1,15 +1,16 @@
 ghost use Rattle.std.specs.Prelude.{◌≡◌, ◌<◌, ◌^◌, ◌++◌, length, map, List, Some, IfOk};
-ghost use Rattle.dj_pool.specs.Pool.{Constant};
-ghost use Rattle.dj_model.specs.Kinds.{Signature};
-ghost use Rattle.dj_declared.specs.Files.{name_in};
+ghost use Rattle.dj_pool.specs.trusted.Pool.{Constant};
+ghost use Rattle.dj_model.specs.trusted.Kinds.{Signature};
+ghost use Rattle.dj_declared.specs.trusted.Files.{name_in};
 ghost use Rattle.dj_declared.specs.Members.{IsDescriptor};
-ghost use Rattle.dj_program.specs.Codes.{code_in};
+ghost use Rattle.dj_program.specs.trusted.Codes.{code_in};
 ghost use Rattle.dj_program.specs.Views.{parts_of};
 ghost use Rattle.dj_shape.specs.Judging.{IsFaultOf, IsJudged, fault_told};
 ghost use Rattle.dj_shape.specs.Passing.{Case, IsFirst};
 ghost use Rattle.dj_shape.specs.Pools.{ArePoolKinds};
 ghost use Rattle.dj_shape.specs.Reading.{entries_with, signature_with};
-ghost use Rattle.dj_shape.specs.Rule.{signature_at, IsShapeAnswer};
+ghost use Rattle.dj_shape.specs.trusted.Rule.{signature_at};
+ghost use Rattle.dj_shape.specs.Rule.{IsShapeAnswer};
 
 use crate::error::ShapeError;
 use crate::frames::Frames as ToldFrames;
@@ -25,7 +26,7 @@ use std::alloc::Global;
 /// Code without shape.
 #[derive(Clone, Copy, Debug, PartialEq, Eq)]
 pub struct ShapeFault {
-    /// The number of the instruction at which it fails, none where the stack map is none.
+    /// The number of the instruction at which it fails; none where the attribute is no stack map.
     pub number: Option<u32>,
 }
 
@@ -39,7 +40,7 @@ fn add_kinds(entries: &mut Vec<Option<Kind>>, kinds: &[Kind]) -> Result<(), Shap
     Ok(())
 }
 
-// The parameters, each with its kind, the object first on which the method is called.
+// The parameters as entries, the object on which the method is called first.
 fn parameter_entries(
     alloc: Global,
     is_static: bool,
@@ -55,7 +56,7 @@ fn parameter_entries(
     Ok(entries)
 }
 
-// The first instruction that doesn't hold, of code whose frames were read, before which these kinds stand.
+// The first instruction that doesn't hold, in code whose frames were read and whose kinds at the beginning are these.
 fn judge(
     alloc: Global,
     kinds: &PoolKinds,
@@ -125,7 +126,7 @@ fn fault_told(fault: Option<u32>) -> Option<ShapeFault>
     }
 }
 
-/// The first fault of code in shape, if it has one. The descriptor is told by the index of its text, which is that of a method without floats and doubles.
+/// The first fault of code in shape, if it has one. `desc` is the index of the method's descriptor, which has no float and no double.
 pub fn shape(
     alloc: Global,
     kinds: &PoolKinds,
@@ -140,7 +141,7 @@ pub fn shape(
     let Some(frames) = &code.frames else {
         return Ok(Some(ShapeFault { number: None }));
     };
-    // The descriptor is one whose kinds are kept.
+    // The kinds of the descriptor are kept.
     let Some(call) = kinds.call(desc) else {
         return Ok(None);
     };

@@ -1,8 +1,8 @@
 ghost use Rattle.std.specs.Prelude.{◌≡◌, ◌<◌, ◌≤◌, ◌+◌, ◌^◌, length, vec_len, IfSome, IfNone, OnOk};
-ghost use Rattle.dj_model.specs.Kinds.{kind_slots, depth};
-ghost use Rattle.dj_model.specs.Numbers.{is_wide, same_kind};
-ghost use Rattle.dj_model.specs.Shape.{is_kind, same_result};
-ghost use Rattle.dj_model.specs.Values.{is_some_wide, last_slot, local_at, stored, without_half};
+ghost use Rattle.dj_model.specs.trusted.Kinds.{kind_slots, depth};
+ghost use Rattle.dj_model.specs.trusted.Numbers.{is_wide, same_kind};
+ghost use Rattle.dj_model.specs.trusted.Shape.{is_kind, same_result};
+ghost use Rattle.dj_model.specs.trusted.Values.{is_some_wide, last_slot, local_at, stored, without_half};
 ghost use Rattle.dj_shape.specs.Standing.{IsWithin, ArePadded};
 
 use crate::error::ShapeError;
@@ -25,7 +25,7 @@ pub fn kind_slots(kind: Kind) -> u32
     }
 }
 
-/// Whether the kinds are one.
+/// Whether the kinds are the same.
 pub fn same_kind(a: Kind, b: Kind) -> bool
     ensures { result ≡ same_kind a b }
 {
@@ -45,7 +45,7 @@ pub fn is_kind(kind: Kind, found: Option<Kind>) -> bool
     }
 }
 
-/// Whether what is returned is what the method gives.
+/// Whether what is returned is what the method's descriptor says.
 pub fn same_result(kind: Option<Kind>, returned: Option<Kind>) -> bool
     ensures { result ≡ same_result kind returned }
 {
@@ -55,7 +55,7 @@ pub fn same_result(kind: Option<Kind>, returned: Option<Kind>) -> bool
     }
 }
 
-/// The slots that operands take, where these are so many at most.
+/// The slots that operands take, where these are at most `most`.
 pub fn depth_within(stack: &[Kind], most: u32) -> Option<u32>
     ensures some { IfSome result (λ slots. (slots ≡ depth stack.now) × (slots ≤ most)) }
     ensures none { IfNone result (most < depth stack.now) }
@@ -91,7 +91,7 @@ fn is_some_wide(kind: Option<Kind>) -> bool
     }
 }
 
-// What takes two slots, of which this is the second, loses its kind.
+// Where this slot is the second of a kind that takes two, that kind is lost.
 fn cut_half(locals: &mut [Option<Kind>], slot: usize)
     ensures { locals.new ≡ without_half is_wide locals.old slot }
 {
@@ -100,7 +100,7 @@ fn cut_half(locals: &mut [Option<Kind>], slot: usize)
     }
 }
 
-// The kind is stored in a local variable that is kept.
+// Stores the kind in a local variable that is kept.
 fn store_kept(locals: &mut [Option<Kind>], slot: usize, kind: Kind)
     requires { last_slot (is_wide kind) slot < length locals.old }
     ensures { locals.new ≡ stored is_wide locals.old slot kind }
@@ -112,7 +112,7 @@ fn store_kept(locals: &mut [Option<Kind>], slot: usize, kind: Kind)
     }
 }
 
-// So many are kept at least: those that weren't have no kinds.
+// Keeps at least this many: those that weren't kept have no kind.
 fn keep(locals: &mut Vec<Option<Kind>>, count: usize) -> Result<(), ShapeError>
     ensures kept { OnOk result (count ≤ vec_len locals.new) }
     ensures few { IsWithin count locals.old.items locals.new.items }
@@ -125,7 +125,7 @@ fn keep(locals: &mut Vec<Option<Kind>>, count: usize) -> Result<(), ShapeError>
     Ok(())
 }
 
-/// The kind is stored in a local variable, whether it is kept yet or not.
+/// Stores the kind in a local variable, whether it is kept yet or not.
 pub fn store_in(locals: &mut Vec<Option<Kind>>, slot: usize, kind: Kind) -> Result<(), ShapeError>
     requires { slot < 2 ^ 16 }
     ensures few { IsWithin (last_slot (is_wide kind) slot + 1) locals.old.items locals.new.items }

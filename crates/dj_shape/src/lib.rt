@@ -1,4 +1,4 @@
-//! The rule SHAPE: the kinds of values that stand in the local variables and on the operands of a method's code (JVMS 4.10.1).
+//! The rule SHAPE: the kinds of the local variables and of the operands at each place of a method's code (JVMS 4.10.1).
 #![tactic(auto)]
 
 mod apply;

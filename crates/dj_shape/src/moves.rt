@@ -1,7 +1,7 @@
 ghost use Rattle.std.specs.Prelude.{◌++◌, Some, IfOk};
-ghost use Rattle.dj_model.specs.Numbers.{is_wide};
-ghost use Rattle.dj_model.specs.Shape.{leaving};
-ghost use Rattle.dj_model.specs.Values.{below, doubled, dropped, moved, one_slot, swapped, under};
+ghost use Rattle.dj_model.specs.trusted.Numbers.{is_wide};
+ghost use Rattle.dj_model.specs.trusted.Shape.{leaving};
+ghost use Rattle.dj_model.specs.trusted.Values.{below, doubled, dropped, moved, one_slot, swapped, under};
 ghost use Rattle.dj_shape.specs.Standing.{SameRoom, SameLocals, Leaves, IsCut, piece_kinds, room};
 ghost use Rattle.dj_shape.specs.Works.{cut_of, move_view, put_under};
 
@@ -52,7 +52,7 @@ fn doubled(state: &mut KindState, slots: Slots) -> Result<bool, ShapeError>
     }
 }
 
-// The top is put once more below what is cut under it.
+// Pushes the top once more, below what is cut under it.
 #[tactic(auto, using(crate::proofs::States::depth_append))]
 fn put_under(state: &mut KindState, top: Piece, slots: Slots) -> Result<bool, ShapeError>
     ensures room { SameRoom state.old state.new }
@@ -90,8 +90,8 @@ fn swapped(state: &mut KindState) -> Result<bool, ShapeError>
     }
 }
 
-/// Whether the operands are such that they can be moved so, and what is left fits.
-#[tactic(auto, using(crate::proofs::Works::moved_under), unfolding(dj_model::specs::Values::moved))]
+/// Whether the operands can be moved in this way, and what is left fits.
+#[tactic(auto, using(crate::proofs::Works::moved_under), unfolding(dj_model::specs::trusted::Values::moved))]
 pub fn move_operands(state: &mut KindState, movement: Movement) -> Result<bool, ShapeError>
     ensures room { SameRoom state.old state.new }
     ensures left { IfOk result (λ fits. Leaves fits

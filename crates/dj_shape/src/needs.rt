@@ -1,5 +1,5 @@
 ghost use Rattle.std.specs.Prelude.{◌≡◌, ℕ, ◌<◌, ◌≤◌, length, IfOk, MatchBool};
-ghost use Rattle.dj_model.specs.Values.{local_at};
+ghost use Rattle.dj_model.specs.trusted.Values.{local_at};
 ghost use Rattle.dj_shape.specs.Needs.{AreRaised, AreSame, IsChanged, Meets, MissesOne, need_at, raised};
 
 use crate::arena::Locals;
@@ -7,14 +7,14 @@ use crate::error::ShapeError;
 use crate::flows::has_kind;
 use dj_names::Kind;
 
-/// A local variable has this kind before each instruction up to the one of this number, as frames of handlers tell.
+/// Before each instruction up to the one of this number a local variable has to have this kind, as frames of handlers say.
 #[derive(Clone, Copy)]
 pub struct Need {
     pub until: u32,
     pub kind: Kind,
 }
 
-/// The local variables that may have another kind than before the instruction before.
+/// The local variables that may have another kind than before the previous instruction.
 #[derive(Clone, Copy)]
 pub enum Changed {
     All,
@@ -22,7 +22,7 @@ pub enum Changed {
     Some(usize, usize),
 }
 
-// The slots that may have changed, of so many.
+// The slots that may have changed, among the first `count`.
 fn changed_slots(changed: Changed, count: usize) -> (usize, usize)
     ensures bound { result.1 ≤ count }
     ensures all { (slot : ℕ) → slot < count → IsChanged changed slot → (result.0 ≤ slot) × (slot < result.1) }
@@ -48,7 +48,7 @@ pub fn meets(needs: &[Need], number: u32, locals: &[Option<Kind>], changed: Chan
     true
 }
 
-// Nothing is needed of local variables that weren't kept yet.
+// Nothing is needed yet of local variables that weren't kept.
 fn grow(needs: &mut Vec<Need>, count: usize) -> Result<(), ShapeError>
     ensures many { IfOk result (λ x. count ≤ length needs.new.items) }
     ensures same { IfOk result (λ x. AreSame needs.old.items needs.new.items) }
@@ -62,7 +62,7 @@ fn grow(needs: &mut Vec<Need>, count: usize) -> Result<(), ShapeError>
     Ok(())
 }
 
-// The local variable is needed up to the end, with the kind that is told, if one is.
+// The local variable is needed up to the end, with the kind that the frame has for it, if it has one.
 fn note(needs: &mut [Need], slot: usize, told: Option<Kind>, end: u32)
     requires { slot < length needs.old }
     ensures count { length needs.new ≡ length needs.old }
@@ -75,7 +75,7 @@ fn note(needs: &mut [Need], slot: usize, told: Option<Kind>, end: u32)
     }
 }
 
-// Each of the local variables of which a kind is told is needed up to the end.
+// Each local variable for which the frame has a kind is needed up to the end.
 fn note_all(needs: &mut [Need], told: &Locals<'_>, end: u32)
     requires { length told.now ≤ length needs.old }
     ensures { AreRaised told.now end needs.old needs.new }
@@ -86,7 +86,7 @@ fn note_all(needs: &mut [Need], told: &Locals<'_>, end: u32)
     }
 }
 
-/// Each local variable of which the frame of a handler tells a kind is needed up to the end of its range.
+/// Each local variable for which the frame of a handler has a kind is needed up to the end of its range.
 pub fn raise(needs: &mut Vec<Need>, told: &Locals<'_>, end: u32) -> Result<(), ShapeError>
     ensures { IfOk result (λ x. AreRaised told.now end needs.old.items needs.new.items) }
 {

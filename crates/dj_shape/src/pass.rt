@@ -1,8 +1,8 @@
 ghost use Rattle.std.specs.Prelude.{◌≡◌, ◌^◌, ◌+◌, ◌<◌, length, List, [], ◌∷◌, ◌++◌, IfOk, Decides, IsTrue, Some, slice_get};
 ghost use Rattle.dj_labels.specs.declared.labelled.Protected.{Protected};
-ghost use Rattle.dj_pool.specs.Pool.{Constant};
-ghost use Rattle.dj_program.specs.Naming.{instruction_in};
-ghost use Rattle.dj_model.specs.Shape.{first_kinds};
+ghost use Rattle.dj_pool.specs.trusted.Pool.{Constant};
+ghost use Rattle.dj_program.specs.trusted.Naming.{instruction_in};
+ghost use Rattle.dj_model.specs.trusted.Shape.{first_kinds};
 ghost use Rattle.dj_shape.specs.Flows.{FlowsTo};
 ghost use Rattle.dj_shape.specs.Handlers.{Enters, IsKnownBut};
 ghost use Rattle.dj_shape.specs.Passing.{Answers, Before, Case, HasHandlerFrame, IsCase, IsFirst, IsFirstUnhandled, Leaving, MeetsFrame, least_of};
@@ -31,9 +31,9 @@ pub struct Method<'a> {
     pub kinds: &'a PoolKinds,
     pub code: &'a [Instr],
     pub rows: &'a [Protected],
-    /// What frames tell, by the numbers of their instructions.
+    /// The kinds of its frames, by the numbers of their instructions.
     pub frames: Frames,
-    /// The kind of what it gives.
+    /// The kind of what the method returns.
     pub returned: Option<Kind>,
     /// The least first instruction of a handler that has no handler's frame.
     pub unhandled: Option<u32>,
@@ -59,7 +59,7 @@ impl Method<'_> {
 }
 
 impl Pass {
-    // Whether kinds stand before the instruction: those that its frame tells, or else those that are left.
+    // Whether there are kinds before the instruction: those of its frame, or else those that the instruction before it leaves.
     fn meet_frame(&mut self, method: &Method<'_>, number: u32) -> Result<bool, ShapeError>
         ensures room { SameRoom self.old.state self.new.state }
         ensures same { self.new.handlers ≡ self.old.handlers }
@@ -85,7 +85,7 @@ impl Pass {
         next < method.code.len() && flows_to(&self.state, &method.frames, next as u64)
     }
 
-    // Whether what is left flows to where the run goes on.
+    // Whether what is left fits wherever the run goes on.
     fn leave(&mut self, method: &Method<'_>, number: u32, instr: &Instr, effect: Effect) -> bool
         requires { number < length method.now.code.now }
         ensures same { (self.new.state ≡ self.old.state) × (self.new.handlers ≡ self.old.handlers) }
@@ -98,7 +98,7 @@ impl Pass {
             && (!self.going || self.goes_on(method, number as usize + 1))
     }
 
-    // Whether the local variables have the kinds that the frames of the handlers tell, of all ranges that the instruction is in.
+    // Whether the local variables have the kinds of the frames of the handlers of all ranges that the instruction is in.
     fn meet_handlers(&mut self, method: &Method<'_>, number: u32) -> Result<bool, ShapeError>
         ensures same { (self.new.state ≡ self.old.state) × (self.new.handlers.rows.items ≡ self.old.handlers.rows.items) }
         ensures entered { IfOk result (λ handled. IsKnownBut self.old.changed method.now.frames number self.old.state.kinds.locals self.old.handlers
@@ -135,7 +135,7 @@ impl Pass {
         Ok(self.leave(method, number, instr, effect))
     }
 
-    /// Before the first instruction stand these kinds.
+    /// The pass at the beginning, with these kinds before the first instruction.
     pub fn new(alloc: Global, method: &Method<'_>, state: KindState) -> Result<Pass, ShapeError>
         requires { IsFirstUnhandled method.now.frames method.now.rows.now method.now.unhandled }
         ensures { IfOk result (λ pass. (c : Case) → HasRoomOf state c.code → state.kinds ≡ first_kinds c.signature c.code → Before method.now c 0 pass) }
@@ -162,7 +162,7 @@ impl Pass {
     }
 }
 
-// Whether the frame at the instruction tells one operand, a reference.
+// Whether the frame at the instruction has one operand, a reference.
 fn has_handler_frame(frames: &Frames, number: u32) -> bool
     ensures { Decides result (HasHandlerFrame frames.now number) }
 {
@@ -181,7 +181,7 @@ fn least_of(least: Option<u32>, number: u32) -> u32
     }
 }
 
-// The least of those so far and of one more.
+// The lesser of this number and the first instruction of the row's handler, where that has no handler's frame.
 fn with_row(frames: &Frames, least: Option<u32>, row: Protected) -> Option<u32>
     ensures { (rows : List Protected) → IsFirstUnhandled frames.now rows least → IsFirstUnhandled frames.now (rows ++ row ∷ []) result }
 {

@@ -1,10 +1,10 @@
 ghost use Rattle.std.specs.Prelude.{◌≡◌, ◌<◌, ◌^◌, length, get_or, option_copied, IfOk};
 ghost use Rattle.std.specs.Option.{option_map};
-ghost use Rattle.dj_names.specs.DescReading.{opens};
-ghost use Rattle.dj_pool.specs.Pool.{IsPool, desc_at};
+ghost use Rattle.dj_names.specs.trusted.DescReading.{opens};
+ghost use Rattle.dj_pool.specs.trusted.Pool.{IsPool, desc_at};
 ghost use Rattle.dj_pool.specs.Views.{constant_of};
-ghost use Rattle.dj_model.specs.Kinds.{call_signature, signature_with};
-ghost use Rattle.dj_model.specs.Members.{kinds_of};
+ghost use Rattle.dj_model.specs.trusted.Kinds.{call_signature, signature_with};
+ghost use Rattle.dj_model.specs.trusted.Members.{kinds_of};
 ghost use Rattle.dj_shape.specs.Keeping.{all_calls, all_kinds, call_by, desc_index_at, kind_by, text_call, text_kind};
 ghost use Rattle.dj_shape.specs.Pools.{ArePoolKinds, call_at};
 ghost use Rattle.dj_shape.specs.declared.pool.ConstantKind.TheVariants as constants;
@@ -15,7 +15,7 @@ use dj_pool::{Entry, Pool};
 use std::alloc::Global;
 use std::marker::Model;
 
-/// The kinds of what a method takes, without the object it is called on, and of what it gives.
+/// The kinds that a method takes, without the object on which it is called, and the kind that it returns.
 #[derive(Debug, Drop)]
 pub struct CallKinds {
     parameters: Vec<Kind>,
@@ -23,7 +23,7 @@ pub struct CallKinds {
 }
 
 impl Model for CallKinds {
-    ghost use Rattle.dj_model.specs.Kinds.{Signature};
+    ghost use Rattle.dj_model.specs.trusted.Kinds.{Signature};
 
     ghost Value = { Signature };
 
@@ -31,14 +31,14 @@ impl Model for CallKinds {
 }
 
 impl CallKinds {
-    /// The kinds of what it takes, in order.
+    /// The kinds that the method takes, in order.
     pub fn parameters(&self) -> &[Kind]
         ensures { result.now ≡ self.now.parameters }
     {
         &self.parameters
     }
 
-    /// The kind of what it gives.
+    /// The kind that the method returns.
     pub fn result(&self) -> Option<Kind>
         ensures { result ≡ self.now.result }
     {
@@ -46,14 +46,14 @@ impl CallKinds {
     }
 }
 
-/// What shape asks of a constant.
+/// What shape needs to know of a constant.
 #[derive(Clone, Copy, Debug)]
 pub enum ConstantKind {
     Int,
     Long,
     Text,
     Class,
-    /// None of a float and a double.
+    /// The kind of a field; none for a float or a double.
     Field(Option<Kind>),
     /// The index of the descriptor's text.
     Method(u16),
@@ -61,11 +61,11 @@ pub enum ConstantKind {
     Other,
 }
 
-/// What shape asks of the constants of a pool, by index.
+/// What shape needs to know of the constants of a pool, by index.
 #[derive(Drop)]
 pub struct PoolKinds {
     constants: Vec<ConstantKind>,
-    // Of each text that is the descriptor of a method without floats and doubles, by its index.
+    // For each text that is the descriptor of a method without floats and doubles, by its index.
     calls: Vec<Option<CallKinds>>,
 }
 
@@ -78,7 +78,7 @@ impl Model for PoolKinds {
 }
 
 impl PoolKinds {
-    /// What shape asks of the constant of an index.
+    /// What shape needs to know of the constant at an index.
     pub fn constant(&self, index: u16) -> ConstantKind
         ensures { result ≡ get_or self.now.constants index constants.Other }
     {
@@ -88,7 +88,7 @@ impl PoolKinds {
         }
     }
 
-    /// The kinds of a call of the method whose descriptor has this index, if it is one without floats and doubles.
+    /// The kinds of a call of a method whose descriptor is at this index, if it is one without floats and doubles.
     pub fn call(&self, index: u16) -> Option<&CallKinds>
         ensures { option_map (λ x. x.now) result ≡ call_at self.now.calls index }
     {
@@ -101,7 +101,7 @@ impl PoolKinds {
 
 // ---- constants
 
-// The kind of a field whose descriptor is this, which its first byte tells.
+// The kind of a field with this descriptor, which the first byte shows.
 fn text_kind(text: &[u8]) -> Option<Kind>
     ensures { result ≡ text_kind text.now }
 {
@@ -133,7 +133,7 @@ fn desc_text<'p>(pool: &Pool<'p>, names: u16) -> Option<&'p [u8]>
     }
 }
 
-// What shape asks of a constant.
+// What shape needs to know of a constant.
 fn constant_kind(pool: &Pool<'_>, entry: Entry<'_>) -> ConstantKind
     ensures { result ≡ kind_by pool.now (constant_of entry.entry) }
 {
@@ -185,7 +185,7 @@ fn kinds_of(alloc: Global, types: &[Ty]) -> Result<Option<Vec<Kind>>, ShapeError
     Ok(Some(kinds))
 }
 
-// The kinds of such parameters, with those of such a result.
+// The kinds of a call with these parameters and this result, where all of them have kinds.
 fn call_of(
     alloc: Global,
     params: &[Ty],
@@ -265,7 +265,7 @@ fn calls(alloc: Global, pool: &Pool<'_>) -> Result<Vec<Option<CallKinds>>, Shape
     Ok(kept)
 }
 
-/// What shape asks of the constants of a pool. Each text is looked at once.
+/// What shape needs to know of the constants of a pool. Each text is looked at once.
 pub fn pool_kinds(alloc: Global, pool: &Pool<'_>) -> Result<PoolKinds, ShapeError>
     requires linked { IsPool pool.now }
     requires few { length pool.now < 2 ^ 16 }

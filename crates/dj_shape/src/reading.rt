@@ -1,11 +1,11 @@
 ghost use Rattle.std.specs.Prelude.{◌≡◌, ℕ, ◌≤◌, ◌++◌, ◌∷◌, [], List, Option, false, slice_get, get_or, length, map, take, option_map, option_and_then, IfOk, IfSome, None};
 ghost use Rattle.dj_names.specs.declared.descriptor.Kind.{Kind};
-ghost use Rattle.dj_pool.specs.Pool.{Constant};
-ghost use Rattle.dj_program.specs.Naming.{instruction_in};
+ghost use Rattle.dj_pool.specs.trusted.Pool.{Constant};
+ghost use Rattle.dj_program.specs.trusted.Naming.{instruction_in};
 ghost use Rattle.dj_ops.specs.declared.frames.Form.TheVariants as forms;
-ghost use Rattle.dj_model.specs.Program.{Code};
-ghost use Rattle.dj_model.specs.Instructions.{makes_uninitialised};
-ghost use Rattle.dj_model.specs.Kinds.{entries_of, entry_of, entry_slots, form_entries, made_by, stack_of};
+ghost use Rattle.dj_model.specs.trusted.Program.{Code};
+ghost use Rattle.dj_model.specs.trusted.Instructions.{makes_uninitialised};
+ghost use Rattle.dj_model.specs.trusted.Kinds.{entries_of, entry_of, entry_slots, form_entries, made_by, stack_of};
 ghost use Rattle.dj_shape.specs.declared.arena.Slot.{Slot};
 ghost use Rattle.dj_shape.specs.Arena.{IsAt, IsIn, slots_at};
 ghost use Rattle.dj_shape.specs.Makes.{form_makes};
@@ -24,7 +24,7 @@ use dj_ops::{Form, Frame, Instr, VType};
 use std::alloc::Global;
 use std::marker::Model;
 
-/// Of each instruction of code, whether it makes an object of a class.
+/// For each instruction of code, whether it makes an object of a class.
 #[derive(Drop)]
 pub struct Made<'a> {
     kinds: &'a PoolKinds,
@@ -40,7 +40,7 @@ impl<'a> Model for Made<'a> {
     ghost view = { λ made. map (form_makes made.kinds.now.constants) made.code.now };
 }
 
-/// Of each instruction, whether it makes an object of a class.
+/// For each instruction, whether it makes an object of a class.
 pub fn objects_made<'a>(kinds: &'a PoolKinds, code: &'a [Instr]) -> Made<'a>
     ensures { (pool : List Constant) → ArePoolKinds pool kinds.now → result ≡ map (λ i. makes_uninitialised (instruction_in pool i)) code.now }
 {
@@ -78,7 +78,7 @@ fn made_entry(made: &Made<'_>, number: u32) -> Option<Option<Kind>>
     }
 }
 
-// What a type tells: a value of a kind, or any; or nothing.
+// The entry of a type: a value of a kind, or one that may be anything; or there is none.
 fn entry_of(made: &Made<'_>, ty: VType) -> Option<Option<Kind>>
     ensures { (max_stack max_locals : ℕ) → entry_view result ≡ entry_of (frame_code max_stack max_locals made.now) ty }
 {
@@ -92,7 +92,7 @@ fn entry_of(made: &Made<'_>, ty: VType) -> Option<Option<Kind>>
     }
 }
 
-// Appends what types tell, one after the other. Whether each tells something.
+// Appends the entries of types, one after the other. Whether each type has one.
 fn add_entries(
     entries: &mut Vec<Option<Kind>>,
     made: &Made<'_>,
@@ -123,7 +123,7 @@ fn stack_kinds(alloc: Global, entries: &[Option<Kind>]) -> Result<Option<Vec<Kin
     Ok(Some(stack))
 }
 
-// The operands that types tell.
+// The operands that types declare.
 fn operands(
     alloc: Global,
     made: &Made<'_>,
@@ -138,7 +138,7 @@ fn operands(
     stack_kinds(alloc, &entries)
 }
 
-// No operands after so many of the last local variables are dropped, if there are so many.
+// Drops the last `count` local variables, and gives no operands, where there are as many.
 fn chop(alloc: Global, entries: &mut Vec<Option<Kind>>, count: usize) -> Option<Vec<Kind>>
     ensures { (code : Code) → ChangesTo (option_map (λ v. v.items) result) (form_entries code entries.old.items (forms.Chop count)) entries.new.items }
 {
@@ -149,7 +149,7 @@ fn chop(alloc: Global, entries: &mut Vec<Option<Kind>>, count: usize) -> Option<
     Some(Vec::new(alloc))
 }
 
-// Changes the local variables as the form of a frame tells, and gives its operands, where each of its types tells what it has to.
+// Changes the local variables as the form of a frame says, and gives its operands, where each of its types has an entry.
 fn change(
     alloc: Global,
     entries: &mut Vec<Option<Kind>>,
@@ -178,7 +178,7 @@ fn change(
     }
 }
 
-// So many entries of the frame before are still there, of these many.
+// How many of the entries of the frame before are still there.
 fn kept_entries(form: &Form, before: usize, now: usize) -> usize
     ensures { result ≡ kept_entries form.now before now }
 {
@@ -190,7 +190,7 @@ fn kept_entries(form: &Form, before: usize, now: usize) -> usize
 
 // ---- the local variables in slots
 
-// The place of the entries that have one.
+// The place of the last entry that has one.
 fn last_place(places: &[Place]) -> Place
     ensures { (slots : List Slot) (entries : List (Option Kind)) → ArePlaces slots places.now entries → IsAt slots result (entry_slots (take (length places.now) entries)) }
 {
@@ -218,13 +218,13 @@ fn add_entry(frames: &mut Frames, place: Place, entry: Option<Kind>) -> Result<P
 pub struct Reader {
     // The last one's local variables, one after the other.
     entries: Vec<Option<Kind>>,
-    // Of each of them, where it and those before it stand.
+    // For each of them, the place where it and those before it are kept.
     places: Vec<Place>,
     frames: Frames,
 }
 
 impl Reader {
-    // The entries that have no place yet get one.
+    // Gives a place to the entries that have none yet.
     fn place_all(&mut self) -> Result<(), ShapeError>
         requires few { length self.old.places.items ≤ length self.old.entries.items }
         requires places { ArePlaces self.old.frames.slots.items self.old.places.items self.old.entries.items }
@@ -240,7 +240,7 @@ impl Reader {
         Ok(())
     }
 
-    /// No frames, of code of so many instructions, before which these local variables stand.
+    /// No frames, of code with this many instructions, before which the local variables are these.
     pub fn new(
         alloc: Global,
         entries: Vec<Option<Kind>>,
@@ -275,7 +275,7 @@ impl Reader {
         self.frames.locals(self.place())
     }
 
-    // Changes the local variables as the form of a frame tells, and gives its operands, where each of its types tells what it has to.
+    // Changes the local variables as the form of a frame says, and gives its operands, where each of its types has an entry.
     fn change(
         &mut self,
         alloc: Global,
@@ -297,7 +297,7 @@ impl Reader {
         Ok(Some(stack))
     }
 
-    // What a frame tells after the one before it, where it tells kinds that fit.
+    // The kinds of a frame after the one before it, where it has kinds and they fit.
     fn read(
         &mut self,
         alloc: Global,
@@ -323,7 +323,7 @@ impl Reader {
     }
 }
 
-/// What the frames of a stack map tell, or the number of the first that tells nothing that fits.
+/// The kinds of the frames of a stack map, or the number of the first that has none that fit.
 pub fn read_frames(
     alloc: Global,
     room: (u16, u16),

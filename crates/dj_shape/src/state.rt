@@ -1,10 +1,10 @@
 ghost use Rattle.std.specs.Prelude.{◌≡◌, ◌≤◌, ◌++◌, [], ◌∷◌, length, reverse, Some, None, nat_le, if◌then◌else◌, IfOk, MatchOption};
 ghost use Rattle.dj_names.specs.declared.descriptor.Kind.{Kind};
-ghost use Rattle.dj_model.specs.Initialisation.{padded};
-ghost use Rattle.dj_model.specs.Kinds.{depth};
-ghost use Rattle.dj_model.specs.Numbers.{is_wide};
-ghost use Rattle.dj_model.specs.Shape.{gives, leaving, store_kind, taken, with_result};
-ghost use Rattle.dj_model.specs.Values.{local_at, one_slot, two_slots};
+ghost use Rattle.dj_model.specs.trusted.Initialisation.{padded};
+ghost use Rattle.dj_model.specs.trusted.Kinds.{depth};
+ghost use Rattle.dj_model.specs.trusted.Numbers.{is_wide};
+ghost use Rattle.dj_model.specs.trusted.Shape.{gives, leaving, store_kind, taken, with_result};
+ghost use Rattle.dj_model.specs.trusted.Values.{local_at, one_slot, two_slots};
 ghost use Rattle.dj_shape.specs.Standing.{SameRoom, SameLocals, Takes, Leaves, IsCut, no_kinds, piece_kinds, room, standing_in};
 
 use crate::arena::Locals;
@@ -21,7 +21,7 @@ pub enum Piece {
     Two(Kind, Kind),
 }
 
-/// The kinds of the local variables and of the operands before an instruction, where there is room for so many.
+/// The kinds of the local variables and of the operands before an instruction, with the room that the code has for them.
 #[derive(Drop)]
 pub struct KindState {
     max_stack: u16,
@@ -36,7 +36,7 @@ pub struct KindState {
 
 impl Model for KindState {
     ghost use Rattle.std.specs.Prelude.{◌≡◌, ◌≤◌, reverse, vec_len};
-    ghost use Rattle.dj_model.specs.Initialisation.{padded};
+    ghost use Rattle.dj_model.specs.trusted.Initialisation.{padded};
     ghost use Rattle.dj_shape.specs.Standing.{Standing, IsDepth};
 
     ghost Value = { Standing };
@@ -50,7 +50,7 @@ impl Model for KindState {
     ghost invariant = { λ s. IsDepth s.depth (reverse s.stack.items) × (s.depth ≤ s.max_stack) × (vec_len s.locals ≤ s.max_locals) };
 }
 
-// These local variables alone are kept.
+// Keeps only these local variables.
 #[tactic(auto, using(crate::proofs::States::filled_few, crate::proofs::States::filled_all))]
 fn fill(kept: &mut Vec<Option<Kind>>, locals: &Locals<'_>) -> Result<(), ShapeError>
     ensures few { length kept.new.items ≤ length locals.now }
@@ -80,7 +80,7 @@ impl KindState {
         }
     }
 
-    /// Whether there is room for these local variables in their slots, and for these operands, the top last. Then these stand, and else it doesn't matter which.
+    /// Whether there is room for these local variables in their slots, and for these operands, the top last. Then the state has these; else the state doesn't matter any more.
     pub fn set(&mut self, locals: &Locals<'_>, stack: &[Kind]) -> Result<bool, ShapeError>
         ensures room { SameRoom self.old self.new }
         ensures set { IfOk result (λ fits. Leaves fits (standing_in self.old locals.now stack.now) self.new.kinds) }
@@ -131,7 +131,7 @@ impl KindState {
         &self.stack
     }
 
-    /// The kind of a local variable, which has none where there is none of that number.
+    /// The kind of a local variable; none where there is no local variable of that number.
     pub fn local_at(&self, slot: usize) -> Option<Kind>
         ensures { result ≡ local_at self.now.kinds.locals slot }
     {
@@ -205,7 +205,7 @@ impl KindState {
         true
     }
 
-    /// Whether the operands have the kinds, the top first, and there is room for the kind that is pushed then, if there is one.
+    /// Whether the operands have the kinds, the top first, and there is room for the kind that is then pushed, if there is one.
     pub fn give(&mut self, wanted: &[Kind], given: Option<Kind>) -> Result<bool, ShapeError>
         ensures room { SameRoom self.old self.new }
         ensures given { IfOk result (λ fits. Leaves fits
@@ -218,7 +218,7 @@ impl KindState {
         }
     }
 
-    /// Whether the top operand has the kind, and there is such a local variable, in which it is stored then.
+    /// Whether the top operand has the kind, and there is such a local variable, in which the kind is then stored.
     pub fn store(&mut self, kind: Kind, slot: u16) -> Result<bool, ShapeError>
         ensures room { SameRoom self.old self.new }
         ensures stored { IfOk result (λ fits. Leaves fits
@@ -227,7 +227,7 @@ impl KindState {
         Ok(self.give(&[kind], None)? && self.place(kind, slot)?)
     }
 
-    // Whether there is such a local variable, in which the kind is stored then.
+    // Whether there is such a local variable, in which the kind is then stored.
     fn place(&mut self, kind: Kind, slot: u16) -> Result<bool, ShapeError>
         ensures room { SameRoom self.old self.new }
         ensures stored { IfOk result (λ fits. Leaves fits (store_kind (room self.old) kind slot (Some self.old.kinds)) self.new.kinds) }
@@ -270,7 +270,7 @@ impl KindState {
         Some(Piece::Two(top, under))
     }
 
-    /// Whether there is room for these operands, which are pushed then.
+    /// Whether there is room for these operands, which are then pushed.
     pub fn put(&mut self, piece: Piece) -> Result<bool, ShapeError>
         ensures room { SameRoom self.old self.new }
         ensures put { IfOk result (λ fits. Leaves fits

@@ -2,17 +2,19 @@
 use Rattle.std.proofs.Common.{◌≡◌, List, [], ◌++◌, Some, None, Contains, codes, refl, sym, ◌∙◌, subst, arith, inl, inr}
 use Rattle.dj_names.specs.declared.native.NativeId.{NativeId}
 use Rattle.dj_names.specs.declared.native.NativeId.TheVariants as natives
-use Rattle.dj_names.specs.Library.{Library, deterministic_library, raw_library, sandbox_library, clocks, long, static, system_row}
-use Rattle.dj_class.specs.ClassFile.{ClassFile}
-use Rattle.dj_model.specs.Natives.{Nanos}
-use Rattle.dj_model.specs.Program.{Program, Class, Method, Abstract, Native, Runs}
-use Rattle.dj_model.specs.Libraries.{joined, library_class, library_method, library_program, metered_program, sandbox_program}
+use Rattle.dj_names.specs.trusted.Library.{Library, deterministic_library, raw_library, clocks, long, static, system_row}
+use Rattle.dj_names.specs.Library.{sandbox_library}
+use Rattle.dj_class.specs.trusted.ClassFile.{ClassFile}
+use Rattle.dj_model.specs.trusted.Natives.{Nanos}
+use Rattle.dj_model.specs.trusted.Program.{Program, Class, Method, Abstract, Native, Runs}
+use Rattle.dj_model.specs.trusted.Libraries.{joined, library_class, library_method, library_program}
+use Rattle.dj_model.specs.Libraries.{metered_program, sandbox_program}
 use Rattle.dj_model.specs.Standing.{AsksNothing}
 use Rattle.dj_model.proofs.QuietLibraries.{to_asks, metered_asks_nothing, sandbox_asks_nothing}
 use Rattle.dj_classes.proofs.Joins.{joined-append}
 use Rattle.dj_classes.proofs.Rising.{members_joined}
 use Rattle.dj_loader.proofs.Lists.{member_of_either, place_of_member}
-use Rattle.dj_program.specs.Programs.{AreSideBySide, IsClassIn, IsMethodIn, IsProgramIn}
+use Rattle.dj_program.specs.trusted.Programs.{AreSideBySide, IsClassIn, IsMethodIn, IsProgramIn}
 use Rattle.dj_sound.specs.Laws.{OthersAskNothing}
 use Rattle.dj_sound.proofs.Origins.{rows_of}
 use Rattle.dj_sound.proofs.Members.{side_at}

@@ -1,16 +1,16 @@
 -- Files in which no rule is violated are class files.
 use Rattle.std.proofs.Common.{List, [], ◌∷◌, Contains, refl, inl, inr}
-use Rattle.dj_edge.specs.Held.{File}
-use Rattle.dj_names.specs.Library.{Library, deterministic_library}
+use Rattle.dj_edge.specs.trusted.Held.{File}
+use Rattle.dj_names.specs.trusted.Library.{Library, deterministic_library}
 use Rattle.dj_pool.proofs.Decides.{tests_decide}
-use Rattle.dj_class.specs.ClassFile.{ClassFile}
+use Rattle.dj_class.specs.trusted.ClassFile.{ClassFile}
 use Rattle.dj_class.specs.Laws.{ClassOrFault, IsOne, IsFaulty}
 use Rattle.dj_class.proofs.AnswerLaws.{class_or_fault, faulty_is_malformed}
 use Rattle.dj_report.specs.declared.report.Violation.{Violation}
-use Rattle.dj_report.specs.Lines.{file_line}
-use Rattle.dj_check.specs.Malformed.{IsRefused, IsGood}
+use Rattle.dj_report.specs.trusted.Lines.{file_line}
+use Rattle.dj_check.specs.trusted.Malformed.{IsRefused, IsGood}
 use Rattle.dj_loader.proofs.Lists.{member_first, member_later, member_none}
-use Rattle.dj_sandbox.specs.Checked.{AreGoodFiles, IsLineBy}
+use Rattle.dj_sandbox.specs.trusted.Checked.{AreGoodFiles, IsLineBy}
 use Rattle.dj_sound.specs.Laws.{AreOfBytes, HaveClassFiles}
 
 module _ (library : Library) (files : List File) (silent : (v : Violation) → IsLineBy library files v → ⊥) where

@@ -3,24 +3,24 @@ use Rattle.std.proofs.Common.{◌≡◌, ℕ, ◌+◌, ◌<◌, ◌⊎◌, List,
 use Rattle.std.specs.Prelude.{slice_index}
 use Rattle.std.specs.List.{AllByRecursion}
 use Rattle.std.proofs.lemmas.List.{length-map}
-use Rattle.dj_edge.specs.Held.{File}
-use Rattle.dj_names.specs.Library.{Library, deterministic_library, raw_library}
+use Rattle.dj_edge.specs.trusted.Held.{File}
+use Rattle.dj_names.specs.trusted.Library.{Library, deterministic_library, raw_library}
 use Rattle.dj_ops.specs.declared.instruction.Instr.{Instr}
 use Rattle.dj_ops.specs.declared.frames.Frame.{Frame}
-use Rattle.dj_labels.specs.Labels.{IsCut, HasNumbers, IsRange, addressed}
+use Rattle.dj_labels.specs.trusted.Labels.{IsCut, HasNumbers, IsRange, addressed}
 use Rattle.dj_labels.proofs.Cuts.{whole_ends, one_cut, as_many}
-use Rattle.dj_frames.specs.StackMaps.{SpellsFrames, IsStackMap}
-use Rattle.dj_pool.specs.Pool.{Constant}
-use Rattle.dj_class.specs.ClassFile.{MemberInfo, ClassFile}
-use Rattle.dj_model.specs.Instructions.{Instruction, targets}
-use Rattle.dj_model.specs.Program.{Class, Method, Abstract, Runs, Range}
+use Rattle.dj_frames.specs.trusted.StackMaps.{SpellsFrames, IsStackMap}
+use Rattle.dj_pool.specs.trusted.Pool.{Constant}
+use Rattle.dj_class.specs.trusted.ClassFile.{MemberInfo, ClassFile}
+use Rattle.dj_model.specs.trusted.Instructions.{Instruction, targets}
+use Rattle.dj_model.specs.trusted.Program.{Class, Method, Abstract, Runs, Range}
 use Rattle.dj_model.specs.Sound.{IsCode, IsBody}
-use Rattle.dj_check.specs.Attributes.{maps_of}
-use Rattle.dj_check.specs.Code.{HasFrames, AreFramesOf, AreFramesAt}
+use Rattle.dj_check.specs.trusted.Attributes.{maps_of}
+use Rattle.dj_check.specs.trusted.Code.{HasFrames, AreFramesOf, AreFramesAt}
 use Rattle.dj_loader.proofs.Lists.{member_none, member_cases, place_of_member, of_map, member_at_place}
-use Rattle.dj_program.specs.Naming.{instruction_in}
-use Rattle.dj_program.specs.Codes.{CodeParts, range_in, code_in, IsMethodCode}
-use Rattle.dj_program.specs.Programs.{IsMethodIn}
+use Rattle.dj_program.specs.trusted.Naming.{instruction_in}
+use Rattle.dj_program.specs.trusted.Codes.{CodeParts, range_in, code_in, IsMethodCode}
+use Rattle.dj_program.specs.trusted.Programs.{IsMethodIn}
 use Rattle.dj_sound.specs.Accepted.{OfAcceptedBy}
 use Rattle.dj_sound.specs.Laws.{HasCodes, HaveCodes}
 use Rattle.dj_sound.proofs.Tests.{each_at}

@@ -1,22 +1,22 @@
 -- Upward from each class of accepted files there is an end.
 use Rattle.std.proofs.Common.{◌≡◌, ℕ, zero, suc, ◌<◌, ◌≤◌, ◌⊎◌, Bool, true, false, List, [], ◌∷◌, ◌++◌, map, length, Option, Some, None, Contains, refl, sym, ap, ◌∙◌, subst, inl, inr, arith}
 use Rattle.std.specs.Prelude.{if◌then◌else◌}
-use Rattle.dj_edge.specs.Held.{File}
-use Rattle.dj_names.specs.Types.{Name, same_name}
-use Rattle.dj_names.specs.Library.{Library, deterministic_library, raw_library}
-use Rattle.dj_class.specs.ClassFile.{ClassFile}
-use Rattle.dj_rules.specs.Violations.{this_name}
-use Rattle.dj_model.specs.Program.{Program, Class, class_at}
-use Rattle.dj_model.specs.Linking.{option_list}
-use Rattle.dj_model.specs.Libraries.{library_class, library_program}
+use Rattle.dj_edge.specs.trusted.Held.{File}
+use Rattle.dj_names.specs.trusted.Types.{Name, same_name}
+use Rattle.dj_names.specs.trusted.Library.{Library, deterministic_library, raw_library}
+use Rattle.dj_class.specs.trusted.ClassFile.{ClassFile}
+use Rattle.dj_rules.specs.trusted.Violations.{this_name}
+use Rattle.dj_model.specs.trusted.Program.{Program, Class, class_at}
+use Rattle.dj_model.specs.trusted.Linking.{option_list}
+use Rattle.dj_model.specs.trusted.Libraries.{library_class, library_program}
 use Rattle.dj_model.specs.Sound.{Ends, top, below}
 use Rattle.dj_model.proofs.SoundLinks.{class_contained}
-use Rattle.dj_declared.specs.Files.{declared_class}
+use Rattle.dj_declared.specs.trusted.Files.{declared_class}
 use Rattle.dj_classes.proofs.Orders.{names_from_same, same_from_names}
 use Rattle.dj_classes.proofs.Rising.{members_joined}
 use Rattle.dj_loader.specs.Loads.{StandsUnder, StandsBelow, IsOwnAncestor}
 use Rattle.dj_loader.proofs.Lists.{member_first, member_later, member_none, member_cases, member_front, member_mapped, of_map}
-use Rattle.dj_program.specs.Programs.{IsProgramIn}
+use Rattle.dj_program.specs.trusted.Programs.{IsProgramIn}
 use Rattle.dj_sandbox.proofs.NoCycles.{no_cycle}
 use Rattle.dj_sound.specs.Accepted.{IsAcceptedBy, OfAcceptedBy}
 use Rattle.dj_sound.specs.Laws.{HasEnds, HaveEnds}

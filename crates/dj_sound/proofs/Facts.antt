@@ -1,16 +1,16 @@
 -- A set that is accepted and one that isn't, at plain values.
 use Rattle.std.proofs.Common.{◌≡◌, ℕ, List, [], ◌∷◌, Some, None, codes, refl, inl, inr}
 use Rattle.std.specs.List.Sorted.{IsStrictlySortedBy}
-use Rattle.dj_names.specs.Library.{Library, deterministic_library, raw_library}
-use Rattle.dj_class.specs.ClassFile.{ClassFile, IsMalformed}
+use Rattle.dj_names.specs.trusted.Library.{Library, deterministic_library, raw_library}
+use Rattle.dj_class.specs.trusted.ClassFile.{ClassFile, IsMalformed}
 use Rattle.dj_report.specs.declared.report.Violation.{Violation}
-use Rattle.dj_report.specs.Lines.{file_line}
-use Rattle.dj_model.specs.Libraries.{library_program}
+use Rattle.dj_report.specs.trusted.Lines.{file_line}
+use Rattle.dj_model.specs.trusted.Libraries.{library_program}
 use Rattle.dj_model.specs.Sound.{IsSound}
 use Rattle.dj_loader.proofs.Lists.{member_first, member_none}
-use Rattle.dj_classes.specs.Tables.{declared_program}
-use Rattle.dj_sandbox.specs.Checked.{IsLineBy}
-use Rattle.dj_sandbox.specs.RawRules.{AreRawViolations}
+use Rattle.dj_classes.specs.trusted.Tables.{declared_program}
+use Rattle.dj_sandbox.specs.trusted.Checked.{IsLineBy}
+use Rattle.dj_sandbox.specs.trusted.RawRules.{AreRawViolations}
 use Rattle.dj_sound.specs.Accepted.{IsAcceptedBy, IsAccepted, IsRawAccepted}
 use Rattle.dj_sound.proofs.Origins.{no_line}
 use Rattle.dj_sound.proofs.Whole.{accepted_is_sound, raw_accepted_is_sound}

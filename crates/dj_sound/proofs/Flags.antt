@@ -3,7 +3,7 @@ use Rattle.std.proofs.Common.{◌≡◌, ℕ, bit_and, ◌%◌, ◌/◌, ◌^◌
 use Rattle.std.specs.Int.{bit_at, IsBitSet}
 use Rattle.std.proofs.lemmas.Nat.{bit_set_by_shift, and_mask}
 use Rattle.std.proofs.lemmas.Bool.Decides.{nat_tests}
-use Rattle.dj_model.specs.Program.{has_flag}
+use Rattle.dj_model.specs.trusted.Program.{has_flag}
 
 low_bit : (n : ℕ) → bit_and n 1 ≡ n % 2
 low_bit n = and_mask n 1

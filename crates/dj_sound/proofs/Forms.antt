@@ -7,19 +7,19 @@ use Rattle.std.proofs.lemmas.Int.{ints}
 use Rattle.dj_names.specs.declared.descriptor.Base.{Base}
 use Rattle.dj_names.specs.declared.run.Element.{Element}
 use Rattle.dj_names.specs.declared.run.Value.TheVariants as values
-use Rattle.dj_names.specs.Types.{base_array}
+use Rattle.dj_names.specs.trusted.Types.{base_array}
 use Rattle.dj_ops.specs.declared.instruction.Instr.{Instr}
 use Rattle.dj_ops.specs.declared.instruction.Instr.TheVariants as instrs
-use Rattle.dj_labels.specs.Labels.{IsNumber, HasNumbers}
-use Rattle.dj_pool.specs.Pool.{Constant}
-use Rattle.dj_model.specs.Types.{Member}
-use Rattle.dj_model.specs.Instructions.{Named, AnInt, ALong, AText, AClass, AField, AMethod, AnInterfaceMethod, Instruction, Push, PushText, NewArray, Other, targets}
-use Rattle.dj_model.specs.Opcodes.{Row, row_does, simple, constant_rows, store_rows, stack_rows, number_rows, bit_rows, last_rows, operand_does, local_rows, jump_rows, literal, member, member_does, field_rows, method_rows, interface_method_rows, interface_call, class_use, new_array, array_rows, table_pairs, lookup_pairs, instruction_of}
-use Rattle.dj_model.specs.Program.{Program}
+use Rattle.dj_labels.specs.trusted.Labels.{IsNumber, HasNumbers}
+use Rattle.dj_pool.specs.trusted.Pool.{Constant}
+use Rattle.dj_model.specs.trusted.Types.{Member}
+use Rattle.dj_model.specs.trusted.Instructions.{Named, AnInt, ALong, AText, AClass, AField, AMethod, AnInterfaceMethod, Instruction, Push, PushText, NewArray, Other, targets}
+use Rattle.dj_model.specs.trusted.Opcodes.{Row, row_does, simple, constant_rows, store_rows, stack_rows, number_rows, bit_rows, last_rows, operand_does, local_rows, jump_rows, literal, member, member_does, field_rows, method_rows, interface_method_rows, interface_call, class_use, new_array, array_rows, table_pairs, lookup_pairs, instruction_of}
+use Rattle.dj_model.specs.trusted.Program.{Program}
 use Rattle.dj_model.specs.Sound.{is_linked}
 use Rattle.dj_model.proofs.MappedNames.{either}
 use Rattle.dj_model.proofs.Flows.{either_way}
-use Rattle.dj_program.specs.Naming.{instruction_in}
+use Rattle.dj_program.specs.trusted.Naming.{instruction_in}
 use Rattle.dj_shape.proofs.Forms.{AllDo, row_such, operand_such}
 
 abbrev pub IsOther : Instruction → Type 0

@@ -2,27 +2,27 @@
 use Rattle.std.proofs.Common.{◌≡◌, List, [], ◌∷◌, ◌++◌, map, Option, Some, None, Contains, refl, sym, ap, ◌∙◌, subst, inl, inr}
 use Rattle.std.specs.Prelude.{IsSomeAnd}
 use Rattle.std.specs.Option.{option_map}
-use Rattle.dj_edge.specs.Held.{File}
-use Rattle.dj_names.specs.Types.{Name}
-use Rattle.dj_names.specs.Library.{Library, deterministic_library}
+use Rattle.dj_edge.specs.trusted.Held.{File}
+use Rattle.dj_names.specs.trusted.Types.{Name}
+use Rattle.dj_names.specs.trusted.Library.{Library, deterministic_library}
 use Rattle.dj_pool.proofs.Decides.{tests_decide}
-use Rattle.dj_class.specs.ClassFile.{ClassFile}
+use Rattle.dj_class.specs.trusted.ClassFile.{ClassFile}
 use Rattle.dj_class.proofs.ClassLaws.{one_class_file}
-use Rattle.dj_library.specs.Heads.{Head, head_of_library, library_heads}
-use Rattle.dj_report.specs.Lines.{file_line}
-use Rattle.dj_hierarchy.specs.Hierarchy.{IsMissing, IsBadSuperclass, ViolatesHierarchy}
-use Rattle.dj_model.specs.Program.{Program, Class, class_at}
-use Rattle.dj_model.specs.Libraries.{library_class}
-use Rattle.dj_check.specs.Malformed.{IsGood}
-use Rattle.dj_check.specs.Heads.{head_of, StandsAmong}
-use Rattle.dj_declared.specs.Files.{declared_class}
+use Rattle.dj_library.specs.trusted.Heads.{Head, head_of_library, library_heads}
+use Rattle.dj_report.specs.trusted.Lines.{file_line}
+use Rattle.dj_hierarchy.specs.trusted.Hierarchy.{IsMissing, IsBadSuperclass, ViolatesHierarchy}
+use Rattle.dj_model.specs.trusted.Program.{Program, Class, class_at}
+use Rattle.dj_model.specs.trusted.Libraries.{library_class}
+use Rattle.dj_check.specs.trusted.Malformed.{IsGood}
+use Rattle.dj_check.specs.trusted.Heads.{head_of, StandsAmong}
+use Rattle.dj_declared.specs.trusted.Files.{declared_class}
 use Rattle.dj_classes.specs.Tables.{class_number, name_of}
-use Rattle.dj_classes.specs.Rows.{RiseStrictly}
+use Rattle.dj_classes.specs.ClassRows.{RiseStrictly}
 use Rattle.dj_classes.proofs.Numbered.{class_number-rise, class_at-at}
 use Rattle.dj_classes.proofs.Rising.{members_joined}
 use Rattle.dj_loader.proofs.Lists.{member_first, member_later, member_none, member_cases, member_front, member_mapped, of_map, place_of_member}
-use Rattle.dj_program.specs.Programs.{AreSideBySide, IsClassIn, IsProgramIn}
-use Rattle.dj_sandbox.specs.Checked.{AreGoodFiles}
+use Rattle.dj_program.specs.trusted.Programs.{AreSideBySide, IsClassIn, IsProgramIn}
+use Rattle.dj_sandbox.specs.trusted.Checked.{AreGoodFiles}
 use Rattle.dj_sound.specs.Accepted.{IsAcceptedBy}
 use Rattle.dj_sound.proofs.Origins.{head_in, rows_of, IsAlike, IsOfFile, IsRow, as_joined, origin, row_there, no_line}
 use Rattle.dj_sound.proofs.Names.{rises}

@@ -4,27 +4,27 @@ use Rattle.std.specs.Prelude.{IsSomeAnd, nat_eq, nat_lt, nat_le}
 use Rattle.std.specs.Option.{option_map}
 use Rattle.std.proofs.lemmas.Bool.Decides.{nat_tests}
 use Rattle.dj_names.specs.declared.descriptor.Ty.{Ty}
-use Rattle.dj_names.specs.Types.{Name, same_name, array_type}
+use Rattle.dj_names.specs.trusted.Types.{Name, same_name, array_type}
 use Rattle.dj_ops.specs.declared.instruction.Instr.{Instr}
 use Rattle.dj_ops.specs.declared.instruction.Instr.TheVariants as instrs
-use Rattle.dj_pool.specs.Pool.{Constant, Class, Field, Method, InterfaceMethod, constant_at, text_at, IsClassText, IsPool}
-use Rattle.dj_model.specs.Types.{Member, initialiser_name, string_name}
-use Rattle.dj_model.specs.Instructions.{Named, Nothing, AClass, AField, AMethod, AnInterfaceMethod, Another, Instruction}
-use Rattle.dj_model.specs.Opcodes.{instruction_of, member, member_does, field_rows, method_rows, interface_method_rows, interface_call, class_use}
-use Rattle.dj_model.specs.Program as programs
-use Rattle.dj_model.specs.Program.{Program, class_at}
-use Rattle.dj_model.specs.Linking.{member_class}
-use Rattle.dj_model.specs.Numbers.{agrees}
+use Rattle.dj_pool.specs.trusted.Pool.{Constant, Class, Field, Method, InterfaceMethod, constant_at, text_at, IsClassText, IsPool}
+use Rattle.dj_model.specs.trusted.Types.{Member, initialiser_name, string_name}
+use Rattle.dj_model.specs.trusted.Instructions.{Named, Nothing, AClass, AField, AMethod, AnInterfaceMethod, Another, Instruction}
+use Rattle.dj_model.specs.trusted.Opcodes.{instruction_of, member, member_does, field_rows, method_rows, interface_method_rows, interface_call, class_use}
+use Rattle.dj_model.specs.trusted.Program as programs
+use Rattle.dj_model.specs.trusted.Program.{Program, class_at}
+use Rattle.dj_model.specs.trusted.Linking.{member_class}
+use Rattle.dj_model.specs.trusted.Numbers.{agrees}
 use Rattle.dj_model.specs.Sound.{is_class_of, is_field_linked, is_method_linked, is_linked, is_caught}
 use Rattle.dj_model.proofs.MappedNames.{either}
-use Rattle.dj_declared.specs.Files.{type_in, name_in}
-use Rattle.dj_declared.specs.Members.{has_method_named}
+use Rattle.dj_declared.specs.trusted.Files.{type_in, name_in}
+use Rattle.dj_declared.specs.trusted.Members.{has_method_named}
 use Rattle.dj_classes.proofs.Orders.{names_from_same}
-use Rattle.dj_link.specs.Named.{named_type, class_of_type, is_static_found, NamesNoClass}
-use Rattle.dj_link.specs.Foreign.{IsOfLibrary, IsForeign, NamesUnmakeable}
-use Rattle.dj_link.specs.Unlinked.{asks_static, differ, IsUnlinkedMember, IsAbstractType, NamesAbstract, IsUnlinkedType, IsUnlinkedConstant, IsUnlinked, is_class, IsUnlinkedCatch}
-use Rattle.dj_program.specs.Naming.{named_by, named_at, named_or_another, instruction_in, member_in}
-use Rattle.dj_program.specs.Codes.{catches_in}
+use Rattle.dj_link.specs.trusted.Named.{named_type, class_of_type, is_static_found, NamesNoClass}
+use Rattle.dj_link.specs.trusted.Foreign.{IsOfLibrary, IsForeign, NamesUnmakeable}
+use Rattle.dj_link.specs.trusted.Unlinked.{asks_static, differ, IsUnlinkedMember, IsAbstractType, NamesAbstract, IsUnlinkedType, IsUnlinkedConstant, IsUnlinked, is_class, IsUnlinkedCatch}
+use Rattle.dj_program.specs.trusted.Naming.{named_by, named_at, named_or_another, instruction_in, member_in}
+use Rattle.dj_program.specs.trusted.Codes.{catches_in}
 use Rattle.dj_sound.proofs.Tests.{is_true, is_false, text_or}
 use Rattle.dj_sound.proofs.Forms.{IsOther, IsFine, plain_fine}
 use Rattle.dj_sound.proofs.Operands.{Sees, there, positive, IsClassType, class_typed, type_there, field_static, method_static, IsMemberOf, Nothing, Something, field_names, method_names, interface_names, class_named}

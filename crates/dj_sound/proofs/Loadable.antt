@@ -2,17 +2,17 @@
 use Rattle.std.proofs.Common.{◌≡◌, ℕ, zero, suc, ◌⊎◌, Bool, true, false, List, [], ◌∷◌, ◌++◌, map, Option, Some, None, Contains, refl, sym, ap, ◌∙◌, subst, inl, inr}
 use Rattle.std.specs.Prelude.{is_some, if◌then◌else◌, IsSomeAnd}
 use Rattle.std.specs.List.{list_all}
-use Rattle.dj_edge.specs.Held.{File}
-use Rattle.dj_names.specs.Types.{Name, same_name}
-use Rattle.dj_names.specs.Library.{Library, deterministic_library, raw_library}
-use Rattle.dj_class.specs.ClassFile.{ClassFile}
-use Rattle.dj_library.specs.Heads.{Head, library_heads}
-use Rattle.dj_report.specs.Lines.{file_line}
-use Rattle.dj_hierarchy.specs.Hierarchy.{IsMissing, IsBadSuperclass, ViolatesHierarchy}
-use Rattle.dj_model.specs.Program.{Class, class_at}
-use Rattle.dj_model.specs.Linking.{option_list}
-use Rattle.dj_check.specs.Heads.{head_of, StandsAmong}
-use Rattle.dj_declared.specs.Files.{declared_class}
+use Rattle.dj_edge.specs.trusted.Held.{File}
+use Rattle.dj_names.specs.trusted.Types.{Name, same_name}
+use Rattle.dj_names.specs.trusted.Library.{Library, deterministic_library, raw_library}
+use Rattle.dj_class.specs.trusted.ClassFile.{ClassFile}
+use Rattle.dj_library.specs.trusted.Heads.{Head, library_heads}
+use Rattle.dj_report.specs.trusted.Lines.{file_line}
+use Rattle.dj_hierarchy.specs.trusted.Hierarchy.{IsMissing, IsBadSuperclass, ViolatesHierarchy}
+use Rattle.dj_model.specs.trusted.Program.{Class, class_at}
+use Rattle.dj_model.specs.trusted.Linking.{option_list}
+use Rattle.dj_check.specs.trusted.Heads.{head_of, StandsAmong}
+use Rattle.dj_declared.specs.trusted.Files.{declared_class}
 use Rattle.dj_classes.proofs.Orders.{same_from_names}
 use Rattle.dj_loader.specs.Loads.{all_classes, above_names, StandsUnder, LacksAbove, StandsBelow, IsOwnAncestor, IsLoadable}
 use Rattle.dj_loader.proofs.Lists.{member_none, member_cases, member_front, member_back, member_of_either, member_mapped, of_map}
@@ -160,6 +160,6 @@ are_loadable = record {
   raw = loadable raw_library raw_alike raw_closed (raw_alike ∙ deterministic_heads);
 }
 
--- those of files that were judged with the library whose host answers load with it
+-- those of files that were judged with the raw library load with it
 pub raw_loadable : (files : List File) (classes : List ClassFile) → IsAcceptedBy raw_library files classes → IsLoadable (all_classes raw_library classes)
 raw_loadable = loadable raw_library raw_alike raw_closed (raw_alike ∙ deterministic_heads)

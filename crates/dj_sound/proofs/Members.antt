@@ -2,25 +2,26 @@
 use Rattle.std.proofs.Common.{◌≡◌, ℕ, zero, suc, ◌<◌, Bool, true, false, ◌&&◌, List, [], ◌∷◌, map, Some, Contains, refl, sym, ap, ◌∙◌, subst, inl, inr, arith, IsTrue}
 use Rattle.std.specs.Prelude.{slice_get}
 use Rattle.std.specs.List.{list_any}
-use Rattle.dj_edge.specs.Held.{File}
-use Rattle.dj_names.specs.Types.{Name, same_name, same_desc}
-use Rattle.dj_names.specs.Library.{Library, deterministic_library, raw_library}
-use Rattle.dj_pool.specs.Pool.{Constant, text_at}
-use Rattle.dj_class.specs.ClassFile.{MemberInfo, ClassFile, IsMember, IsField, IsMethod}
-use Rattle.dj_names.specs.Descriptors.{IsFieldDescriptor, IsMethodDescriptor}
+use Rattle.dj_edge.specs.trusted.Held.{File}
+use Rattle.dj_names.specs.trusted.Types.{Name, same_name, same_desc}
+use Rattle.dj_names.specs.trusted.Library.{Library, deterministic_library, raw_library}
+use Rattle.dj_pool.specs.trusted.Pool.{Constant, text_at}
+use Rattle.dj_class.specs.trusted.ClassFile.{MemberInfo, ClassFile, IsMember, IsField, IsMethod}
+use Rattle.dj_names.specs.trusted.Descriptors.{IsFieldDescriptor, IsMethodDescriptor}
 use Rattle.dj_names.specs.declared.descriptor.Desc.TheVariants as descs
-use Rattle.dj_report.specs.Lines.{file_line}
-use Rattle.dj_model.specs.Program.{Class, Method, Field, is_named}
-use Rattle.dj_model.specs.Libraries.{library_class, library_program, metered_program, raw_program}
+use Rattle.dj_report.specs.trusted.Lines.{file_line}
+use Rattle.dj_model.specs.trusted.Program.{Class, Method, Field, is_named}
+use Rattle.dj_model.specs.trusted.Libraries.{library_class, library_program}
+use Rattle.dj_model.specs.Libraries.{metered_program, raw_program}
 use Rattle.dj_model.specs.Sound.{fields_differ, methods_differ, IsSound}
 use Rattle.dj_model.proofs.SoundPrograms.{libraries_are_sound}
-use Rattle.dj_check.specs.Heads.{HasRepeats}
-use Rattle.dj_declared.specs.Files.{name_in, desc_in, declared_method}
+use Rattle.dj_check.specs.trusted.Heads.{HasRepeats}
+use Rattle.dj_declared.specs.trusted.Files.{name_in, desc_in, declared_method}
 use Rattle.dj_declared.specs.Members.{IsDescriptor}
 use Rattle.dj_declared.proofs.DescTests.{same_name_is, is_descriptor, same_texts}
 use Rattle.dj_classes.proofs.Rising.{members_joined}
 use Rattle.dj_loader.proofs.Lists.{some_of_map, member_mapped}
-use Rattle.dj_program.specs.Programs.{AreSideBySide, IsMethodIn, field_in_file}
+use Rattle.dj_program.specs.trusted.Programs.{AreSideBySide, IsMethodIn, field_in_file}
 use Rattle.dj_sound.specs.Accepted.{IsAcceptedBy, OfAcceptedBy}
 use Rattle.dj_sound.specs.Laws.{HasApartMembers, MembersDiffer}
 use Rattle.dj_sound.proofs.Tests.{text_or, some_and, each_at}

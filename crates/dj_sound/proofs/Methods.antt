@@ -3,45 +3,46 @@ use Rattle.std.proofs.Common.{◌≡◌, ℕ, ◌⊎◌, Bool, true, false, not,
 use Rattle.std.specs.Prelude.{IsSomeAnd}
 use Rattle.std.specs.List.{list_all}
 use Rattle.std.proofs.lemmas.Option.{slice_get_within}
-use Rattle.dj_edge.specs.Held.{File}
-use Rattle.dj_names.specs.Types.{same_name}
-use Rattle.dj_names.specs.Library.{Library, deterministic_library, raw_library}
-use Rattle.dj_names.specs.Descriptors.{IsMethodDescriptor}
+use Rattle.dj_edge.specs.trusted.Held.{File}
+use Rattle.dj_names.specs.trusted.Types.{same_name}
+use Rattle.dj_names.specs.trusted.Library.{Library, deterministic_library, raw_library}
+use Rattle.dj_names.specs.trusted.Descriptors.{IsMethodDescriptor}
 use Rattle.dj_ops.specs.declared.instruction.Instr.{Instr}
 use Rattle.dj_labels.specs.declared.labelled.Protected.{Protected}
-use Rattle.dj_pool.specs.Pool.{Constant, text_at}
-use Rattle.dj_class.specs.ClassFile.{MemberInfo, ClassFile, IsMethod}
+use Rattle.dj_pool.specs.trusted.Pool.{Constant, text_at}
+use Rattle.dj_class.specs.trusted.ClassFile.{MemberInfo, ClassFile, IsMethod}
 use Rattle.dj_report.specs.declared.report.Violation.{Violation}
-use Rattle.dj_report.specs.Lines.{member_line}
-use Rattle.dj_rules.specs.Violations.{member_text, this_name, IsNative, IsFinalizer}
-use Rattle.dj_model.specs.Types.{string_name}
-use Rattle.dj_model.specs.Instructions.{Instruction, Other}
-use Rattle.dj_model.specs.Program.{Program, Class, Method, Code, Range, is_static}
-use Rattle.dj_model.specs.Kinds.{Signature, Kinds, signature_of, Map, Read, Faulty, NoMap, map_of}
-use Rattle.dj_model.specs.Shape.{HasShape, AllHold, after}
+use Rattle.dj_report.specs.trusted.Lines.{member_line}
+use Rattle.dj_rules.specs.trusted.Violations.{member_text, this_name, IsNative, IsFinalizer}
+use Rattle.dj_model.specs.trusted.Types.{string_name}
+use Rattle.dj_model.specs.trusted.Instructions.{Instruction, Other}
+use Rattle.dj_model.specs.trusted.Program.{Program, Class, Method, Code, Range, is_static}
+use Rattle.dj_model.specs.trusted.Kinds.{Signature, Kinds, signature_of, Map, Read, Faulty, NoMap, map_of}
+use Rattle.dj_model.specs.trusted.Shape.{after}
+use Rattle.dj_model.specs.Shape.{HasShape, AllHold}
 use Rattle.dj_model.specs.Sound.{is_linked, is_caught, IsSoundCode}
 use Rattle.dj_model.proofs.Shapes.{shape_or_fault}
 use Rattle.dj_model.proofs.SoundLinks.{class_contained}
-use Rattle.dj_check.specs.Malformed.{IsGood}
-use Rattle.dj_check.specs.Methods.{InstrViolates, CatchesError, MethodViolates}
-use Rattle.dj_check.specs.Rules.{line_at}
-use Rattle.dj_check.specs.Floats.{HasFloat}
-use Rattle.dj_declared.specs.Files.{name_in, desc_in, declared_class}
-use Rattle.dj_declared.specs.Members.{has_method_named}
-use Rattle.dj_classes.specs.Tables.{declared_program}
+use Rattle.dj_check.specs.trusted.Malformed.{IsGood}
+use Rattle.dj_check.specs.trusted.Methods.{InstrViolates, CatchesError, MethodViolates}
+use Rattle.dj_check.specs.trusted.Rules.{line_at}
+use Rattle.dj_check.specs.trusted.Floats.{HasFloat}
+use Rattle.dj_declared.specs.trusted.Files.{name_in, desc_in, declared_class}
+use Rattle.dj_declared.specs.trusted.Members.{has_method_named}
+use Rattle.dj_classes.specs.trusted.Tables.{declared_program}
 use Rattle.dj_classes.proofs.Orders.{same_from_names}
 use Rattle.dj_classes.proofs.Joins.{declared_program-joined}
 use Rattle.dj_classes.proofs.Rising.{members_joined}
 use Rattle.dj_loader.proofs.Lists.{member_first, member_later, member_none, member_cases, member_of_either, some_of_map, of_map, place_of_member}
-use Rattle.dj_link.specs.Foreign.{IsForeign}
-use Rattle.dj_link.specs.Unlinked.{IsUnlinked, IsUnlinkedCatch}
-use Rattle.dj_link.specs.Lines.{LinkViolates, CatchViolates, MethodLinkViolates}
-use Rattle.dj_shape.specs.Rule.{LacksShape}
-use Rattle.dj_judge.specs.Lines.{IsLinkedLine}
-use Rattle.dj_program.specs.Naming.{instruction_in}
-use Rattle.dj_program.specs.Codes.{CodeParts, range_in, code_in, IsMethodCode}
-use Rattle.dj_program.specs.Programs.{IsMethodIn}
-use Rattle.dj_sandbox.specs.Checked.{AreGoodFiles}
+use Rattle.dj_link.specs.trusted.Foreign.{IsForeign}
+use Rattle.dj_link.specs.trusted.Unlinked.{IsUnlinked, IsUnlinkedCatch}
+use Rattle.dj_link.specs.trusted.Lines.{LinkViolates, CatchViolates, MethodLinkViolates}
+use Rattle.dj_shape.specs.trusted.Rule.{LacksShape}
+use Rattle.dj_judge.specs.trusted.Lines.{IsLinkedLine}
+use Rattle.dj_program.specs.trusted.Naming.{instruction_in}
+use Rattle.dj_program.specs.trusted.Codes.{CodeParts, range_in, code_in, IsMethodCode}
+use Rattle.dj_program.specs.trusted.Programs.{IsMethodIn}
+use Rattle.dj_sandbox.specs.trusted.Checked.{AreGoodFiles}
 use Rattle.dj_sandbox.proofs.NoDoubles.{is_of_java, reserved_breaks}
 use Rattle.dj_sound.specs.Accepted.{IsAcceptedBy}
 use Rattle.dj_sound.proofs.Origins.{rows_of, IsOfFile, no_line, holds_hierarchy}

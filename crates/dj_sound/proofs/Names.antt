@@ -3,21 +3,23 @@ use Rattle.std.proofs.Common.{◌≡◌, ℕ, List, [], ◌∷◌, ◌++◌, map
 use Rattle.std.specs.Prelude.{slice_get}
 use Rattle.std.proofs.lemmas.List.{map-append}
 use Rattle.std.proofs.lemmas.Option.{slice_get-map}
-use Rattle.dj_edge.specs.Held.{File}
-use Rattle.dj_names.specs.Types.{Name}
-use Rattle.dj_names.specs.Library.{Library, deterministic_library, raw_library}
-use Rattle.dj_class.specs.ClassFile.{ClassFile}
-use Rattle.dj_library.specs.Heads.{Head}
-use Rattle.dj_model.specs.Program.{Program, Class}
-use Rattle.dj_model.specs.Libraries.{is_name_before}
+use Rattle.dj_edge.specs.trusted.Held.{File}
+use Rattle.dj_names.specs.trusted.Types.{Name}
+use Rattle.dj_names.specs.trusted.Library.{Library, deterministic_library, raw_library}
+use Rattle.dj_class.specs.trusted.ClassFile.{ClassFile}
+use Rattle.dj_library.specs.trusted.Heads.{Head}
+use Rattle.dj_model.specs.trusted.Program.{Program, Class}
+use Rattle.dj_model.specs.trusted.Libraries.{is_name_before}
 use Rattle.dj_model.specs.Sound.{names_rise}
-use Rattle.dj_declared.specs.Files.{declared_class, bare_class}
-use Rattle.dj_classes.specs.Tables.{name_of, name_at, IsShared, declared_program}
-use Rattle.dj_classes.specs.Rows.{RiseStrictly}
+use Rattle.dj_declared.specs.trusted.Files.{declared_class}
+use Rattle.dj_declared.specs.Files.{bare_class}
+use Rattle.dj_classes.specs.trusted.Tables.{declared_program}
+use Rattle.dj_classes.specs.Tables.{name_of, name_at, IsShared}
+use Rattle.dj_classes.specs.ClassRows.{RiseStrictly}
 use Rattle.dj_classes.proofs.Orders.{names_rise-from_rise, rise-from_names_rise}
 use Rattle.dj_classes.proofs.Joins.{declared_program-joined}
 use Rattle.dj_classes.proofs.Rising.{differ_from_none_shared, rise_joined}
-use Rattle.dj_sandbox.specs.Checked.{AreGoodFiles, HoldsHierarchy}
+use Rattle.dj_sandbox.specs.trusted.Checked.{AreGoodFiles, HoldsHierarchy}
 use Rattle.dj_sandbox.proofs.NoDoubles.{no_name_twice}
 use Rattle.dj_sound.specs.Accepted.{OfAcceptedBy}
 use Rattle.dj_sound.specs.Laws.{HasRisingNames, NamesRise}

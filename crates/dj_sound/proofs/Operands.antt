@@ -6,21 +6,22 @@ use Rattle.std.proofs.lemmas.Bool.Decides.{nat_tests}
 use Rattle.dj_names.specs.declared.descriptor.Of.{Of}
 use Rattle.dj_names.specs.declared.descriptor.Of.TheVariants as ofs
 use Rattle.dj_names.specs.declared.descriptor.Ty.{Ty}
-use Rattle.dj_names.specs.Types.{Name, class_type}
-use Rattle.dj_pool.specs.Pool.{Constant, Class, Field, Method, InterfaceMethod, constant_at, text_at, class_text_of, class_name_at, name_and_type_at, both, IsClassText, NamesText, IsLinked, IsPool}
-use Rattle.dj_model.specs.Types.{Member}
-use Rattle.dj_model.specs.Program as programs
-use Rattle.dj_model.specs.Program.{Program, class_at, is_static}
-use Rattle.dj_model.specs.Linking.{FoundField, FoundMethod, resolve_field, resolve_method, class_or_object}
-use Rattle.dj_model.specs.Numbers.{agrees}
+use Rattle.dj_names.specs.trusted.Types.{Name, class_type}
+use Rattle.dj_pool.specs.trusted.Pool.{Constant, Class, Field, Method, InterfaceMethod, constant_at, text_at, class_text_of, class_name_at, name_and_type_at, both, IsClassText, NamesText, IsLinked, IsPool}
+use Rattle.dj_model.specs.trusted.Types.{Member}
+use Rattle.dj_model.specs.trusted.Program as programs
+use Rattle.dj_model.specs.trusted.Program.{Program, class_at, is_static}
+use Rattle.dj_model.specs.trusted.Linking.{FoundField, FoundMethod, resolve_field, resolve_method, class_or_object}
+use Rattle.dj_model.specs.trusted.Numbers.{agrees}
 use Rattle.dj_model.specs.Sound.{is_there, is_class_of, is_field_found, is_method_found}
-use Rattle.dj_check.specs.Classes.{names_at}
-use Rattle.dj_declared.specs.Files.{type_in, bare_class}
-use Rattle.dj_link.specs.Named.{named_type, class_of_type, member_of, named_member, is_static_field, is_static_method}
+use Rattle.dj_check.specs.trusted.Classes.{names_at}
+use Rattle.dj_declared.specs.trusted.Files.{type_in}
+use Rattle.dj_declared.specs.Files.{bare_class}
+use Rattle.dj_link.specs.trusted.Named.{named_type, class_of_type, member_of, named_member, is_static_field, is_static_method}
 use Rattle.dj_image.proofs.Bare.{bare_program, bare_found, bare_found_field, class_bare, resolve_method_bare, resolve_field_bare}
 use Rattle.dj_image.proofs.ClassTexts.{name_type, array_type}
 use Rattle.dj_image.proofs.Links.{linked_index}
-use Rattle.dj_program.specs.Naming.{member_from, member_in}
+use Rattle.dj_program.specs.trusted.Naming.{member_from, member_in}
 
 pub there : {A : Type 0} (o : Option A) → (o ≡ None → ⊥) → (x : A) × (o ≡ Some x)
 there None some = absurd (some refl)

@@ -1,20 +1,20 @@
 -- Where the classes of a program come from: from class files without rule 1, or from a library with the heads of the deterministic one.
 use Rattle.std.proofs.Common.{◌≡◌, ◌⊎◌, List, [], ◌∷◌, ◌++◌, map, Contains, refl, sym, ◌∙◌, subst, inl, inr}
-use Rattle.dj_edge.specs.Held.{File}
-use Rattle.dj_names.specs.Library.{Library, LibraryClass, deterministic_library, raw_library}
-use Rattle.dj_class.specs.ClassFile.{ClassFile}
-use Rattle.dj_library.specs.Heads.{Head}
-use Rattle.dj_model.specs.Program.{Program, Class}
-use Rattle.dj_model.specs.Libraries.{library_class, joined}
-use Rattle.dj_check.specs.Malformed.{IsGood}
+use Rattle.dj_edge.specs.trusted.Held.{File}
+use Rattle.dj_names.specs.trusted.Library.{Library, LibraryClass, deterministic_library, raw_library}
+use Rattle.dj_class.specs.trusted.ClassFile.{ClassFile}
+use Rattle.dj_library.specs.trusted.Heads.{Head}
+use Rattle.dj_model.specs.trusted.Program.{Program, Class}
+use Rattle.dj_model.specs.trusted.Libraries.{library_class, joined}
+use Rattle.dj_check.specs.trusted.Malformed.{IsGood}
 use Rattle.dj_declared.specs.Files.{bare_class}
-use Rattle.dj_classes.specs.Tables.{declared_program}
+use Rattle.dj_classes.specs.trusted.Tables.{declared_program}
 use Rattle.dj_classes.proofs.Joins.{joined-append}
 use Rattle.dj_classes.proofs.Rising.{members_joined}
 use Rattle.dj_loader.proofs.Lists.{member_first, member_later, member_none, member_cases, member_back, member_of_either, of_map}
-use Rattle.dj_program.specs.Programs.{AreSideBySide, IsClassIn, IsProgramIn}
+use Rattle.dj_program.specs.trusted.Programs.{AreSideBySide, IsClassIn, IsProgramIn}
 use Rattle.dj_program.proofs.Bare.{bare_is}
-use Rattle.dj_sandbox.specs.Checked.{AreGoodFiles, HoldsHierarchy, IsLineBy}
+use Rattle.dj_sandbox.specs.trusted.Checked.{AreGoodFiles, HoldsHierarchy, IsLineBy}
 use Rattle.dj_report.specs.declared.report.Violation.{Violation}
 use Rattle.dj_sound.specs.Accepted.{IsAcceptedBy}
 

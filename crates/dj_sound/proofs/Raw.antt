@@ -5,28 +5,29 @@ use Rattle.std.specs.Option.{option_map}
 use Rattle.std.specs.List.{list_all, flat_map}
 use Rattle.std.proofs.lemmas.List.{map-append}
 use Rattle.std.proofs.lemmas.Option.{same_Some}
-use Rattle.dj_edge.specs.Held.{File}
+use Rattle.dj_edge.specs.trusted.Held.{File}
 use Rattle.dj_names.specs.declared.descriptor.Desc.{Desc}
 use Rattle.dj_names.specs.declared.native.NativeId.TheVariants as natives
-use Rattle.dj_names.specs.Types.{Name, same_name}
-use Rattle.dj_names.specs.Library.{deterministic_library, raw_library, object_row, system_row, clocks}
-use Rattle.dj_class.specs.ClassFile.{ClassFile}
-use Rattle.dj_library.specs.Heads.{Head, library_heads}
-use Rattle.dj_model.specs.Types.{Member, object_name}
-use Rattle.dj_model.specs.Program.{Program, Class, Method, class_at, superclass_of, interfaces_of, flags_of, is_interface, is_named, method_in, method_of, is_static}
-use Rattle.dj_model.specs.Linking.{most_classes, chain_of, chain, interfaces_from, interfaces_above, is_among, FoundMethod, method_or, first_method, any_method, is_plain, member_class, method_chain, or_else, resolve_method}
-use Rattle.dj_model.specs.Libraries.{library_method, library_class, joined}
+use Rattle.dj_names.specs.trusted.Types.{Name, same_name}
+use Rattle.dj_names.specs.trusted.Library.{deterministic_library, raw_library, object_row, system_row, clocks}
+use Rattle.dj_class.specs.trusted.ClassFile.{ClassFile}
+use Rattle.dj_library.specs.trusted.Heads.{Head, library_heads}
+use Rattle.dj_model.specs.trusted.Types.{Member, object_name}
+use Rattle.dj_model.specs.trusted.Program.{Program, Class, Method, class_at, superclass_of, interfaces_of, flags_of, is_interface, is_named, method_in, method_of, is_static}
+use Rattle.dj_model.specs.trusted.Linking.{most_classes, chain_of, chain, interfaces_from, interfaces_above, is_among, FoundMethod, method_or, first_method, any_method, is_plain, member_class, method_chain, or_else, resolve_method}
+use Rattle.dj_model.specs.trusted.Libraries.{library_method, library_class, joined}
 use Rattle.dj_model.proofs.MappedNames.{either}
 use Rattle.dj_model.proofs.SoundLinks.{class_contained, method_contained}
-use Rattle.dj_declared.specs.Files.{declared_class, bare_class}
-use Rattle.dj_classes.specs.Rows.{RiseStrictly}
+use Rattle.dj_declared.specs.trusted.Files.{declared_class}
+use Rattle.dj_declared.specs.Files.{bare_class}
+use Rattle.dj_classes.specs.ClassRows.{RiseStrictly}
 use Rattle.dj_classes.proofs.Orders.{names_from_same, same_from_names}
 use Rattle.dj_classes.proofs.Joins.{declared_program-joined}
 use Rattle.dj_classes.proofs.Rising.{members_joined}
-use Rattle.dj_link.specs.Named.{is_static_field, is_static_method}
+use Rattle.dj_link.specs.trusted.Named.{is_static_field, is_static_method}
 use Rattle.dj_loader.proofs.Lists.{member_first, member_later, member_none, member_cases, member_back, member_mapped, of_map}
 use Rattle.dj_loader.proofs.Filled.{mapped_joined}
-use Rattle.dj_program.specs.Programs.{IsProgramIn}
+use Rattle.dj_program.specs.trusted.Programs.{IsProgramIn}
 use Rattle.dj_sandbox.proofs.NoDoubles.{is_of_java}
 use Rattle.dj_sound.specs.Accepted.{IsAccepted}
 use Rattle.dj_sound.proofs.Tests.{all_at}

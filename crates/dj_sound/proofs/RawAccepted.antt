@@ -1,25 +1,27 @@
--- Files of which nothing is violated that is judged of a run with the library whose host answers.
+-- Files of which nothing is violated that is judged of a run with the raw library.
 use Rattle.std.proofs.Common.{◌≡◌, Bool, true, false, ◌&&◌, List, [], ◌∷◌, ◌++◌, map, Option, Some, None, codes, refl, sym, ap, ◌∙◌, inl, inr}
 use Rattle.std.specs.Option.{option_map}
-use Rattle.dj_edge.specs.Held.{File}
+use Rattle.dj_edge.specs.trusted.Held.{File}
 use Rattle.dj_names.specs.declared.descriptor.Desc.{Desc}
 use Rattle.dj_names.specs.declared.descriptor.Kind.TheVariants as kinds
-use Rattle.dj_names.specs.Types.{Name}
-use Rattle.dj_names.specs.Library.{raw_library}
-use Rattle.dj_class.specs.ClassFile.{ClassFile}
+use Rattle.dj_names.specs.trusted.Types.{Name}
+use Rattle.dj_names.specs.trusted.Library.{raw_library}
+use Rattle.dj_class.specs.trusted.ClassFile.{ClassFile}
 use Rattle.dj_report.specs.declared.report.Violation.{Violation}
-use Rattle.dj_report.specs.Lines.{file_line}
-use Rattle.dj_model.specs.Program.{Program, Class, Method, Body, Abstract, Native, Runs, class_at, method_in, method_of, method_at, body_map, has_code, is_static, is_named, runs_static}
-use Rattle.dj_model.specs.Kinds.{Signature, signature_of}
+use Rattle.dj_report.specs.trusted.Lines.{file_line}
+use Rattle.dj_model.specs.trusted.Program.{Program, Class, Method, Body, Abstract, Native, Runs, class_at, method_in, method_of, method_at, has_code, is_static, is_named, runs_static}
+use Rattle.dj_model.specs.Program.{body_map}
+use Rattle.dj_model.specs.trusted.Kinds.{Signature, signature_of}
 use Rattle.dj_model.specs.Standing.{IsEntry}
 use Rattle.dj_model.proofs.MappedNames.{either}
 use Rattle.dj_model.proofs.SoundLinks.{method_contained}
-use Rattle.dj_declared.specs.Files.{no_code, bare_method, bare_class}
-use Rattle.dj_classes.specs.Tables.{declared_program}
+use Rattle.dj_declared.specs.trusted.Files.{no_code}
+use Rattle.dj_declared.specs.Files.{bare_method, bare_class}
+use Rattle.dj_classes.specs.trusted.Tables.{declared_program}
 use Rattle.dj_image.proofs.Bare.{class_bare}
 use Rattle.dj_loader.proofs.Lists.{member_none}
-use Rattle.dj_sandbox.specs.Checked.{AreGoodFiles, HoldsHierarchy, IsLineBy}
-use Rattle.dj_sandbox.specs.RawRules.{entry_desc, entry_of, runs_entry, AreRawViolations}
+use Rattle.dj_sandbox.specs.trusted.Checked.{AreGoodFiles, HoldsHierarchy, IsLineBy}
+use Rattle.dj_sandbox.specs.trusted.RawRules.{entry_desc, entry_of, runs_entry, AreRawViolations}
 use Rattle.dj_sound.specs.Accepted.{IsAcceptedBy, IsRawAccepted}
 use Rattle.dj_sound.specs.Laws.{AreRawAccepted, HaveRawClassFiles}
 use Rattle.dj_sound.proofs.Origins.{bare}

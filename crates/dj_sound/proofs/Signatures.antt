@@ -7,11 +7,11 @@ use Rattle.dj_names.specs.declared.descriptor.Of.TheVariants as ofs
 use Rattle.dj_names.specs.declared.descriptor.Ty.{Ty}
 use Rattle.dj_names.specs.declared.descriptor.Desc.TheVariants as descs
 use Rattle.dj_names.specs.declared.descriptor.Kind.{Kind}
-use Rattle.dj_names.specs.Descriptors.{Describes, type_kind}
-use Rattle.dj_model.specs.Kinds.{Signature, call_signature, with_receiver, signature_of}
-use Rattle.dj_model.specs.Members.{kinds_of, with_kind}
-use Rattle.dj_check.specs.Floats.{IsFloating, HasFloating, HasFloat}
-use Rattle.dj_declared.specs.Files.{desc_in}
+use Rattle.dj_names.specs.trusted.Descriptors.{Describes, type_kind}
+use Rattle.dj_model.specs.trusted.Kinds.{Signature, call_signature, with_receiver, signature_of}
+use Rattle.dj_model.specs.trusted.Members.{kinds_of, with_kind}
+use Rattle.dj_check.specs.trusted.Floats.{IsFloating, HasFloating, HasFloat}
+use Rattle.dj_declared.specs.trusted.Files.{desc_in}
 use Rattle.dj_declared.proofs.DescTests.{desc_in_is}
 use Rattle.dj_loader.proofs.Lists.{member_first, member_later}
 

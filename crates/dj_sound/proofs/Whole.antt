@@ -1,15 +1,15 @@
 -- The programs of accepted files and a library are sound.
 use Rattle.std.proofs.Common.{◌≡◌, List, [], Option, Some, None, Contains, sym, ap, subst, inl, inr}
-use Rattle.dj_edge.specs.Held.{File}
-use Rattle.dj_names.specs.Library.{Library, deterministic_library, raw_library}
+use Rattle.dj_edge.specs.trusted.Held.{File}
+use Rattle.dj_names.specs.trusted.Library.{Library, deterministic_library, raw_library}
 use Rattle.dj_names.specs.declared.native.NativeId.{NativeId}
-use Rattle.dj_class.specs.ClassFile.{ClassFile}
-use Rattle.dj_model.specs.Program.{Program, Class, Method}
-use Rattle.dj_model.specs.Libraries.{library_body, library_method, library_program}
+use Rattle.dj_class.specs.trusted.ClassFile.{ClassFile}
+use Rattle.dj_model.specs.trusted.Program.{Program, Class, Method}
+use Rattle.dj_model.specs.trusted.Libraries.{library_body, library_method, library_program}
 use Rattle.dj_model.specs.Sound.{IsProgram, IsSoundBody, IsSoundClass, IsSound}
 use Rattle.dj_loader.proofs.Lists.{of_map}
-use Rattle.dj_program.specs.Programs.{IsProgramIn}
-use Rattle.dj_classes.specs.Tables.{declared_program}
+use Rattle.dj_program.specs.trusted.Programs.{IsProgramIn}
+use Rattle.dj_classes.specs.trusted.Tables.{declared_program}
 use Rattle.dj_sound.specs.Accepted.{IsAcceptedBy, OfAcceptedBy}
 use Rattle.dj_sound.specs.Laws.{HasBodies, HaveBodies, IsSoundProgram, AcceptedIsSound}
 use Rattle.dj_sound.proofs.Origins.{IsAlike, deterministic_alike, raw_alike, IsOfFile, IsRow, origin, bare}
@@ -106,6 +106,6 @@ accepted_is_sound = record {
   raw = is_sound deterministic_hides raw_library raw_alike raw_sound raw_seen;
 }
 
--- where the rules judged with the library whose host answers
+-- where the rules judged with the raw library
 pub raw_accepted_is_sound : OfAcceptedBy raw_library raw_library IsSoundProgram
 raw_accepted_is_sound = is_sound raw_hides raw_library raw_alike raw_sound (own_seen raw_library)

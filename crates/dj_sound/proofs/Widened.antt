@@ -4,10 +4,10 @@ use Rattle.std.specs.Prelude.{if◌then◌else◌}
 use Rattle.std.specs.Option.{option_map}
 use Rattle.std.specs.List.{flat_map}
 use Rattle.dj_names.specs.declared.descriptor.Desc.{Desc}
-use Rattle.dj_names.specs.Types.{Name, same_name}
-use Rattle.dj_model.specs.Types.{Member}
-use Rattle.dj_model.specs.Program.{Program, Class, Method, class_at, superclass_of, interfaces_of, flags_of, method_of, field_of, is_private, is_static}
-use Rattle.dj_model.specs.Linking.{most_classes, option_list, chain_of, chain, interfaces_from, interfaces_above, FoundMethod, method_or, first_method, first_field, field_order, is_plain, member_class, method_chain, or_else, resolve_field}
+use Rattle.dj_names.specs.trusted.Types.{Name, same_name}
+use Rattle.dj_model.specs.trusted.Types.{Member}
+use Rattle.dj_model.specs.trusted.Program.{Program, Class, Method, class_at, superclass_of, interfaces_of, flags_of, method_of, field_of, is_private, is_static}
+use Rattle.dj_model.specs.trusted.Linking.{most_classes, option_list, chain_of, chain, interfaces_from, interfaces_above, FoundMethod, method_or, first_method, first_field, field_order, is_plain, member_class, method_chain, or_else, resolve_field}
 use Rattle.dj_model.proofs.MappedNames.{either}
 use Rattle.dj_loader.proofs.Lists.{member_first, member_later}
 

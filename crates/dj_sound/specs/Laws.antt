@@ -1,25 +1,27 @@
 -- What follows of accepted files and of their programs.
 use Rattle.std.specs.Prelude.{ℕ, ◌⊎◌, not, ◌||◌, List, [], Contains, IsTrue, IsSome}
 use Rattle.std.specs.List.{list_all, list_any}
-use Rattle.dj_edge.specs.Held.{File}
+use Rattle.dj_edge.specs.trusted.Held.{File}
 use Rattle.dj_edge.specs.declared.host.HostAnswer.{HostAnswer}
-use Rattle.dj_names.specs.Types.{Name, class_type}
-use Rattle.dj_names.specs.Library.{Library, deterministic_library, raw_library, sandbox_library}
+use Rattle.dj_names.specs.trusted.Types.{Name, class_type}
+use Rattle.dj_names.specs.trusted.Library.{Library, deterministic_library, raw_library}
+use Rattle.dj_names.specs.Library.{sandbox_library}
 use Rattle.dj_names.specs.declared.run.Thresholds.{Thresholds}
-use Rattle.dj_class.specs.ClassFile.{ClassFile}
+use Rattle.dj_class.specs.trusted.ClassFile.{ClassFile}
 use Rattle.dj_class.specs.Laws.{AreBytes}
-use Rattle.dj_model.specs.Program.{Program, Class, Method, is_interface}
-use Rattle.dj_model.specs.Libraries.{library_program}
-use Rattle.dj_model.specs.Types.{Declared, string_name, is_stop}
-use Rattle.dj_model.specs.State.{Terms}
-use Rattle.dj_model.specs.Runs.{metered_run, plain_run}
+use Rattle.dj_model.specs.trusted.Program.{Program, Class, Method, is_interface}
+use Rattle.dj_model.specs.trusted.Libraries.{library_program}
+use Rattle.dj_model.specs.trusted.Types.{Declared, string_name, is_stop}
+use Rattle.dj_model.specs.trusted.State.{Terms}
+use Rattle.dj_model.specs.trusted.Runs.{plain_run}
+use Rattle.dj_model.specs.Runs.{metered_run}
 use Rattle.dj_model.specs.Standing.{AsksNothing, RunStands, IsEntry, Starves}
-use Rattle.dj_model.specs.Linking.{chain, superclasses, is_among}
+use Rattle.dj_model.specs.trusted.Linking.{chain, superclasses, is_among}
 use Rattle.dj_model.specs.Sound.{names_rise, fields_differ, methods_differ, Ends, is_interface_name, is_object_or_none, IsBody, is_sound_field, IsSoundBody, IsSound}
 use Rattle.dj_loader.specs.Loads.{all_classes, IsLoadable}
-use Rattle.dj_program.specs.Programs.{IsProgramIn}
-use Rattle.dj_sandbox.specs.Checked.{AreGoodFiles, AreCheckViolations}
-use Rattle.dj_sandbox.specs.RawRules.{entry_of, AreRawViolations}
+use Rattle.dj_program.specs.trusted.Programs.{IsProgramIn}
+use Rattle.dj_sandbox.specs.trusted.Checked.{AreGoodFiles, AreCheckViolations}
+use Rattle.dj_sandbox.specs.trusted.RawRules.{entry_of, AreRawViolations}
 use Rattle.dj_sound.specs.Accepted.{IsAcceptedBy, IsAccepted, IsRawAccepted, OfEither}
 
 -- each byte of each file is one
@@ -39,21 +41,21 @@ HasRisingNames program = IsTrue (names_rise program)
 abbrev pub NamesRise : Type 0
 NamesRise = OfEither HasRisingNames
 
--- no two fields and no two methods of a class have one name and one descriptor
+-- no two fields and no two methods of a class have the same name and the same descriptor
 abbrev pub HasApartMembers : Program → Type 0
 HasApartMembers program = (c : Class) → Contains program c → IsTrue (fields_differ c.fields) × IsTrue (methods_differ c.methods)
 
 abbrev pub MembersDiffer : Type 0
 MembersDiffer = OfEither HasApartMembers
 
--- upward from each class there is an end
+-- the way upward from each class ends
 abbrev pub HasEnds : Program → Type 0
 HasEnds program = (c : Class) → Contains program c → Ends program c.name
 
 abbrev pub HaveEnds : Type 0
 HaveEnds = OfEither HasEnds
 
--- what stands above a class: interfaces where it lists them, Object alone above an interface, and neither texts nor the object that stops a run
+-- what is above a class: interfaces where it lists them, Object alone above an interface, and neither texts nor the object that stops a run
 pub record HasHierarchy (program : Program) (c : Class) : Type 0 where
   pub interfaces : IsTrue (list_all (is_interface_name program) c.interfaces)
   pub above_interface : IsTrue (not (is_interface c.flags) || is_object_or_none [] c.superclass)
@@ -73,7 +75,7 @@ HasConstants program = (c : Class) → Contains program c → IsTrue (list_all i
 abbrev pub HaveConstants : Type 0
 HaveConstants = OfEither HasConstants
 
--- each method that has code has such as JVMS 4.9.1 asks: instructions, and targets, handlers, ranges and frames at some of them
+-- each method with code has code as JVMS 4.9.1 requires: instructions, and targets, handlers, ranges and frames at some of them
 abbrev pub HasCodes : Program → Type 0
 HasCodes program = (c : Class) → Contains program c → (m : Method) → Contains c.methods m → IsBody m.body
 
@@ -101,7 +103,7 @@ pub record AreLoadable : Type 0 where
   pub deterministic : (files : List File) (classes : List ClassFile) → IsAccepted files classes → IsLoadable (all_classes deterministic_library classes)
   pub raw : (files : List File) (classes : List ClassFile) → IsAccepted files classes → IsLoadable (all_classes raw_library classes)
 
--- files of which nothing is violated that is judged of a run with the library whose host answers
+-- files that violate no rule of `raw`
 abbrev pub AreRawAccepted : Type 0
 AreRawAccepted = (files : List File) (class : Name) (classes : List ClassFile) → AreGoodFiles files classes → AreRawViolations files class [] → IsRawAccepted files class classes
 
@@ -109,13 +111,13 @@ AreRawAccepted = (files : List File) (class : Name) (classes : List ClassFile) �
 abbrev pub HaveRawClassFiles : Type 0
 HaveRawClassFiles = (files : List File) (class : Name) → AreOfBytes files → AreRawViolations files class [] → (classes : List ClassFile) × IsRawAccepted files class classes
 
--- a plain run is reported, or an answer is lacking that the host doesn't give
+-- a plain run has a report, or an answer of the host is missing or of another kind
 abbrev pub IsReportedOrStarves : Program → Terms → Declared → List ℕ → List HostAnswer → ℕ → Type 0
 IsReportedOrStarves program terms entry input answers most =
     IsSome (plain_run program [] terms entry input answers most) ⊎ Starves program [] terms entry input answers most
 
--- no turn of a metered run is ill-formed, nor any step of a plain run, but for an answer that the host doesn't give: of files that `check` accepts, and of those that are accepted
--- where they are judged with the library whose host answers
+-- of files that `check` accepts, and of files that are accepted where they are judged with the raw library: no turn of a metered run is ill-formed, nor any
+-- step of a plain run, unless an answer of the host is missing or of another kind
 pub record RunsStand : Type 0 where
   pub metered : (files : List File) (classes : List ClassFile) (program : Program) → IsAccepted files classes → IsProgramIn deterministic_library classes program
       → (entry : Declared) (input : List ℕ) (most : Thresholds) (n : ℕ) → IsEntry program entry → RunStands program (metered_run program entry input most n)
@@ -125,12 +127,12 @@ pub record RunsStand : Type 0 where
   pub raw : (files : List File) (classes : List ClassFile) (program : Program) → IsAcceptedBy raw_library files classes → IsProgramIn raw_library classes program
       → (terms : Terms) (entry : Declared) (input : List ℕ) (answers : List HostAnswer) (most : ℕ) → IsEntry program entry
       → IsReportedOrStarves program terms entry input answers most
-  -- the entry of a class of which nothing is violated that is judged of its run is one
+  -- where no rule of `raw` is violated for a run of a class, its entry is one
   pub judged : (files : List File) (class : Name) (classes : List ClassFile) (program : Program) → AreGoodFiles files classes → AreRawViolations files class []
       → IsProgramIn raw_library classes program → (terms : Terms) (input : List ℕ) (answers : List HostAnswer) (most : ℕ)
       → IsReportedOrStarves program terms (entry_of class) input answers most
 
--- class files ask the host nothing: a program of them asks it what the library asks, and of the libraries only the one whose host answers asks anything
+-- class files ask the host nothing: a program of them asks it what the library asks, and of the libraries only the raw one asks anything
 pub record OthersAskNothing : Type 0 where
   pub any : (library : Library) (classes : List ClassFile) (program : Program) → AsksNothing (library_program library) → IsProgramIn library classes program → AsksNothing program
   pub deterministic : (classes : List ClassFile) (program : Program) → IsProgramIn deterministic_library classes program → AsksNothing program

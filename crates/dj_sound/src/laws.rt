@@ -5,7 +5,7 @@ pub fn have_class_files()
     ensures { HaveClassFiles }
 {}
 
-/// The classes of accepted files and of a library stand in the order of their names, each name once.
+/// The classes of accepted files and of a library are in the order of their names, each name once.
 #[tactic(auto, using(crate::proofs::Names::accepted_rise))]
 pub fn names_rise()
     ensures { NamesRise }
@@ -23,7 +23,7 @@ pub fn have_ends()
     ensures { HaveEnds }
 {}
 
-/// Listed interfaces are interfaces, Object alone stands above them, and no class stands below that of texts.
+/// Listed interfaces are interfaces, only Object is their superclass, and no class is below that of texts.
 #[tactic(auto, using(crate::proofs::Hierarchy::have_hierarchy))]
 pub fn have_hierarchy()
     ensures { HaveHierarchy }
@@ -41,7 +41,7 @@ pub fn have_codes()
     ensures { HaveCodes }
 {}
 
-/// Code has shape, and what its instructions and handlers name is there and is what they ask.
+/// Code has shape, and what its instructions and handlers name is there and is what they require.
 #[tactic(auto, using(crate::proofs::Whole::have_bodies))]
 pub fn have_bodies()
     ensures { HaveBodies }
@@ -59,7 +59,7 @@ pub fn are_loadable()
     ensures { AreLoadable }
 {}
 
-/// Files of which nothing is violated that is judged of a run with the library whose host answers: they load with it, and are a sound program that
+/// Files of which nothing is violated that is judged of a run with the raw library: they load with it, and are a sound program that
 /// has the entry.
 pub fn are_raw_accepted()
     ensures { AreRawAccepted }
@@ -70,7 +70,7 @@ pub fn have_raw_class_files()
     ensures { HaveRawClassFiles }
 {}
 
-/// A program of class files asks the host what its library asks, and of the libraries only the one whose host answers asks something.
+/// A program of class files asks the host what its library asks, and of the libraries only the raw one asks something.
 #[tactic(auto, using(crate::proofs::Asking::others_ask_nothing))]
 pub fn others_ask_nothing()
     ensures { OthersAskNothing }

@@ -1,4 +1,4 @@
-//! Laws: the programs of the files that `check` accepts are sound, and those of files that are judged with the library whose host answers.
+//! Laws: the programs of the files that `check` accepts are sound, and those of files that are judged with the raw library.
 #![tactic(auto)]
 
 mod laws;

@@ -2,17 +2,17 @@
 use Rattle.std.proofs.Common.{◌≡◌, ℕ, pos, true, List, [], ◌∷◌, ◌++◌, Some, codes, refl, sym, ap, ◌∙◌, subst, inl, arith}
 use Rattle.std.specs.List.{flat_map, AllByRecursion, AllZip}
 use Rattle.std.proofs.lemmas.Grind.{flat_map-append}
-use Rattle.dj_names.specs.Names.{IsClassName}
-use Rattle.dj_tokens.specs.Words.{Token, Word, LineEnd}
-use Rattle.dj_source.specs.Items.{Item, Says, SaysFlags, SaysCalled, SaysPlainNumber}
-use Rattle.dj_tokens.specs.Mnemonics.{mnemonics}
-use Rattle.dj_source.specs.Lines.{Line, Class, Super, Stack, Locals, Does, End, Plain, IsLine, IsSized}
-use Rattle.dj_source.specs.Sources.{Source, IsSizedSource, line_items, lines_of}
+use Rattle.dj_names.specs.trusted.Names.{IsClassName}
+use Rattle.dj_tokens.specs.trusted.Words.{Token, Word, LineEnd}
+use Rattle.dj_source.specs.trusted.Items.{Item, Says, SaysFlags, SaysCalled, SaysPlainNumber}
+use Rattle.dj_tokens.specs.trusted.Mnemonics.{mnemonics}
+use Rattle.dj_source.specs.trusted.Lines.{Line, Class, Super, Stack, Locals, Does, End, Plain, IsLine, IsSized}
+use Rattle.dj_source.specs.trusted.Sources.{Source, IsSizedSource, line_items, lines_of}
 use Rattle.dj_source.specs.Order.{State, AtClass, AtVersion, AtSuper, AtInterfaces, AtFields, AtMethods, AtStack, AtLocals, InBody, InFrame, run, is_final}
-use Rattle.dj_source.specs.Faults.{Begins}
+use Rattle.dj_source.specs.trusted.Faults.{Begins}
 use Rattle.dj_source.proofs.OrderLaws.{run_append}
 use Rattle.dj_source.proofs.OrderSources.{source_of}
-use Rattle.dj_ops.specs.Forms.{form_of}
+use Rattle.dj_ops.specs.trusted.Forms.{form_of}
 
 -- ---- lists
 

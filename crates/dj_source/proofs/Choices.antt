@@ -1,8 +1,8 @@
 -- Readers of one token, and of what a first token begins.
 use Rattle.std.proofs.Common.{◌≡◌, ◌↔◌, Bool, true, false, cond, List, [], ◌∷◌, ◌++◌, drop, Option, Some, None, refl, sym, ap, ◌∙◌, subst, true≢false}
 use Rattle.dj_bytes.proofs.Options.{some_is}
-use Rattle.dj_tokens.specs.Words.{Token, Placed}
-use Rattle.dj_source.specs.Items.{Item, Says}
+use Rattle.dj_tokens.specs.trusted.Words.{Token, Placed}
+use Rattle.dj_source.specs.trusted.Items.{Item, Says}
 use Rattle.dj_source.specs.Reading.{Read, Got, Wrong, Large, Reader, said_by, one, begun, choose}
 use Rattle.dj_source.proofs.Readers.{Lang, Said, Started, Allowed, GotFrom, and_on, WrongFrom, LargeFrom, ReadFrom, IsReader}
 
@@ -22,7 +22,7 @@ no_nil x xs e = absurd cc
 abbrev pub single : {A : Type 0} → (A → Item) → (A → Type 0) → (A → Type 0) → Lang A
 single item is fits = record { items = λ a. item a ∷ []; is = is; fits = fits }
 
--- a test on tokens tells what they say
+-- a test on tokens answers what they say
 pub record IsTold {A : Type 0} (item : A → Item) (is : A → Type 0) (says : Token → Option A) : Type 0 where
   pub sound : (token : Token) (a : A) → says token ≡ Some a → is a × Says (item a) token
   pub whole : (token : Token) (a : A) → is a → Says (item a) token → says token ≡ Some a

@@ -1,14 +1,14 @@
 -- Texts with their faults at plain values: what is Syntax at which line and column, and which numbers are Large.
 use Rattle.std.proofs.Common.{◌≡◌, ℕ, ℤ, pos, List, [], ◌∷◌, ◌++◌, Option, Some, None, codes, refl, sym, ap, subst, ◌∙◌, nat_abs, slice_index, inl, inr, arith}
-use Rattle.dj_names.specs.Names.{IsNameByte, IsClassName}
+use Rattle.dj_names.specs.trusted.Names.{IsNameByte, IsClassName}
 use Rattle.dj_source.specs.declared.error.AsmError.{AsmError}
 use Rattle.dj_source.specs.declared.error.AsmError.TheVariants as asm_errors
-use Rattle.dj_tokens.specs.Words.{Token, Word, Quoted, Bad, LineEnd, Placed, word_units, string_units, tokens_after}
+use Rattle.dj_tokens.specs.trusted.Words.{Token, Word, Quoted, Bad, LineEnd, Placed, word_units, string_units, tokens_after}
 use Rattle.std.specs.Str.Parse.{IsNumeral, digits_value}
-use Rattle.dj_source.specs.Items.{Number, Says, SaysFlags, SaysCalled, SaysPlainNumber, SaysMinusNumber}
-use Rattle.dj_source.specs.Lines.{FitsBits}
-use Rattle.dj_source.specs.Sources.{Source, FieldSource, MethodSource, IsSource, IsSizedSource, Reads, IsTextOf}
-use Rattle.dj_source.specs.Faults.{Begins, IsMisplaced, IsLargeNumber, IsUnfinished, WordFault}
+use Rattle.dj_source.specs.trusted.Items.{Number, Says, SaysFlags, SaysCalled, SaysPlainNumber, SaysMinusNumber}
+use Rattle.dj_source.specs.trusted.Lines.{FitsBits}
+use Rattle.dj_source.specs.trusted.Sources.{Source, FieldSource, MethodSource, IsSource, IsSizedSource, Reads, IsTextOf}
+use Rattle.dj_source.specs.trusted.Faults.{Begins, IsMisplaced, IsLargeNumber, IsUnfinished, WordFault}
 use Rattle.dj_source.proofs.FaultLaws.{no_fault_of_text, one_word_fault}
 
 -- ---- the least text
@@ -177,7 +177,7 @@ wordy_major = record {
   told = refl;
 }
 
--- ---- what is told of no such text
+-- ---- what is known of no such text
 
 abbrev column_of : AsmError → ℕ
 column_of (asm_errors.Syntax line column) = column
@@ -193,7 +193,7 @@ not_from_zero fault = ten_or_nine (ap column_of (one_word_fault (codes ".class 2
 zero_or_sixteen : ◌≡◌ {A = ℕ} 0 16 → ⊥
 zero_or_sixteen e = omega (arith, e)
 
--- the number outside its field is told, and not the word after it that may not stand there
+-- the number outside its field is reported, and not the word after it that may not stand there
 not_the_later : WordFault (codes ".class 21 A" ++ 10 ∷ codes ".version 65536 x") (asm_errors.Syntax 2 16) → ⊥
 not_the_later fault = zero_or_sixteen (ap column_of
     (one_word_fault (codes ".class 21 A" ++ 10 ∷ codes ".version 65536 x") (asm_errors.Large 2) (asm_errors.Syntax 2 16) (inr (inl large_major)) fault))

@@ -1,20 +1,20 @@
 -- The readers of one token each, with their languages.
 use Rattle.std.proofs.Common.{◌≡◌, ◌↔◌, ℕ, Bool, true, ℤ, pos, List, [], Option, None, codes, refl, inl, arith}
 use Rattle.std.specs.Prelude.{⊤}
-use Rattle.dj_names.specs.Types.{Name}
-use Rattle.dj_names.specs.ModifiedUtf8.{units_text}
-use Rattle.dj_names.specs.Names.{IsUnqualifiedName, IsMethodName, IsClassName}
-use Rattle.dj_names.specs.Descriptors.{IsFieldDescriptor, IsMethodDescriptor, IsArrayDescriptor}
+use Rattle.dj_names.specs.trusted.Types.{Name}
+use Rattle.dj_names.specs.trusted.ModifiedUtf8.{units_text}
+use Rattle.dj_names.specs.trusted.Names.{IsUnqualifiedName, IsMethodName, IsClassName}
+use Rattle.dj_names.specs.trusted.Descriptors.{IsFieldDescriptor, IsMethodDescriptor, IsArrayDescriptor}
 use Rattle.dj_names.specs.Tests.{unqualified_name_test, method_name_test, class_name_test, field_descriptor_test, method_descriptor_test, array_descriptor_test}
-use Rattle.dj_names.specs.NameReading.{reads_class_name}
-use Rattle.dj_names.specs.DescReading.{field_read, method_read, type_read, dims_read, of_read, params_read, return_read}
+use Rattle.dj_names.specs.trusted.NameReading.{reads_class_name}
+use Rattle.dj_names.specs.trusted.DescReading.{field_read, method_read, type_read, dims_read, of_read, params_read, return_read}
 use Rattle.dj_names.proofs.TestLaws.{unqualified_name_test-decides, method_name_test-decides, class_name_test-decides, field_descriptor_test-decides, method_descriptor_test-decides, array_descriptor_test-decides}
-use Rattle.dj_ops.specs.Instructions.{IsArrayType}
-use Rattle.dj_pool.specs.Pool.{IsClassText}
-use Rattle.dj_tokens.specs.Words.{Token, Word, Quoted, LineEnd}
-use Rattle.dj_source.specs.Items.{Item, Exactly, Flags, Number, Text, Ended, SaysFlags, SaysPlainNumber}
-use Rattle.dj_tokens.specs.Mnemonics.{base_word}
-use Rattle.dj_source.specs.Lines.{Label, FrameType, Simple, IsFrameType, type_item, catch_item, called}
+use Rattle.dj_ops.specs.trusted.Instructions.{IsArrayType}
+use Rattle.dj_pool.specs.trusted.Pool.{IsClassText}
+use Rattle.dj_tokens.specs.trusted.Words.{Token, Word, Quoted, LineEnd}
+use Rattle.dj_source.specs.trusted.Items.{Item, Exactly, Flags, Number, Text, Ended, SaysFlags, SaysPlainNumber}
+use Rattle.dj_tokens.specs.trusted.Mnemonics.{base_word}
+use Rattle.dj_source.specs.trusted.Lines.{Label, FrameType, Simple, IsFrameType, type_item, catch_item, called}
 use Rattle.dj_tokens.specs.WordReading.{class_text_test}
 use Rattle.dj_source.specs.Reading.{one, any_size, word_of, string_of, end_of, exactly, flags_of, number_of, name_of, caught_of, type_of, base_of}
 use Rattle.dj_source.specs.LineReading.{line_end, flags, number, name, label, string, keyword, frame_type, base, caught}

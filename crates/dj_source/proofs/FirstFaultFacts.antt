@@ -1,17 +1,17 @@
 -- What reading answers of a text is one thing, and what it is of some texts.
 use Rattle.std.proofs.Common.{◌≡◌, ◌≢◌, ℕ, ◌⊎◌, List, [], ◌∷◌, ◌++◌, Option, Some, None, codes, refl, sym, ap, ◌∙◌, inl, inr, arith}
 use Rattle.dj_bytes.proofs.Options.{some_is}
-use Rattle.dj_names.specs.DescReading.{class_read, name_read}
-use Rattle.dj_names.specs.NameReading.{reads_class_name}
+use Rattle.dj_names.specs.trusted.DescReading.{class_read, name_read}
+use Rattle.dj_names.specs.trusted.NameReading.{reads_class_name}
 use Rattle.dj_names.specs.Tests.{class_name_test}
 use Rattle.dj_source.specs.declared.error.AsmError.{AsmError}
 use Rattle.dj_source.specs.declared.error.AsmError.TheVariants as asm_errors
-use Rattle.dj_tokens.specs.Words.{tokens_after, word_units}
-use Rattle.dj_tokens.specs.Mnemonics.{mnemonics}
-use Rattle.dj_source.specs.Lines.{Line, Class, Super}
-use Rattle.dj_source.specs.Sources.{lines_of}
-use Rattle.dj_source.specs.Faults.{WordFault}
-use Rattle.dj_source.specs.Labels.{LabelFault, line_numbers}
+use Rattle.dj_tokens.specs.trusted.Words.{tokens_after, word_units}
+use Rattle.dj_tokens.specs.trusted.Mnemonics.{mnemonics}
+use Rattle.dj_source.specs.trusted.Lines.{Line, Class, Super}
+use Rattle.dj_source.specs.trusted.Sources.{lines_of}
+use Rattle.dj_source.specs.trusted.Faults.{WordFault}
+use Rattle.dj_source.specs.trusted.Labels.{LabelFault, line_numbers}
 use Rattle.dj_source.specs.LineReading.{lines_read}
 use Rattle.dj_source.specs.LabelReading.{marks_from, mislabelled_from, sections_of, mislabelled_after, read_fault, label_error, text_fault}
 use Rattle.dj_source.specs.SourceLines.{TextLines, AreLinesOf, IsFirstFault}
@@ -21,7 +21,7 @@ use Rattle.dj_source.proofs.ReadingLaws.{lines_of_source}
 
 -- ---- one answer at most
 
--- a first fault is told
+-- a first fault is reported
 is_told : (text : List ℕ) (e : AsmError) → WordFault text e ⊎ LabelFault text e → text_fault text ≡ Some e
 is_told text e (inl fault) = word_fault_told text e fault
 is_told text e (inr fault) = label_fault_told text e fault

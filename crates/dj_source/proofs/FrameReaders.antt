@@ -3,9 +3,9 @@ use Rattle.std.proofs.Common.{◌≡◌, ℕ, zero, suc, ◌≤◌, Bool, true, 
 use Rattle.std.specs.Prelude.{⊤}
 use Rattle.std.specs.List.{AllByRecursion}
 use Rattle.dj_bytes.proofs.Options.{some_is}
-use Rattle.dj_tokens.specs.Words.{Token, Word, Quoted, Bad, LineEnd, Placed}
-use Rattle.dj_source.specs.Items.{Item, Exactly, Ended, Says}
-use Rattle.dj_source.specs.Lines.{FrameType, Simple, Object, New, IsFrameType, type_item, Frame, Same, Stack1, Chop, Append, Full, frame_items, IsFrame, IsSizedFrame}
+use Rattle.dj_tokens.specs.trusted.Words.{Token, Word, Quoted, Bad, LineEnd, Placed}
+use Rattle.dj_source.specs.trusted.Items.{Item, Exactly, Ended, Says}
+use Rattle.dj_source.specs.trusted.Lines.{FrameType, Simple, Object, New, IsFrameType, type_item, Frame, Same, Stack1, Chop, Append, Full, frame_items, IsFrame, IsSizedFrame}
 use Rattle.dj_tokens.specs.WordReading.{row_of}
 use Rattle.dj_source.specs.Reading.{Read, Got, Wrong, read_map, exactly, type_of, is_between, ◌&◌}
 use Rattle.dj_source.specs.LineReading.{line_end, number, frame_type, types_from, types_until, types_up_to, is_end, is_slash, FrameStart, SameWord, StackWord, ChopWord, AppendWord, FullWord, frame_start, frame_after, frame}
@@ -21,7 +21,7 @@ use Rattle.dj_source.proofs.FieldReaders.{all, end_lang, end_reads, type_lang, t
 abbrev pub types_lang : Item → (List FrameType → Type 0) → Lang (List FrameType)
 types_lang last is = record { items = λ types. map type_item types ++ last ∷ []; is = is; fits = all }
 
--- a test tells the end, which is no type
+-- a test recognises the end, which is no type
 pub record IsEnd (last : Item) (ends : Token → Bool) : Type 0 where
   pub sound : (token : Token) → ends token ≡ true → Says last token
   pub whole : (token : Token) → Says last token → ends token ≡ true
@@ -170,7 +170,7 @@ slash_type = record { sound = sound; whole = λ token e. ap is_slash e; apart = 
   apart token (Object name) i s = ap is_slash s.word
   apart token (New label) i e = ap is_slash e
 
--- ---- so many at most
+-- ---- this many at most
 
 abbrev pub AreFew : ℕ → List FrameType → Type 0
 AreFew most types = AreFrameTypes types × (length types ≤ most)

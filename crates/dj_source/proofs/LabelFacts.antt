@@ -1,17 +1,17 @@
 -- Texts whose words say sources, and the first line of each that is wrongly labelled, or that there is none.
 use Rattle.std.proofs.Common.{◌≡◌, ℕ, pos, List, [], ◌∷◌, ◌++◌, map, Option, Some, None, codes, refl, ap, arith}
 use Rattle.std.specs.Prelude.{◌==◌, if◌then◌else◌}
-use Rattle.dj_names.specs.DescReading.{field_read, type_read, dims_read, of_read, method_read, params_read, return_read, class_read, name_read}
-use Rattle.dj_names.specs.NameReading.{reads_class_name}
+use Rattle.dj_names.specs.trusted.DescReading.{field_read, type_read, dims_read, of_read, method_read, params_read, return_read, class_read, name_read}
+use Rattle.dj_names.specs.trusted.NameReading.{reads_class_name}
 use Rattle.dj_names.specs.Tests.{class_name_test, unqualified_name_test, method_name_test, field_descriptor_test, method_descriptor_test, array_descriptor_test}
-use Rattle.dj_ops.specs.Forms.{form_of}
+use Rattle.dj_ops.specs.trusted.Forms.{form_of}
 use Rattle.dj_source.specs.declared.error.AsmError.{AsmError}
 use Rattle.dj_source.specs.declared.error.AsmError.TheVariants as asm_errors
-use Rattle.dj_tokens.specs.Words.{tokens_after, word_units, string_units}
-use Rattle.dj_source.specs.Lines.{Line, Class, Super, Abstract, Method, Stack, Locals, Beside, Does, End, Plain, Jump, Labelled}
-use Rattle.dj_tokens.specs.Mnemonics.{mnemonics}
+use Rattle.dj_tokens.specs.trusted.Words.{tokens_after, word_units, string_units}
+use Rattle.dj_source.specs.trusted.Lines.{Line, Class, Super, Abstract, Method, Stack, Locals, Beside, Does, End, Plain, Jump, Labelled}
+use Rattle.dj_tokens.specs.trusted.Mnemonics.{mnemonics}
 use Rattle.dj_tokens.specs.WordReading.{row_of}
-use Rattle.dj_source.specs.Labels.{LabelFault}
+use Rattle.dj_source.specs.trusted.Labels.{LabelFault}
 use Rattle.dj_source.specs.LineReading.{lines_read, targets, pairs_after, types_until, types_up_to}
 use Rattle.dj_source.specs.LabelReading.{Mark, marks_from, marks_of, mislabelled_from, mislabelled_in, sections_of, mislabelled_after, first_mislabelled, text_fault}
 use Rattle.dj_source.proofs.LabelTextLaws.{label_fault_is, one_label_fault}
@@ -91,7 +91,7 @@ unknown_fault : LabelFault unknown_label (asm_errors.Label 6)
 unfolding lines_read tokens_after word_units mnemonics form_of class_name_test reads_class_name method_name_test unqualified_name_test method_descriptor_test field_read type_read dims_read of_read method_read params_read return_read class_read name_read marks_from mislabelled_from sections_of mislabelled_after
 unknown_fault = label_fault_is unknown_label unknown_lines (asm_errors.Label 6) refl refl
 
--- and no other line is told
+-- and no other line is reported
 not_the_next : LabelFault unknown_label (asm_errors.Label 7) → ⊥
 not_the_next fault = six_or_seven (ap line_of (one_label_fault unknown_label (asm_errors.Label 6) (asm_errors.Label 7) unknown_fault fault)) where
   line_of : AsmError → ℕ

@@ -8,8 +8,8 @@ use Rattle.std.proofs.lemmas.List.Elements.{All-contains, All-from_recursion}
 use Rattle.std.proofs.lemmas.List.Sums.{sum_by-cons}
 use Rattle.std.proofs.lemmas.Slice.Eq.{bytes_eq-Decides}
 use Rattle.dj_bytes.proofs.Options.{some_is}
-use Rattle.dj_source.specs.Lines.{Label, Labelled, Catch, Line, Beside}
-use Rattle.dj_source.specs.Labels.{Use, AtInstruction, Range, is_instruction, instruction_count, IsLabelAt, IsInstructionLabel, IsRange, IsMet, IsDoubled, uses_of}
+use Rattle.dj_source.specs.trusted.Lines.{Label, Labelled, Catch, Line, Beside}
+use Rattle.dj_source.specs.trusted.Labels.{Use, AtInstruction, Range, is_instruction, instruction_count, IsLabelAt, IsInstructionLabel, IsRange, IsMet, IsDoubled, uses_of}
 use Rattle.dj_tokens.specs.WordReading.{row_of}
 use Rattle.dj_source.specs.LabelReading.{Mark, Marks, defined_by, with_mark, number_after, marks_from, marks_of, is_below, is_in_order, is_met, is_before, is_again, is_mislabelled, mislabelled_from, mislabelled_in}
 
@@ -108,7 +108,7 @@ module _ (body : List Line) where
   row_first label first =
       ap (λ ls. row_of (marks_of ls) label) first.parts ∙ first_row label first.front first.rest first.others
 
-  -- a row tells what the label stands for
+  -- a row says what the label stands for
   pub row_sound : (label : Label) (m : Mark) → row_of (marks_of body) label ≡ Some m → IsLabelAt body label m.number
   row_sound label m e = by (first_or_none body label) where
     by : IsFirst body label ⊎ AreOthers label body → IsLabelAt body label m.number
@@ -178,7 +178,7 @@ first_contains label lines first =
     (length first.front, omega (arith, length-append first.front (labelled label ∷ first.rest)), get_or_at first.front (labelled label) first.rest (labelled label) (length first.front) refl)
 
 module _ (front : List Line) (rest : List Line) where
-  -- with the label after the front
+  -- with the label after the prefix
   label_again : (label : Label) → IsFirst front label ⊎ AreOthers label front
       → Decides (is_before (length front) (row_of (marks_of (front ++ labelled label ∷ rest)) label)) (Contains front (labelled label))
   label_again label (inl first) =
@@ -204,7 +204,7 @@ module _ (front : List Line) (rest : List Line) where
 
 -- ---- lines that are mislabelled
 
--- the line after the front is, in this body
+-- the line after this prefix is mislabelled
 abbrev pub IsWrong : List Line → List Line → Line → Type 0
 IsWrong body front line = IsDoubled front line ⊎ (AllByRecursion (IsMet body) (uses_of line) → ⊥)
 
@@ -215,7 +215,7 @@ line_decides front line rest =
     let met = list_all (is_met (marks_of body) (instruction_count body)) (uses_of line) in
     Decides-or (is_again (marks_of body) (length front) (defined_by line)) (not met) (again_decides front rest line) (Decides-not met (uses_decide body (uses_of line)))
 
--- the line after so many of the body is mislabelled
+-- the line after this many of the body is mislabelled
 pub record IsWrongAt (body : List Line) (place : ℕ) : Type 0 where
   pub front : List Line
   pub line : Line
@@ -263,7 +263,7 @@ module _ (body : List Line) where
 
 -- ---- the first of them
 
--- what the pass finds among these lines after so many
+-- what the pass finds among these lines after this many
 record IsFound (test : ℕ → Line → Bool) (before : ℕ) (lines : List Line) (place : ℕ) : Type 0 where
   number : ℕ
   line : Line

@@ -4,11 +4,11 @@ use Rattle.std.specs.List.{prefix_len}
 use Rattle.std.specs.Cmp.Lexicographic.{bytes_decides}
 use Rattle.std.proofs.lemmas.Bool.{cases_Bool, false≢true, false_from_ne_true}
 use Rattle.std.proofs.lemmas.List.Sums.{sum_by-cons}
-use Rattle.dj_names.specs.Types.{same_name}
+use Rattle.dj_names.specs.trusted.Types.{same_name}
 use Rattle.dj_source.specs.declared.syntax.Line as the_line
 use Rattle.dj_source.specs.declared.label_table.Mark as the_mark
-use Rattle.dj_source.specs.Lines.{Label, Labelled, Line, Beside}
-use Rattle.dj_source.specs.Labels.{is_instruction, instruction_count, marks, label_number}
+use Rattle.dj_source.specs.trusted.Lines.{Label, Labelled, Line, Beside}
+use Rattle.dj_source.specs.trusted.Labels.{is_instruction, instruction_count, marks, label_number}
 use Rattle.dj_source.specs.LineViews.{line_view}
 use Rattle.dj_tokens.specs.WordReading.{row_of}
 use Rattle.dj_source.specs.LabelReading.{Mark, Marks, number_after, marks_from, marks_of}
@@ -58,7 +58,7 @@ one_more : (b : Bool) (number n : ℕ) → cond b (suc number) number + n ≡ nu
 one_more true number n = omega arith
 one_more false number n = omega arith
 
--- as many as the row of the lines' own table tells
+-- as many as the row of the lines' own table says
 abbrev IsCounted : Label → ℕ → ℕ → List Line → Type 0
 IsCounted label place number body = number_in (number + instruction_count body) (row_of (marks_from place number body) label) ≡ number + count_to label body
 

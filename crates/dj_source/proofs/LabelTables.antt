@@ -18,7 +18,7 @@ use Rattle.std.proofs.lemmas.Option.{slice_get_read, slice_get-get_or, get_or_fr
 use Rattle.dj_bytes.proofs.Options.{some_is}
 use Rattle.dj_source.specs.declared.syntax.Line as the_line
 use Rattle.dj_source.specs.declared.label_table.Mark as the_mark
-use Rattle.dj_source.specs.Lines.{Label, Line}
+use Rattle.dj_source.specs.trusted.Lines.{Label, Line}
 use Rattle.dj_source.specs.LineViews.{line_view}
 use Rattle.dj_source.specs.LabelReading.{Mark, Marks, defined_by, with_mark, number_after, marks_from}
 use Rattle.dj_tokens.specs.WordReading.{row_of}
@@ -243,7 +243,7 @@ pub stable_rows : (lines : List the_line.Line) (old new : List the_mark.Mark) (l
     → row_of (map (mark_row lines) new) label ≡ row_of (map (mark_row lines) old) label
 stable_rows lines old new label stable = stable_at lines label old new stable
 
--- what a look-up asks, and what the marks from there on tell
+-- what a look-up asks, and what the marks from there on say
 pub parted_by : (lines : List the_line.Line) (label : Label) (marks : List the_mark.Mark) → IsSortedBy (is_label_before lines) marks
     → IsPartitionedBy (λ m. is_lt (slice_cmp nat_cmp (label_of_mark lines m) label)) marks
 parted_by lines label marks sorted = parted lines label marks sorted

@@ -6,10 +6,10 @@ use Rattle.std.proofs.lemmas.List.{length-append}
 use Rattle.dj_bytes.proofs.Options.{some_is}
 use Rattle.dj_source.specs.declared.error.AsmError.{AsmError}
 use Rattle.dj_source.specs.declared.error.AsmError.TheVariants as asm_errors
-use Rattle.dj_source.specs.Lines.{Line, Labelled, Catch, Super, Implements, Beside}
-use Rattle.dj_source.specs.Sources.{Source, FieldSource, MethodSource, version_lines, field_line, method_lines, head_lines, lines_of, IsTextOf}
-use Rattle.dj_source.specs.Faults.{WordFault}
-use Rattle.dj_source.specs.Labels.{IsMet, IsDoubled, IsMislabelled, LabelFault, uses_of, line_numbers}
+use Rattle.dj_source.specs.trusted.Lines.{Line, Labelled, Catch, Super, Implements, Beside}
+use Rattle.dj_source.specs.trusted.Sources.{Source, FieldSource, MethodSource, version_lines, field_line, method_lines, head_lines, lines_of, IsTextOf}
+use Rattle.dj_source.specs.trusted.Faults.{WordFault}
+use Rattle.dj_source.specs.trusted.Labels.{IsMet, IsDoubled, IsMislabelled, LabelFault, uses_of, line_numbers}
 use Rattle.dj_source.specs.LineReading.{AreRead, or_else, text_read}
 use Rattle.dj_source.specs.LabelReading.{defined_by, mislabelled_in, mislabelled_after, first_mislabelled, label_error, labels_fault, read_fault, text_fault}
 use Rattle.dj_source.proofs.FaultLaws.{no_fault_of_text, one_word_fault}
@@ -21,7 +21,7 @@ use Rattle.dj_source.proofs.Sections.{source_sections}
 
 -- ---- sections
 
--- the line after so many, of the sections after so many lines
+-- the line after this many, of the sections after this many lines
 abbrev IsWrongIn : ℕ → List (List Line) → ℕ → Type 0
 IsWrongIn before [] place = ⊥
 IsWrongIn before (section ∷ sections) place = ((n : ℕ) × (place ≡ before + n) × IsWrongAt section n) ⊎ IsWrongIn (before + length section) sections place
@@ -36,7 +36,7 @@ record IsLeast (P : ℕ → Type 0) (place : ℕ) : Type 0 where
   is : P place
   first : (n : ℕ) → n < place → P n → ⊥
 
--- what the pass tells
+-- what the pass reports
 abbrev IsTold : (ℕ → Type 0) → Option ℕ → Type 0
 IsTold P None = (n : ℕ) → P n → ⊥
 IsTold P (Some place) = IsLeast P place
@@ -111,7 +111,7 @@ none_in_head s n w =
 abbrev lines_in : List MethodSource → List Line
 lines_in methods = flat_map method_lines methods
 
--- the line after so many of a method's
+-- the line after this many of a method's
 record IsWrongOf (methods : List MethodSource) (before place : ℕ) : Type 0 where
   front : List MethodSource
   method : MethodSource
@@ -195,7 +195,7 @@ none_is s e = by (first_mislabelled (lines_of s)) (told s) e where
   by None none e = none
   by (Some p) least e = absurd cc
 
--- such a first line is told
+-- such a first line is reported
 pub first_told : (s : Source) (place : ℕ) → IsMislabelled s place → ((n : ℕ) → n < place → IsMislabelled s n → ⊥) → first_mislabelled (lines_of s) ≡ Some place
 first_told s place m none = by (first_mislabelled (lines_of s)) (told s) where
   by : (o : Option ℕ) → IsTold (IsMislabelled s) o → o ≡ Some place
@@ -207,7 +207,7 @@ first_told s place m none = by (first_mislabelled (lines_of s)) (told s) where
         | inr (inr above) ↦ absurd (least.first place above m)
       ]
 
--- and where none is, none is told
+-- and where none is, none is reported
 pub none_told : (s : Source) → ((n : ℕ) → IsMislabelled s n → ⊥) → first_mislabelled (lines_of s) ≡ None
 none_told s none = by (first_mislabelled (lines_of s)) (told s) where
   by : (o : Option ℕ) → IsTold (IsMislabelled s) o → o ≡ None
@@ -243,7 +243,7 @@ get_within (x ∷ xs) (suc n) below = get_within xs n (omega (arith, below))
 number_of : (text : List ℕ) (s : Source) (place : ℕ) → IsTextOf text s → IsMislabelled s place → (line : ℕ) × (slice_get (line_numbers text) place ≡ Some line)
 number_of text s place is m = get_within (line_numbers text) place (omega (arith, within_lines s place m, as_many_lines text s is))
 
--- what is told of a text's labels
+-- what is reported of a text's labels
 abbrev pub AreLabelsTold : List ℕ → Source → Option AsmError → Type 0
 AreLabelsTold text s None = (n : ℕ) → IsMislabelled s n → ⊥
 AreLabelsTold text s (Some e) = LabelFault text e
@@ -258,18 +258,18 @@ labels_told text s is = by (first_mislabelled (lines_of s)) (told s) where
         subst (AreLabelsTold text s) (sym (ap (option_map (λ n. asm_errors.Label n)) e))
         (record { source = s; is_text = is; place = place; wrong = least.is; first = least.first; line = line; number = e; told = refl })
 
--- a fault of labels is told
+-- a fault of labels is reported
 fault_told : (text : List ℕ) (e : AsmError) (fault : LabelFault text e) → labels_fault text (lines_of fault.source) ≡ Some e
 fault_told text e fault =
     ap (label_error (line_numbers text)) (first_told fault.source fault.place fault.wrong fault.first)
     ∙ (ap (option_map (λ n. asm_errors.Label n)) fault.number ∙ ap (λ f. Some f) (sym fault.told))
 
--- ---- what is told of a text in the first two steps
+-- ---- what is known of a text in the first two steps
 
 ok_is : (xs ys : List Line) → ◌≡◌ {A = AreRead} (Ok xs) (Ok ys) → xs ≡ ys
 ok_is xs ys e = cc
 
--- where a text was read, what its labels tell is right
+-- where a text was read, what is reported of its labels is right
 pub labels_rightly : (text : List ℕ) (lines : List Line) → text_read text ≡ Ok lines → (s : Source) × (lines ≡ lines_of s) × IsTextOf text s × AreLabelsTold text s (labels_fault text lines)
 labels_rightly text lines e = by (text_read text) (text_read_rightly text) e where
   by : (r : AreRead) → IsReadRightly text r → r ≡ Ok lines → (s : Source) × (lines ≡ lines_of s) × IsTextOf text s × AreLabelsTold text s (labels_fault text lines)
@@ -278,7 +278,7 @@ labels_rightly text lines e = by (text_read text) (text_read_rightly text) e whe
       (s, same, is, subst (λ ls. AreLabelsTold text s (labels_fault text ls)) (sym same) (labels_told text s is))
   by (Err x) fault e = absurd cc
 
--- a fault that they tell
+-- a fault that they have
 pub label_fault_is : (text : List ℕ) (lines : List Line) (e : AsmError) → text_read text ≡ Ok lines → labels_fault text lines ≡ Some e → LabelFault text e
 label_fault_is text lines e read fault = let r = labels_rightly text lines read in subst (AreLabelsTold text r.0) fault r.3
 
@@ -291,7 +291,7 @@ abbrev pub IsTextTold : List ℕ → Option AsmError → Type 0
 IsTextTold text None = (s : Source) × IsTextOf text s × ((n : ℕ) → IsMislabelled s n → ⊥)
 IsTextTold text (Some e) = WordFault text e ⊎ LabelFault text e
 
--- what is told of a text is right
+-- what is reported of a text is right
 pub text_told : (text : List ℕ) → IsTextTold text (text_fault text)
 text_told text = by (text_read text) (text_read_rightly text) where
   of_labels : (s : Source) → IsTextOf text s → (o : Option AsmError) → AreLabelsTold text s o → IsTextTold text o
@@ -302,7 +302,7 @@ text_told text = by (text_read text) (text_read_rightly text) where
   by (Ok lines) (s, e, is) = of_labels s is (labels_fault text lines) (subst (λ ls. AreLabelsTold text s (labels_fault text ls)) (sym e) (labels_told text s is))
   by (Err e) fault = inl fault
 
--- each fault of the words is told
+-- each fault of the words is reported
 pub word_fault_told : (text : List ℕ) (e : AsmError) → WordFault text e → text_fault text ≡ Some e
 word_fault_told text e fault = by (text_read text) (text_read_rightly text) where
   by : (r : AreRead) → IsReadRightly text r → read_fault text r ≡ Some e

@@ -3,8 +3,8 @@ use Rattle.std.proofs.Common.{◌≡◌, ℕ, suc, ◌+◌, ◌<◌, ◌≤◌, 
 use Rattle.std.specs.List.{list_all}
 use Rattle.std.proofs.lemmas.List.{drop-drop, drop-map, take-map, length-map, length-drop, length-take-le, drop_all, drop_more}
 use Rattle.dj_source.specs.declared.syntax.Line as the_line
-use Rattle.dj_source.specs.Lines.{Label, Line}
-use Rattle.dj_source.specs.Labels.{Use, AtInstruction, Range, instruction_count, uses_of}
+use Rattle.dj_source.specs.trusted.Lines.{Label, Line}
+use Rattle.dj_source.specs.trusted.Labels.{Use, AtInstruction, Range, instruction_count, uses_of}
 use Rattle.dj_source.specs.LineViews.{line_view}
 use Rattle.dj_tokens.specs.WordReading.{row_of}
 use Rattle.dj_source.specs.LineReading.{or_else}

@@ -2,16 +2,16 @@
 use Rattle.std.proofs.Common.{◌≡◌, ℕ, true, cond, ℤ, [], ◌∷◌, drop, Option, Some, None, is_some, refl, sym, ap, ◌∙◌, subst, arith}
 use Rattle.std.specs.Prelude.{⊤}
 use Rattle.dj_bytes.proofs.Options.{bind_some, chose_some}
-use Rattle.dj_bytes.specs.Options.{◌>>=◌}
-use Rattle.dj_names.specs.Types.{Name}
-use Rattle.dj_names.specs.Names.{IsUnqualifiedName, IsMethodName, IsClassName}
-use Rattle.dj_names.specs.Descriptors.{IsFieldDescriptor, IsMethodDescriptor}
+use Rattle.dj_bytes.specs.trusted.Options.{◌>>=◌}
+use Rattle.dj_names.specs.trusted.Types.{Name}
+use Rattle.dj_names.specs.trusted.Names.{IsUnqualifiedName, IsMethodName, IsClassName}
+use Rattle.dj_names.specs.trusted.Descriptors.{IsFieldDescriptor, IsMethodDescriptor}
 use Rattle.dj_names.specs.Tests.{unqualified_name_test, method_name_test, field_descriptor_test, method_descriptor_test}
-use Rattle.dj_ops.specs.Forms.{form_of}
-use Rattle.dj_tokens.specs.Words.{Token, Word}
-use Rattle.dj_source.specs.Items.{Says}
-use Rattle.dj_source.specs.Lines.{Label, Value, Frame, Operation, Labelled, Catch, Line, Class, Version, Super, Implements, Field, Abstract, Method, Stack, Locals, Beside, Framed, Does, End, IsLine, IsSized, FitsBits}
-use Rattle.dj_source.specs.Sources.{line_items}
+use Rattle.dj_ops.specs.trusted.Forms.{form_of}
+use Rattle.dj_tokens.specs.trusted.Words.{Token, Word}
+use Rattle.dj_source.specs.trusted.Items.{Says}
+use Rattle.dj_source.specs.trusted.Lines.{Label, Value, Frame, Operation, Labelled, Catch, Line, Class, Version, Super, Implements, Field, Abstract, Method, Stack, Locals, Beside, Framed, Does, End, IsLine, IsSized, FitsBits}
+use Rattle.dj_source.specs.trusted.Sources.{line_items}
 use Rattle.dj_source.specs.Order.{State, AtClass, AtVersion, AtSuper, AtInterfaces, AtFields, AtMethods, AtStack, AtLocals, InBody, InFrame, after}
 use Rattle.dj_tokens.specs.WordReading.{tested}
 use Rattle.dj_source.specs.Reading.{◌&◌, word_of}

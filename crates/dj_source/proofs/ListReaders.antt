@@ -5,9 +5,9 @@ use Rattle.std.specs.List.{flat_map, AllByRecursion}
 use Rattle.std.specs.Int.{w32}
 use Rattle.std.proofs.lemmas.Slice.Eq.{bytes_eq-Decides}
 use Rattle.dj_bytes.proofs.Options.{some_is}
-use Rattle.dj_tokens.specs.Words.{Token, Word, Quoted, Bad, LineEnd, Placed}
-use Rattle.dj_source.specs.Items.{Item, Exactly, Number, Ended, Says}
-use Rattle.dj_source.specs.Lines.{Label, IsTarget, pair_items, default_items}
+use Rattle.dj_tokens.specs.trusted.Words.{Token, Word, Quoted, Bad, LineEnd, Placed}
+use Rattle.dj_source.specs.trusted.Items.{Item, Exactly, Number, Ended, Says}
+use Rattle.dj_source.specs.trusted.Lines.{Label, IsTarget, pair_items, default_items}
 use Rattle.dj_tokens.specs.WordReading.{number_in}
 use Rattle.dj_source.specs.Reading.{Read, Large, read_map, word_of, is_signed, ◌&◌}
 use Rattle.dj_source.specs.LineReading.{label, line_end, TargetStart, DefaultWord, Target, target_start, default_after, targets_from, targets, MatchStart, DefaultMatch, MatchOf, match_in, match_start, Pairs, matches_from, target_from, pairs_after}

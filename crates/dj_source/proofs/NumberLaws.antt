@@ -2,10 +2,10 @@
 use Rattle.std.proofs.Common.{◌≡◌, ℕ, suc, ◌+◌, Bool, true, false, cond, List, [], ◌∷◌, ◌++◌, length, map, Option, Some, None, Ok, Err, filter, refl, sym, ap, ◌∙◌, arith}
 use Rattle.std.specs.List.{flat_map, AllByRecursion, enumerate_from}
 use Rattle.std.specs.Str.Lines.{lines}
-use Rattle.dj_tokens.specs.Words.{Token, LineEnd, Placed, tokens_after, line_tokens, end_line}
-use Rattle.dj_source.specs.Lines.{Line}
-use Rattle.dj_source.specs.Sources.{Source, lines_of, IsTextOf}
-use Rattle.dj_source.specs.Labels.{ends_line, line_numbers}
+use Rattle.dj_tokens.specs.trusted.Words.{Token, LineEnd, Placed, tokens_after, line_tokens, end_line}
+use Rattle.dj_source.specs.trusted.Lines.{Line}
+use Rattle.dj_source.specs.trusted.Sources.{Source, lines_of, IsTextOf}
+use Rattle.dj_source.specs.trusted.Labels.{ends_line, line_numbers}
 use Rattle.dj_source.specs.Order.{State, AtClass, is_final, after}
 use Rattle.dj_source.specs.Reading.{Read, Got, Wrong, Large}
 use Rattle.dj_source.specs.LineReading.{AreRead, missing, line, with_line, lines_from, lines_read}

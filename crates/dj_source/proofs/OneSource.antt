@@ -1,8 +1,8 @@
 -- A text is one source's at most: a source has one list of lines, and a list of lines is one source's.
 use Rattle.std.proofs.Common.{◌≡◌, ℕ, ℤ, Bool, true, false, List, [], ◌∷◌, ◌++◌, map, Option, Some, None, refl, sym, ap, ◌∙◌, append_assoc, true≢false}
 use Rattle.std.specs.List.{flat_map}
-use Rattle.dj_source.specs.Lines.{Line, Frame, Operation, Aside, Class, Version, Super, Implements, Field, Abstract, Method, Stack, Locals, Beside, Framed, Does, End}
-use Rattle.dj_source.specs.Sources.{Source, FieldSource, Part, Mark, Step, FrameStep, MethodSource, Bodiless, Coded, version_lines, field_line, part_lines, body_lines, method_lines, lines_of, IsTextOf}
+use Rattle.dj_source.specs.trusted.Lines.{Line, Frame, Operation, Aside, Class, Version, Super, Implements, Field, Abstract, Method, Stack, Locals, Beside, Framed, Does, End}
+use Rattle.dj_source.specs.trusted.Sources.{Source, FieldSource, BodyPart, Mark, Step, FrameStep, MethodSource, Bodiless, Coded, version_lines, field_line, part_lines, body_lines, method_lines, lines_of, IsTextOf}
 use Rattle.dj_source.proofs.TextLaws.{text_lines}
 
 -- ---- lists of lines of one kind
@@ -36,13 +36,13 @@ is_beside line = false
 one_aside : (a b : Aside) → Beside a ≡ Beside b → a ≡ b
 one_aside a b e = cc
 
-frame_part : (frame : Frame) (asides : List Aside) (operation : Operation) (body : List Part) (xs : List Line)
+frame_part : (frame : Frame) (asides : List Aside) (operation : Operation) (body : List BodyPart) (xs : List Line)
     → body_lines (FrameStep frame asides operation ∷ body) ++ xs ≡ Framed frame ∷ (map Beside asides ++ (Does operation ∷ (body_lines body ++ xs)))
 frame_part frame asides operation body xs =
     append_assoc (part_lines (FrameStep frame asides operation)) (body_lines body) xs
     ∙ ap (λ l. Framed frame ∷ l) (append_assoc (map Beside asides) (Does operation ∷ []) (body_lines body ++ xs))
 
-body_same : (bs cs : List Part) (xs ys : List Line) → body_lines bs ++ (End ∷ xs) ≡ body_lines cs ++ (End ∷ ys) → (bs ≡ cs) × (xs ≡ ys)
+body_same : (bs cs : List BodyPart) (xs ys : List Line) → body_lines bs ++ (End ∷ xs) ≡ body_lines cs ++ (End ∷ ys) → (bs ≡ cs) × (xs ≡ ys)
 body_same [] [] xs ys e = (refl, cc)
 body_same [] (Mark a ∷ cs) xs ys e = absurd cc
 body_same [] (Step o ∷ cs) xs ys e = absurd cc
@@ -76,7 +76,7 @@ body_same (FrameStep f these o ∷ bs) (FrameStep g gs p ∷ cs) xs ys e =
 
 -- ---- methods
 
-coded_part : (flags : ℕ) (name desc : List ℕ) (stack locals : ℤ) (body : List Part) (xs : List Line)
+coded_part : (flags : ℕ) (name desc : List ℕ) (stack locals : ℤ) (body : List BodyPart) (xs : List Line)
     → method_lines (Coded flags name desc stack locals body) ++ xs ≡ Method flags name desc ∷ (Stack stack ∷ (Locals locals ∷ (body_lines body ++ (End ∷ xs))))
 coded_part flags name desc stack locals body xs = ap (λ l. Method flags name desc ∷ (Stack stack ∷ (Locals locals ∷ l))) (append_assoc (body_lines body) (End ∷ []) xs)
 

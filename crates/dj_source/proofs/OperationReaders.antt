@@ -2,15 +2,15 @@
 use Rattle.std.proofs.Common.{◌≡◌, ◌↔◌, ℕ, Bool, true, false, cond, eqb, leb, ◌||◌, ℤ, pos, FitsSigned, List, [], ◌∷◌, ◌++◌, drop, None, codes, refl, sym, subst}
 use Rattle.std.specs.Prelude.{⊤}
 use Rattle.std.specs.Int.{w8, w16, w32}
-use Rattle.dj_names.specs.Types.{Name}
-use Rattle.dj_names.specs.Names.{IsUnqualifiedName, IsMethodName}
-use Rattle.dj_names.specs.Descriptors.{IsFieldDescriptor, IsMethodDescriptor, IsArrayDescriptor}
+use Rattle.dj_names.specs.trusted.Types.{Name}
+use Rattle.dj_names.specs.trusted.Names.{IsUnqualifiedName, IsMethodName}
+use Rattle.dj_names.specs.trusted.Descriptors.{IsFieldDescriptor, IsMethodDescriptor, IsArrayDescriptor}
 use Rattle.dj_names.specs.Tests.{unqualified_name_test, method_name_test, field_descriptor_test, method_descriptor_test, array_descriptor_test}
-use Rattle.dj_ops.specs.Forms.{Form, Bare, SignedByte, SignedShort, ShortLiteral, LongLiteral, Slot, SlotAndByte, ShortOffset, LongOffset, MemberIndex, InterfaceIndex, DynamicIndex, ClassIndex, ArrayType, MultiIndex, TableSwitch, LookupSwitch, WidePrefix, Reserved, form_of}
-use Rattle.dj_ops.specs.Instructions.{IsPushed}
-use Rattle.dj_pool.specs.Pool.{IsClassText}
-use Rattle.dj_source.specs.Items.{Item, Ended}
-use Rattle.dj_source.specs.Lines.{Label, Literal, IsLiteralName, Operation, Plain, Push, Local, Increment, Load, LoadLong, Jump, Table, Lookup, Member, Dynamic, ClassOf, Array, Multi, operation_items, IsSizedOperation, FitsBits, slot_bits, FitsIncrement}
+use Rattle.dj_ops.specs.trusted.Forms.{Form, Bare, SignedByte, SignedShort, ShortLiteral, LongLiteral, Slot, SlotAndByte, ShortOffset, LongOffset, MemberIndex, InterfaceIndex, DynamicIndex, ClassIndex, ArrayType, MultiIndex, TableSwitch, LookupSwitch, WidePrefix, Reserved, form_of}
+use Rattle.dj_ops.specs.trusted.Instructions.{IsPushed}
+use Rattle.dj_pool.specs.trusted.Pool.{IsClassText}
+use Rattle.dj_source.specs.trusted.Items.{Item, Ended}
+use Rattle.dj_source.specs.trusted.Lines.{Label, Literal, IsLiteralName, Operation, Plain, Push, Local, Increment, Load, LoadLong, Jump, Table, Lookup, Member, Dynamic, ClassOf, Array, Multi, operation_items, IsSizedOperation, FitsBits, slot_bits, FitsIncrement}
 use Rattle.dj_tokens.specs.WordReading.{class_text_test}
 use Rattle.dj_source.specs.Reading.{◌&◌, is_signed, is_between}
 use Rattle.dj_source.specs.LineReading.{line_end, number, name, label, keyword, base, fits_16, slot_fits, increment_fits, literal, targets, Pairs, pairs_after, interface_end, plain, push, slot, increment, load, load_long, jump, table, lookup, field_use, open_method_use, method_use, dynamic, class_of, array, multi}

@@ -2,14 +2,14 @@
 use Rattle.std.proofs.Common.{◌≡◌, ◌≢◌, ◌⊎◌, ℕ, ◌≤◌, ◌<◌, Bool, true, false, cond, eqb, leb, pos, [], ◌∷◌, drop, Some, None, codes, refl, sym, ap, ◌∙◌, subst, inl, inr, arith, true≢false}
 use Rattle.std.proofs.lemmas.Bool.{and_parts, leb-true, leb-false, le-leb, lt-leb, eqb-true, ne_eqb, eq-eqb, or_cases, or_left, or_right, cases_lt}
 use Rattle.dj_bytes.proofs.Options.{bind_some, chose_some}
-use Rattle.dj_bytes.specs.Options.{◌>>=◌}
-use Rattle.dj_names.specs.Types.{Name}
-use Rattle.dj_ops.specs.Forms.{Form, Bare, SignedByte, SignedShort, ShortLiteral, LongLiteral, Slot, SlotAndByte, ShortOffset, LongOffset, MemberIndex, InterfaceIndex, DynamicIndex, ClassIndex, ArrayType, MultiIndex, TableSwitch, LookupSwitch, WidePrefix, Reserved, form_of}
-use Rattle.dj_pool.specs.Pool.{IsClassText}
-use Rattle.dj_tokens.specs.Words.{Token, Word, LineEnd}
-use Rattle.dj_source.specs.Items.{Says}
-use Rattle.dj_tokens.specs.Mnemonics.{mnemonics}
-use Rattle.dj_source.specs.Lines.{Operation, Plain, Push, Local, Increment, Load, LoadLong, Jump, Table, Lookup, Member, Dynamic, ClassOf, Array, Multi, op_item, IsOperation, IsMethodUse, IsLiteralName}
+use Rattle.dj_bytes.specs.trusted.Options.{◌>>=◌}
+use Rattle.dj_names.specs.trusted.Types.{Name}
+use Rattle.dj_ops.specs.trusted.Forms.{Form, Bare, SignedByte, SignedShort, ShortLiteral, LongLiteral, Slot, SlotAndByte, ShortOffset, LongOffset, MemberIndex, InterfaceIndex, DynamicIndex, ClassIndex, ArrayType, MultiIndex, TableSwitch, LookupSwitch, WidePrefix, Reserved, form_of}
+use Rattle.dj_pool.specs.trusted.Pool.{IsClassText}
+use Rattle.dj_tokens.specs.trusted.Words.{Token, Word, LineEnd}
+use Rattle.dj_source.specs.trusted.Items.{Says}
+use Rattle.dj_tokens.specs.trusted.Mnemonics.{mnemonics}
+use Rattle.dj_source.specs.trusted.Lines.{Operation, Plain, Push, Local, Increment, Load, LoadLong, Jump, Table, Lookup, Member, Dynamic, ClassOf, Array, Multi, op_item, IsOperation, IsMethodUse, IsLiteralName}
 use Rattle.dj_tokens.specs.WordReading.{tested}
 use Rattle.dj_source.specs.Reading.{◌&◌, opcode_of}
 use Rattle.dj_source.specs.LineReading.{line_end, number, slot_fits, increment_fits, slot, increment, may_be_wide, wide_start, wide_after, wide, operation_by, operation}

@@ -1,8 +1,8 @@
 -- The lines of a source follow their order to its end.
 use Rattle.std.proofs.Common.{◌≡◌, ℕ, ℤ, append_assoc, true, List, [], ◌∷◌, ◌++◌, map, Option, Some, None, refl, sym, ap, ◌∙◌, subst}
 use Rattle.std.specs.List.{flat_map}
-use Rattle.dj_source.specs.Lines.{Line, Aside, Implements, Beside, Does, End}
-use Rattle.dj_source.specs.Sources.{Source, FieldSource, Part, Mark, Step, FrameStep, MethodSource, Bodiless, Coded, field_line, body_lines, part_lines, method_lines, lines_of}
+use Rattle.dj_source.specs.trusted.Lines.{Line, Aside, Implements, Beside, Does, End}
+use Rattle.dj_source.specs.trusted.Sources.{Source, FieldSource, BodyPart, Mark, Step, FrameStep, MethodSource, Bodiless, Coded, field_line, body_lines, part_lines, method_lines, lines_of}
 use Rattle.dj_source.specs.Order.{State, AtClass, AtInterfaces, AtFields, AtMethods, InBody, InFrame, after, run, is_final}
 
 pub run_append : (state : Option State) (xs ys : List Line) → run state (xs ++ ys) ≡ run (run state xs) ys
@@ -17,14 +17,14 @@ unfolding run
 asides_run [] = refl
 asides_run (aside ∷ asides) = asides_run asides
 
-part_run : (part : Part) → run (Some InBody) (part_lines part) ≡ Some InBody
+part_run : (part : BodyPart) → run (Some InBody) (part_lines part) ≡ Some InBody
 unfolding run
 part_run (Mark aside) = refl
 part_run (Step operation) = refl
 part_run (FrameStep frame asides operation) =
     run_append (Some InFrame) (map Beside asides) (Does operation ∷ []) ∙ ap (λ state. run state (Does operation ∷ [])) (asides_run asides)
 
-body_run : (parts : List Part) → run (Some InBody) (body_lines parts) ≡ Some InBody
+body_run : (parts : List BodyPart) → run (Some InBody) (body_lines parts) ≡ Some InBody
 unfolding run
 body_run [] = refl
 body_run (part ∷ parts) =

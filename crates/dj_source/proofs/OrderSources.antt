@@ -1,14 +1,14 @@
 -- Lines that follow their order to its end are those of a source.
 use Rattle.std.proofs.Common.{◌≡◌, ℕ, ℤ, true, true≢false, List, [], ◌∷◌, ◌++◌, map, Option, Some, None, refl, sym, ap, ◌∙◌, append_assoc}
 use Rattle.std.specs.List.{flat_map}
-use Rattle.dj_source.specs.Lines.{Line, Value, Frame, Operation, Aside, Class, Version, Super, Implements, Field, Abstract, Method, Stack, Locals, Beside, Framed, Does, End}
-use Rattle.dj_source.specs.Sources.{Source, FieldSource, Part, Mark, Step, FrameStep, MethodSource, Bodiless, Coded, version_lines, field_line, body_lines, method_lines, lines_of}
+use Rattle.dj_source.specs.trusted.Lines.{Line, Value, Frame, Operation, Aside, Class, Version, Super, Implements, Field, Abstract, Method, Stack, Locals, Beside, Framed, Does, End}
+use Rattle.dj_source.specs.trusted.Sources.{Source, FieldSource, BodyPart, Mark, Step, FrameStep, MethodSource, Bodiless, Coded, version_lines, field_line, body_lines, method_lines, lines_of}
 use Rattle.dj_source.specs.Order.{State, AtClass, AtVersion, AtSuper, AtInterfaces, AtFields, AtMethods, AtStack, AtLocals, InBody, InFrame, run, is_final}
 
 -- ---- what is left to come, as parts of a source
 
 -- the rest of a body, and the methods after it
-abbrev rest_lines : List Part → List MethodSource → List Line
+abbrev rest_lines : List BodyPart → List MethodSource → List Line
 rest_lines body methods = body_lines body ++ (End ∷ flat_map method_lines methods)
 
 abbrev tail_lines : List (List ℕ) → List FieldSource → List MethodSource → List Line
@@ -22,10 +22,10 @@ Left AtSuper lines = (super : List ℕ) × (names : List (List ℕ)) × (fields 
 Left AtInterfaces lines = (names : List (List ℕ)) × (fields : List FieldSource) × (methods : List MethodSource) × (lines ≡ tail_lines names fields methods)
 Left AtFields lines = (fields : List FieldSource) × (methods : List MethodSource) × (lines ≡ map field_line fields ++ flat_map method_lines methods)
 Left AtMethods lines = (methods : List MethodSource) × (lines ≡ flat_map method_lines methods)
-Left AtStack lines = (stack : ℤ) × (locals : ℤ) × (body : List Part) × (methods : List MethodSource) × (lines ≡ Stack stack ∷ Locals locals ∷ rest_lines body methods)
-Left AtLocals lines = (locals : ℤ) × (body : List Part) × (methods : List MethodSource) × (lines ≡ Locals locals ∷ rest_lines body methods)
-Left InBody lines = (body : List Part) × (methods : List MethodSource) × (lines ≡ rest_lines body methods)
-Left InFrame lines = (asides : List Aside) × (operation : Operation) × (body : List Part) × (methods : List MethodSource) × (lines ≡ map Beside asides ++ (Does operation ∷ rest_lines body methods))
+Left AtStack lines = (stack : ℤ) × (locals : ℤ) × (body : List BodyPart) × (methods : List MethodSource) × (lines ≡ Stack stack ∷ Locals locals ∷ rest_lines body methods)
+Left AtLocals lines = (locals : ℤ) × (body : List BodyPart) × (methods : List MethodSource) × (lines ≡ Locals locals ∷ rest_lines body methods)
+Left InBody lines = (body : List BodyPart) × (methods : List MethodSource) × (lines ≡ rest_lines body methods)
+Left InFrame lines = (asides : List Aside) × (operation : Operation) × (body : List BodyPart) × (methods : List MethodSource) × (lines ≡ map Beside asides ++ (Does operation ∷ rest_lines body methods))
 
 none_final : (lines : List Line) → is_final (run None lines) ≡ true → ⊥
 unfolding run

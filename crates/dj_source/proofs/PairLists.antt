@@ -2,11 +2,11 @@
 use Rattle.std.proofs.Common.{◌≡◌, ℕ, ◌<◌, ◌++◌, Bool, true, false, cond, length, ℤ, List, [], ◌∷◌, Option, Some, None, codes, bytes_eq, option_map, refl, sym, ap, subst, ◌∙◌, append_assoc, inl, inr, arith}
 use Rattle.std.proofs.lemmas.List.{append-nil}
 use Rattle.std.proofs.lemmas.Bool.{cases_Bool}
-use Rattle.dj_bytes.specs.Options.{◌>>=◌}
+use Rattle.dj_bytes.specs.trusted.Options.{◌>>=◌}
 use Rattle.dj_source.specs.declared.reader.Stop.{Stop}
 use Rattle.dj_source.specs.declared.reader.Stop.TheVariants as stops
-use Rattle.dj_tokens.specs.Words.{Word, Placed}
-use Rattle.dj_source.specs.Lines.{Label}
+use Rattle.dj_tokens.specs.trusted.Words.{Word, Placed}
+use Rattle.dj_source.specs.trusted.Lines.{Label}
 use Rattle.dj_tokens.specs.WordReading.{number_in}
 use Rattle.dj_source.specs.Reading.{Read, Got, Wrong, Large, read_map, said_by, any_size, word_of, number_of, is_signed}
 use Rattle.dj_source.specs.LineReading.{Pairs, DefaultMatch, MatchOf, default_after, number, label, pairs_after, matches_from, match_in, target_from}

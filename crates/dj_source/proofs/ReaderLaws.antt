@@ -6,7 +6,7 @@ use Rattle.std.proofs.lemmas.Int.{ints}
 use Rattle.dj_source.specs.declared.reader.NumberField.{NumberField}
 use Rattle.dj_source.specs.declared.reader.NumberField.TheVariants as fields
 use Rattle.std.proofs.lemmas.Bool.{cases_Bool, and_parts, and_from}
-use Rattle.dj_tokens.specs.Words.{Word, Placed}
+use Rattle.dj_tokens.specs.trusted.Words.{Word, Placed}
 use Rattle.dj_tokens.specs.Numbers.{Value, Outside, number_within}
 use Rattle.dj_tokens.specs.WordReading.{number_in}
 use Rattle.dj_source.specs.Reading.{Got, Large, said_by}

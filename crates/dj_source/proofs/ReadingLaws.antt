@@ -6,9 +6,9 @@ use Rattle.dj_source.specs.declared.error.AsmError.TheVariants as asm_errors
 use Rattle.dj_source.specs.declared.syntax.Line.{Line as TheLine}
 use Rattle.dj_source.specs.declared.unread.Row.TheVariants as rows
 use Rattle.dj_source.specs.LineViews.{line_view}
-use Rattle.dj_source.specs.Lines.{Line}
-use Rattle.dj_source.specs.Faults.{WordFault}
-use Rattle.dj_source.specs.Labels.{LabelFault}
+use Rattle.dj_source.specs.trusted.Lines.{Line}
+use Rattle.dj_source.specs.trusted.Faults.{WordFault}
+use Rattle.dj_source.specs.trusted.Labels.{LabelFault}
 use Rattle.dj_source.specs.LineReading.{AreRead, with_line, text_read}
 use Rattle.dj_source.specs.LabelReading.{first_mislabelled, label_error, labels_fault}
 use Rattle.dj_source.specs.Unread.{UnreadLines, all_left, read_left, numbers_left, GivesRow, LeavesRow}
@@ -76,7 +76,7 @@ stops text read old new (asm_errors.Large line) so gives = so.words ∙ ap (with
 
 -- ---- all lines of a text
 
--- what their labels tell
+-- what their labels say
 told_by : (text : List ℕ) (read : TextLines) (o : Option AsmError) → AreAllRead text read → label_error read.numbers (first_mislabelled read.lines) ≡ o → labels_fault text read.lines ≡ o
 told_by text read o all e = ap (λ numbers. label_error numbers (first_mislabelled read.lines)) all.numbers ∙ e
 

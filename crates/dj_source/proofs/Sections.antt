@@ -3,8 +3,8 @@ use Rattle.std.proofs.Common.{◌≡◌, ℕ, ℤ, suc, ◌+◌, Bool, true, fal
 use Rattle.std.specs.List.{flat_map, list_all, prefix_len}
 use Rattle.std.proofs.lemmas.Bool.{and_parts, and_from, not-false}
 use Rattle.std.proofs.lemmas.List.{append_assoc, take-append-drop}
-use Rattle.dj_source.specs.Lines.{Line, Aside, Class, Super, Implements, Abstract, Method, Stack, Locals, Beside, Does, End}
-use Rattle.dj_source.specs.Sources.{Source, FieldSource, Part, Mark, Step, FrameStep, MethodSource, Bodiless, Coded, version_lines, field_line, body_lines, method_lines, head_lines, lines_of}
+use Rattle.dj_source.specs.trusted.Lines.{Line, Aside, Class, Super, Implements, Abstract, Method, Stack, Locals, Beside, Does, End}
+use Rattle.dj_source.specs.trusted.Sources.{Source, FieldSource, BodyPart, Mark, Step, FrameStep, MethodSource, Bodiless, Coded, version_lines, field_line, body_lines, method_lines, head_lines, lines_of}
 use Rattle.dj_source.specs.LabelReading.{begins_method, is_cut, with_line_first, sections_of, is_inside, section_size}
 
 -- ---- one section, and those after it
@@ -36,7 +36,7 @@ asides_inside : (asides : List Aside) (more : List Line) → list_all is_inside 
 asides_inside [] more e = e
 asides_inside (aside ∷ asides) more e = asides_inside asides more e
 
-body_inside : (body : List Part) (more : List Line) → list_all is_inside more ≡ true → list_all is_inside (body_lines body ++ more) ≡ true
+body_inside : (body : List BodyPart) (more : List Line) → list_all is_inside more ≡ true → list_all is_inside (body_lines body ++ more) ≡ true
 body_inside [] more e = e
 body_inside (Mark aside ∷ body) more e = body_inside body more e
 body_inside (Step operation ∷ body) more e = body_inside body more e

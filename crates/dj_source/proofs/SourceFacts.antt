@@ -1,13 +1,13 @@
 -- The order of a source's lines, and what labels stand for, at plain values.
 use Rattle.std.proofs.Common.{◌≡◌, pos, List, [], ◌∷◌, ◌++◌, map, Some, None, codes, refl, subst, arith}
-use Rattle.dj_source.specs.Lines.{Line, Class, Version, Super, Implements, Field, Abstract, Method, Stack, Locals, Beside, Framed, Does, End, Same, Plain, Jump, Labelled, Catch}
-use Rattle.dj_source.specs.Sources.{Source, Part, Mark, Step, FrameStep, Bodiless, Coded, lines_of, method_lines}
-use Rattle.dj_source.specs.Labels.{AtInstruction, Range, IsLabelAt, IsMet, instruction_count, uses_of}
+use Rattle.dj_source.specs.trusted.Lines.{Line, Class, Version, Super, Implements, Field, Abstract, Method, Stack, Locals, Beside, Framed, Does, End, Same, Plain, Jump, Labelled, Catch}
+use Rattle.dj_source.specs.trusted.Sources.{Source, BodyPart, Mark, Step, FrameStep, Bodiless, Coded, lines_of, method_lines}
+use Rattle.dj_source.specs.trusted.Labels.{AtInstruction, Range, IsLabelAt, IsMet, instruction_count, uses_of}
 
 -- ---- lines in their order
 
 -- a label and a row between a frame and its instruction
-abbrev body : List Part
+abbrev body : List BodyPart
 body = Mark (Labelled (codes "a")) ∷ FrameStep Same (Labelled (codes "b") ∷ Catch None (codes "a") (codes "c") (codes "b") ∷ []) (Plain 0) ∷ Step (Jump 167 (codes "a")) ∷ Mark (Labelled (codes "c")) ∷ []
 
 abbrev full : Source

@@ -4,10 +4,10 @@ use Rattle.std.specs.Prelude.{⊤}
 use Rattle.std.specs.List.{AllByRecursion, list_all}
 use Rattle.std.proofs.lemmas.Bool.{and_parts, eqb-true}
 use Rattle.dj_bytes.proofs.Options.{some_is, chose_some, bind_some}
-use Rattle.dj_bytes.specs.Options.{◌>>=◌}
-use Rattle.dj_tokens.specs.Words.{Word}
-use Rattle.dj_source.specs.Items.{Item, Exactly}
-use Rattle.dj_tokens.specs.Mnemonics.{mnemonics, mnemonic}
+use Rattle.dj_bytes.specs.trusted.Options.{◌>>=◌}
+use Rattle.dj_tokens.specs.trusted.Words.{Word}
+use Rattle.dj_source.specs.trusted.Items.{Item, Exactly}
+use Rattle.dj_tokens.specs.trusted.Mnemonics.{mnemonics, mnemonic}
 use Rattle.dj_tokens.specs.WordReading.{tested, row_of, place_from, before_colon, is_some_label, label_in}
 use Rattle.dj_source.specs.Reading.{opcode_of}
 use Rattle.dj_source.specs.LineReading.{LineStart, ClassLine, VersionLine, SuperLine, ImplementsLine, FieldLine, AbstractLine, MethodLine, StackLine, LocalsLine, CatchLine, FrameLine, EndLine, LabelLine, OperationLine, directives, or_else, start_in}

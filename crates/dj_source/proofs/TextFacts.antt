@@ -1,14 +1,14 @@
 -- Whole texts, and the first fault of the words of each, or that there is none.
 use Rattle.std.proofs.Common.{◌≡◌, ℕ, List, [], ◌∷◌, ◌++◌, map, Option, Some, None, Ok, Err, codes, refl}
 use Rattle.std.specs.Prelude.{◌==◌, if◌then◌else◌}
-use Rattle.dj_names.specs.DescReading.{field_read, type_read, dims_read, of_read, method_read, params_read, return_read, class_read, name_read}
-use Rattle.dj_names.specs.NameReading.{reads_class_name}
+use Rattle.dj_names.specs.trusted.DescReading.{field_read, type_read, dims_read, of_read, method_read, params_read, return_read, class_read, name_read}
+use Rattle.dj_names.specs.trusted.NameReading.{reads_class_name}
 use Rattle.dj_names.specs.Tests.{class_name_test, unqualified_name_test, method_name_test, field_descriptor_test, method_descriptor_test, array_descriptor_test}
-use Rattle.dj_ops.specs.Forms.{form_of}
+use Rattle.dj_ops.specs.trusted.Forms.{form_of}
 use Rattle.dj_source.specs.declared.error.AsmError.{AsmError}
 use Rattle.dj_source.specs.declared.error.AsmError.TheVariants as asm_errors
-use Rattle.dj_tokens.specs.Words.{tokens_after, word_units, string_units}
-use Rattle.dj_tokens.specs.Mnemonics.{mnemonics}
+use Rattle.dj_tokens.specs.trusted.Words.{tokens_after, word_units, string_units}
+use Rattle.dj_tokens.specs.trusted.Mnemonics.{mnemonics}
 use Rattle.dj_source.specs.LineReading.{AreRead, text_read, lines_read, targets, pairs_after, types_until, types_up_to}
 
 -- | is a line feed, ' a quote and ` a backslash

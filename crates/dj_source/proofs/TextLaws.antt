@@ -1,14 +1,14 @@
--- Each text is one source's or has a fault in its words, and reading tells which.
+-- Each text is one source's or has a fault in its words, and reading says which.
 use Rattle.std.proofs.Common.{◌≡◌, ◌⊎◌, ℕ, List, [], ◌∷◌, ◌++◌, map, Ok, Err, refl, sym, ap, ◌∙◌, subst, inl, inr, append_assoc}
 use Rattle.std.specs.List.{flat_map, AllByRecursion, AllZip, enumerate_from}
 use Rattle.std.specs.Str.Lines.{lines}
 use Rattle.dj_source.specs.declared.error.AsmError.{AsmError}
-use Rattle.dj_tokens.specs.Words.{Token, Placed, line_tokens, tokens_of, end_line}
-use Rattle.dj_source.specs.Items.{Item, Says}
-use Rattle.dj_source.specs.Lines.{Line, IsLine, IsSized}
-use Rattle.dj_source.specs.Sources.{Source, IsSource, IsSizedSource, Reads, line_items, lines_of, token_of, IsTextOf}
+use Rattle.dj_tokens.specs.trusted.Words.{Token, Placed, line_tokens, tokens_of, end_line}
+use Rattle.dj_source.specs.trusted.Items.{Item, Says}
+use Rattle.dj_source.specs.trusted.Lines.{Line, IsLine, IsSized}
+use Rattle.dj_source.specs.trusted.Sources.{Source, IsSource, IsSizedSource, Reads, line_items, lines_of, token_of, IsTextOf}
 use Rattle.dj_source.specs.Order.{AtClass}
-use Rattle.dj_source.specs.Faults.{Begins, IsAt, IsMisplaced, IsLargeNumber, IsUnfinished, WordFault}
+use Rattle.dj_source.specs.trusted.Faults.{Begins, IsAt, IsMisplaced, IsLargeNumber, IsUnfinished, WordFault}
 use Rattle.dj_source.specs.LineReading.{AreRead, text_read}
 use Rattle.dj_source.proofs.FaultLaws.{no_fault_of_text}
 use Rattle.dj_source.proofs.OrderLaws.{lines_follow}

@@ -1,13 +1,13 @@
--- All lines of a text are read, or its first fault is told: line by line, from a state on.
+-- All lines of a text are read, or its first fault is reported: line by line, from a state on.
 use Rattle.std.proofs.Common.{◌≡◌, ◌⊎◌, ℕ, Bool, true, false, cond, List, [], ◌∷◌, ◌++◌, map, Option, Some, None, Ok, Err, is_some, refl, sym, ap, ◌∙◌, subst, inl, inr, true≢false, append_assoc}
 use Rattle.std.specs.List.{flat_map, AllByRecursion, AllZip}
 use Rattle.std.proofs.lemmas.List.{append-nil}
 use Rattle.dj_source.specs.declared.error.AsmError.{AsmError}
 use Rattle.dj_source.specs.declared.error.AsmError.TheVariants as asm_errors
-use Rattle.dj_tokens.specs.Words.{Token, Placed}
-use Rattle.dj_source.specs.Items.{Item, Says}
-use Rattle.dj_source.specs.Lines.{Line, items_of, IsLine, IsSized}
-use Rattle.dj_source.specs.Sources.{line_items}
+use Rattle.dj_tokens.specs.trusted.Words.{Token, Placed}
+use Rattle.dj_source.specs.trusted.Items.{Item, Says}
+use Rattle.dj_source.specs.trusted.Lines.{Line, items_of, IsLine, IsSized}
+use Rattle.dj_source.specs.trusted.Sources.{line_items}
 use Rattle.dj_source.specs.Order.{State, after, run, is_final}
 use Rattle.dj_source.specs.Reading.{Read, Got, Wrong, Large}
 use Rattle.dj_source.specs.LineReading.{line, AreRead, missing, wrong_at, large_at, with_line, lines_from, lines_read}

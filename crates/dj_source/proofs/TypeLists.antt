@@ -5,8 +5,8 @@ use Rattle.std.proofs.lemmas.Bool.{cases_Bool}
 use Rattle.std.proofs.lemmas.List.{append-nil}
 use Rattle.dj_source.specs.declared.reader.Stop.{Stop}
 use Rattle.dj_source.specs.declared.reader.Stop.TheVariants as stops
-use Rattle.dj_tokens.specs.Words.{Token, Placed}
-use Rattle.dj_source.specs.Lines.{FrameType}
+use Rattle.dj_tokens.specs.trusted.Words.{Token, Placed}
+use Rattle.dj_source.specs.trusted.Lines.{FrameType}
 use Rattle.dj_source.specs.Reading.{Read, Reader, Got, Wrong, Large, read_map, read_then, said_by, any_size, type_of}
 use Rattle.dj_source.specs.LineReading.{line_end, frame_type, types_from, types_until, types_up_to, is_end}
 use Rattle.dj_source.specs.StartViews.{AfterEnd}

@@ -6,9 +6,9 @@ use Rattle.dj_source.specs.declared.reader.Stop.{Stop}
 use Rattle.dj_source.specs.declared.reader.Stop.TheVariants as stops
 use Rattle.dj_source.specs.declared.unread.Row.TheVariants as rows
 use Rattle.dj_source.specs.declared.syntax.Line.{Line as TheLine}
-use Rattle.dj_tokens.specs.Words.{Placed, line_tokens}
+use Rattle.dj_tokens.specs.trusted.Words.{Placed, line_tokens}
 use Rattle.dj_source.specs.Order.{State, after, is_final}
-use Rattle.dj_source.specs.Lines.{Line}
+use Rattle.dj_source.specs.trusted.Lines.{Line}
 use Rattle.dj_source.specs.Reading.{Read, Got, Wrong, Large}
 use Rattle.dj_source.specs.LineReading.{AreRead, missing, line, with_line, lines_from, lines_read}
 use Rattle.dj_source.specs.Stops.{Stops}

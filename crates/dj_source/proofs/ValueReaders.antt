@@ -3,11 +3,11 @@ use Rattle.std.proofs.Common.{◌≡◌, ℕ, Bool, true, false, ℤ, FitsSigned
 use Rattle.std.specs.Prelude.{⊤}
 use Rattle.std.specs.Int.{w32, w64}
 use Rattle.dj_bytes.proofs.Options.{some_is}
-use Rattle.dj_names.specs.Types.{Name}
-use Rattle.dj_pool.specs.Pool.{IsClassText}
-use Rattle.dj_tokens.specs.Words.{Token, Word, Quoted, Bad, LineEnd}
-use Rattle.dj_source.specs.Items.{Item, Exactly, Ended, Says}
-use Rattle.dj_source.specs.Lines.{Value, IntValue, LongValue, StringValue, value_items, IsSizedValue, Literal, IntLiteral, StringLiteral, ClassLiteral, literal_items, IsLiteralName, IsSizedLiteral, interface_items}
+use Rattle.dj_names.specs.trusted.Types.{Name}
+use Rattle.dj_pool.specs.trusted.Pool.{IsClassText}
+use Rattle.dj_tokens.specs.trusted.Words.{Token, Word, Quoted, Bad, LineEnd}
+use Rattle.dj_source.specs.trusted.Items.{Item, Exactly, Ended, Says}
+use Rattle.dj_source.specs.trusted.Lines.{Value, IntValue, LongValue, StringValue, value_items, IsSizedValue, Literal, IntLiteral, StringLiteral, ClassLiteral, literal_items, IsLiteralName, IsSizedLiteral, interface_items}
 use Rattle.dj_tokens.specs.WordReading.{row_of, class_text_test}
 use Rattle.dj_source.specs.Reading.{is_signed, ◌&◌}
 use Rattle.dj_source.specs.LineReading.{line_end, number, string, name, ValueStart, NoValue, IntWord, LongWord, StringWord, value_start, value_after, value, LiteralStart, IntLiteralWord, StringLiteralWord, ClassLiteralWord, literal_start, literal_after, literal, interface_start, interface_after, interface_end}

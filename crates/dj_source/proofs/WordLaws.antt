@@ -1,4 +1,4 @@
--- What tokens say, as their tests tell it: words of tables, numbers, names and types of frames.
+-- What tokens say, as their tests answer it: words of tables, numbers, names and types of frames.
 use Rattle.std.proofs.Common.{◌≡◌, ◌↔◌, ◌⊎◌, ℕ, zero, suc, ◌+◌, ◌^◌, ◌<◌, ◌≤◌, Bool, true, false, cond, not, eqb, leb, ◌&&◌, ℤ, pos, negsuc, neg_ℤ, FitsSigned, List, [], ◌∷◌, length, Option, Some, None, bytes_eq, slice_get, refl, sym, ap, ◌∙◌, subst, inl, inr, arith, Decides}
 use Rattle.std.specs.Prelude.{⊤, nat_le}
 use Rattle.std.specs.List.{AllByRecursion, list_all}
@@ -8,22 +8,22 @@ use Rattle.std.specs.Int.{w8, w16, w32, w64}
 use Rattle.std.proofs.lemmas.Bool.{leb-true, le-leb, ltb-true, lt-ltb, eqb-true, ne_eqb, cases_Bool, and_parts, and_from}
 use Rattle.std.proofs.lemmas.Bool.Decides.{Decides-and, Decides-or, Decides-ltb}
 use Rattle.std.proofs.lemmas.Slice.Eq.{bytes_eq-Decides}
-use Rattle.dj_bytes.specs.Options.{◌>>=◌}
+use Rattle.dj_bytes.specs.trusted.Options.{◌>>=◌}
 use Rattle.dj_bytes.proofs.Options.{some_is, chose_some}
-use Rattle.dj_names.specs.ModifiedUtf8.{units_text}
+use Rattle.dj_names.specs.trusted.ModifiedUtf8.{units_text}
 use Rattle.dj_names.specs.Tests.{class_name_test, array_descriptor_test}
 use Rattle.dj_names.proofs.TestLaws.{class_name_test-decides, array_descriptor_test-decides}
-use Rattle.dj_pool.specs.Pool.{IsClassText}
-use Rattle.dj_tokens.specs.Words.{Token, Word, Quoted, Bad, LineEnd}
-use Rattle.dj_source.specs.Items.{Item, Exactly, Flags, Number, Text, Ended, Says, SaysFlags, SaysPlainNumber, SaysMinusNumber, SaysCalled}
-use Rattle.dj_source.specs.Lines.{FitsBits, called}
+use Rattle.dj_pool.specs.trusted.Pool.{IsClassText}
+use Rattle.dj_tokens.specs.trusted.Words.{Token, Word, Quoted, Bad, LineEnd}
+use Rattle.dj_source.specs.trusted.Items.{Item, Exactly, Flags, Number, Text, Ended, Says, SaysFlags, SaysPlainNumber, SaysMinusNumber, SaysCalled}
+use Rattle.dj_source.specs.trusted.Lines.{FitsBits, called}
 use Rattle.dj_tokens.specs.WordReading.{tested, row_of, place_from, is_numeral, number_in, class_text_test}
 use Rattle.dj_source.specs.Reading.{word_of, string_of, end_of, exactly, flags_of, number_of, is_between, is_signed, name_of}
 use Rattle.dj_source.proofs.Choices.{IsTold}
 
 -- ---- words
 
--- a test on words tells what they say
+-- a test on words answers what they say
 pub record IsWordTold {A : Type 0} (item : A → Item) (is : A → Type 0) (says : List ℕ → Option A) : Type 0 where
   pub sound : (word : List ℕ) (a : A) → says word ≡ Some a → is a × Says (item a) (Word word)
   pub whole : (token : Token) (a : A) → is a → Says (item a) token → (word : List ℕ) × (token ≡ Word word) × (says word ≡ Some a)

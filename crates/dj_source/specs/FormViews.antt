@@ -1,5 +1,5 @@
 -- What the code's forms show.
-use Rattle.dj_ops.specs.Forms.{Form, Bare, SignedByte, SignedShort, ShortLiteral, LongLiteral, Slot, SlotAndByte, ShortOffset, LongOffset, MemberIndex, InterfaceIndex, DynamicIndex, ClassIndex, ArrayType, MultiIndex, TableSwitch, LookupSwitch, WidePrefix, Reserved}
+use Rattle.dj_ops.specs.trusted.Forms.{Form, Bare, SignedByte, SignedShort, ShortLiteral, LongLiteral, Slot, SlotAndByte, ShortOffset, LongOffset, MemberIndex, InterfaceIndex, DynamicIndex, ClassIndex, ArrayType, MultiIndex, TableSwitch, LookupSwitch, WidePrefix, Reserved}
 use Rattle.dj_source.specs.declared.form.Form as the_form
 use Rattle.dj_source.specs.declared.form.Form.TheVariants as forms
 

@@ -1,18 +1,18 @@
--- The readers' vocabulary: labels, by two passes over the lines of each method. One collects its labels, the other asks each line what it names.
--- Clauses of the crate's own functions cite it, and no public one; proofs/LabelTextLaws says that what it finds is the text's fault.
+-- Definitions that only the readers' clauses cite: labels, by two passes over the lines of each method. One collects its labels, the other looks
+-- up what each line names. No public clause cites them; proofs/LabelTextLaws says that what it finds is the text's fault.
 use Rattle.std.specs.Prelude.{ℕ, suc, ◌+◌, ◌||◌, Bool, true, false, not, List, [], ◌∷◌, length, Option, Some, None, Ok, Err, slice_get, nat_lt, if◌then◌else◌}
 use Rattle.std.specs.List.{list_all, prefix_len}
 use Rattle.std.specs.Option.{option_map}
 use Rattle.dj_source.specs.declared.error.AsmError.{AsmError}
 use Rattle.dj_source.specs.declared.error.AsmError.TheVariants as asm_errors
-use Rattle.dj_source.specs.Lines.{Label, Labelled, Line, Abstract, Method, Beside}
-use Rattle.dj_source.specs.Labels.{Use, AtInstruction, Range, is_instruction, instruction_count, uses_of, line_numbers}
+use Rattle.dj_source.specs.trusted.Lines.{Label, Labelled, Line, Abstract, Method, Beside}
+use Rattle.dj_source.specs.trusted.Labels.{Use, AtInstruction, Range, is_instruction, instruction_count, uses_of, line_numbers}
 use Rattle.dj_tokens.specs.WordReading.{row_of}
 use Rattle.dj_source.specs.LineReading.{AreRead, or_else, text_read}
 
 -- ---- the first pass: the labels of a method
 
--- how many lines and how many instructions stand before a label
+-- how many lines and how many instructions come before a label
 pub record Mark : Type 0 where
   pub place : ℕ
   pub number : ℕ
@@ -32,7 +32,7 @@ with_mark (Some label) place number marks = (label, record { place = place; numb
 abbrev pub number_after : Line → ℕ → ℕ
 number_after line number = if is_instruction line then suc number else number
 
--- after so many lines and instructions
+-- after this many lines and instructions
 unfoldable pub marks_from : ℕ → ℕ → List Line → Marks
 marks_from place number [] = []
 marks_from place number (line ∷ lines) = with_mark (defined_by line) place number (marks_from (suc place) (number_after line number) lines)
@@ -50,7 +50,7 @@ abbrev pub is_in_order : Option Mark → Option Mark → Bool
 is_in_order (Some from) (Some to) = nat_lt from.number to.number
 is_in_order from to = false
 
--- in a method of so many instructions
+-- in a method of this many instructions
 abbrev pub is_met : Marks → ℕ → Use → Bool
 is_met marks count (AtInstruction label) = is_below count (row_of marks label)
 is_met marks count (Range from to) = is_in_order (row_of marks from) (row_of marks to)
@@ -59,7 +59,7 @@ abbrev pub is_before : ℕ → Option Mark → Bool
 is_before place None = false
 is_before place (Some mark) = nat_lt mark.place place
 
--- the label that the line after so many defines has a row of an earlier line
+-- the label that the line after this many defines has a row of an earlier line
 abbrev pub is_again : Marks → ℕ → Option Label → Bool
 is_again marks place None = false
 is_again marks place (Some label) = is_before place (row_of marks label)
@@ -67,7 +67,7 @@ is_again marks place (Some label) = is_before place (row_of marks label)
 abbrev pub is_mislabelled : Marks → ℕ → ℕ → Line → Bool
 is_mislabelled marks count place line = is_again marks place (defined_by line) || not (list_all (is_met marks count) (uses_of line))
 
--- the first of the lines after so many
+-- the first of the lines after this many
 unfoldable pub mislabelled_from : Marks → ℕ → ℕ → List Line → Option ℕ
 mislabelled_from marks count place [] = None
 mislabelled_from marks count place (line ∷ lines) = if is_mislabelled marks count place line then Some place else mislabelled_from marks count (suc place) lines
@@ -111,7 +111,7 @@ mislabelled_after before [] = None
 mislabelled_after before (section ∷ sections) =
     or_else (option_map (λ n. before + n) (mislabelled_in section)) (mislabelled_after (before + length section) sections)
 
--- how many lines stand before the first that is mislabelled
+-- how many lines come before the first that is mislabelled
 abbrev pub first_mislabelled : List Line → Option ℕ
 first_mislabelled lines = mislabelled_after 0 (sections_of lines)
 
@@ -121,15 +121,15 @@ abbrev pub label_error : List ℕ → Option ℕ → Option AsmError
 label_error numbers None = None
 label_error numbers (Some place) = option_map (λ line. asm_errors.Label line) (slice_get numbers place)
 
--- what is told of the labels of a text with these lines
+-- what is reported of the labels of a text with these lines
 abbrev pub labels_fault : List ℕ → List Line → Option AsmError
 labels_fault text lines = label_error (line_numbers text) (first_mislabelled lines)
 
--- what is told of a text where this was read
+-- what is reported of a text where this was read
 abbrev pub read_fault : List ℕ → AreRead → Option AsmError
 read_fault text (Ok lines) = labels_fault text lines
 read_fault text (Err e) = Some e
 
--- what is told of a text in the first two steps
+-- what is reported of a text in the first two steps
 abbrev pub text_fault : List ℕ → Option AsmError
 text_fault text = read_fault text (text_read text)

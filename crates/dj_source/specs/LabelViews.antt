@@ -4,7 +4,7 @@ use Rattle.std.specs.Cmp.Lexicographic.{slice_cmp}
 use Rattle.std.specs.Ordering.{nat_cmp, is_lt}
 use Rattle.dj_source.specs.declared.syntax.Line as the_line
 use Rattle.dj_source.specs.declared.label_table.Mark as the_mark
-use Rattle.dj_source.specs.Lines.{Label}
+use Rattle.dj_source.specs.trusted.Lines.{Label}
 use Rattle.dj_source.specs.LineViews.{line_view}
 use Rattle.dj_source.specs.LabelReading.{Mark, defined_by}
 

@@ -1,8 +1,3 @@
-pub mod Items
-pub mod Lines
-pub mod Sources
-pub mod Faults
-pub mod Labels
 pub mod Order
 pub mod Reading
 pub mod LineReading
@@ -21,3 +16,4 @@ pub mod Laws
 pub mod Unread
 pub mod SourceLines
 pub mod Readings
+pub mod trusted

@@ -1,17 +1,17 @@
--- The readers' vocabulary: reading lines, each by the word that begins it.
+-- Definitions that only the readers' clauses cite: reading lines, each by the word that begins it.
 use Rattle.std.specs.Prelude.{ℕ, zero, suc, ◌==◌, ◌||◌, Bool, true, false, ⊤, ℤ, List, [], ◌∷◌, map, Option, Some, None, Result, Ok, Err, if◌then◌else◌, nat_le, is_some, bytes_eq, codes}
 use Rattle.std.specs.Option.{option_map}
 use Rattle.std.specs.List.{enumerate_from}
 use Rattle.std.specs.Str.Lines.{lines}
-use Rattle.dj_bytes.specs.Options.{◌>>=◌}
-use Rattle.dj_names.specs.Types.{Name}
+use Rattle.dj_bytes.specs.trusted.Options.{◌>>=◌}
+use Rattle.dj_names.specs.trusted.Types.{Name}
 use Rattle.dj_names.specs.Tests.{unqualified_name_test, method_name_test, class_name_test, field_descriptor_test, method_descriptor_test, array_descriptor_test}
-use Rattle.dj_ops.specs.Forms.{Form, Bare, SignedByte, SignedShort, ShortLiteral, LongLiteral, Slot, SlotAndByte, ShortOffset, LongOffset, MemberIndex, InterfaceIndex, DynamicIndex, ClassIndex, ArrayType, MultiIndex, TableSwitch, LookupSwitch, WidePrefix, Reserved, form_of}
+use Rattle.dj_ops.specs.trusted.Forms.{Form, Bare, SignedByte, SignedShort, ShortLiteral, LongLiteral, Slot, SlotAndByte, ShortOffset, LongOffset, MemberIndex, InterfaceIndex, DynamicIndex, ClassIndex, ArrayType, MultiIndex, TableSwitch, LookupSwitch, WidePrefix, Reserved, form_of}
 use Rattle.dj_source.specs.declared.error.AsmError.{AsmError}
 use Rattle.dj_source.specs.declared.error.AsmError.TheVariants as asm_errors
-use Rattle.dj_tokens.specs.Words.{Token, LineEnd, Placed, line_tokens, end_line}
-use Rattle.dj_source.specs.Lines.{Label, Value, IntValue, LongValue, StringValue, Literal, IntLiteral, StringLiteral, ClassLiteral, FrameType, Frame, Same, Stack1, Chop, Append, Full, Operation, Plain, Push, Local, Increment, Load, LoadLong, Jump, Table, Lookup, Member, Dynamic, ClassOf, Array, Multi, Labelled, Catch, Line, Class, Version, Super, Implements, Field, Abstract, Method, Stack, Locals, Beside, Framed, Does, End}
-use Rattle.dj_tokens.specs.Mnemonics.{mnemonics}
+use Rattle.dj_tokens.specs.trusted.Words.{Token, LineEnd, Placed, line_tokens, end_line}
+use Rattle.dj_source.specs.trusted.Lines.{Label, Value, IntValue, LongValue, StringValue, Literal, IntLiteral, StringLiteral, ClassLiteral, FrameType, Frame, Same, Stack1, Chop, Append, Full, Operation, Plain, Push, Local, Increment, Load, LoadLong, Jump, Table, Lookup, Member, Dynamic, ClassOf, Array, Multi, Labelled, Catch, Line, Class, Version, Super, Implements, Field, Abstract, Method, Stack, Locals, Beside, Framed, Does, End}
+use Rattle.dj_tokens.specs.trusted.Mnemonics.{mnemonics}
 use Rattle.dj_source.specs.Order.{State, AtClass, AtVersion, AtSuper, AtInterfaces, AtFields, AtMethods, AtStack, AtLocals, InBody, InFrame, after, is_final}
 use Rattle.dj_tokens.specs.WordReading.{tested, row_of, place_from, label_in, number_in, class_text_test}
 use Rattle.dj_source.specs.Reading.{Read, Got, Wrong, Large, Reader, read_map, mapped, ◌&◌, got, one, any_size, choose, word_of, string_of, end_of, exactly, opcode_of, base_of, flags_of, number_of, is_between, is_signed, name_of, caught_of, type_of}
@@ -143,7 +143,7 @@ abbrev pub target_from : ℤ → Option Label → Placed → List Placed → Rea
 target_from n None here rest more = Wrong (here ∷ rest)
 target_from n (Some first) here rest more = read_map (λ (x : Pairs). ((n, first) ∷ x.0, x.1)) more
 
--- after a match its target stands
+-- after a number comes its target
 unfoldable pub pairs_after : Option ℤ → List Placed → Read Pairs
 pairs_after pending [] = Wrong []
 pairs_after None (here ∷ rest) = matches_from (match_start here.token) here rest (λ n. pairs_after (Some n) rest)
@@ -226,7 +226,7 @@ array = mapped (λ (x : ℕ × ⊤). Array x.0) (base & line_end)
 abbrev pub multi : Reader Operation
 multi = mapped (λ (x : Name × (ℤ × ⊤)). Multi x.0 x.1.0) (name array_descriptor_test & (number (is_between 0 255) & line_end))
 
--- an opcode that may stand after `wide`
+-- an opcode that may come after `wide`
 abbrev pub may_be_wide : Form → Bool
 may_be_wide Slot = true
 may_be_wide SlotAndByte = true
@@ -286,7 +286,7 @@ is_end token = is_some (end_of token)
 abbrev pub is_slash : Token → Bool
 is_slash token = is_some (exactly (codes "/") token)
 
--- so many at most, to the end of the line
+-- this many at most, to the end of the line
 unfoldable pub types_up_to : ℕ → List Placed → Read (List FrameType)
 types_up_to zero tokens = read_map (λ (x : ⊤). []) (line_end tokens)
 types_up_to (suc most) [] = Wrong []
@@ -392,7 +392,7 @@ class_name = name class_name_test
 abbrev pub caught : Reader (Option Name)
 caught = one caught_of any_size
 
--- what stands after the first word of a line, to its end
+-- what comes after the first word of a line, to its end
 abbrev pub line_after : LineStart → Reader Line
 line_after ClassLine = mapped (λ (x : ℕ × (Name × ⊤)). Class x.0 x.1.0) (flags & (class_name & line_end))
 line_after VersionLine = mapped (λ (x : ℤ × (ℤ × ⊤)). Version x.0 x.1.0) (number fits_16 & (number fits_16 & line_end))

@@ -2,7 +2,7 @@
 use Rattle.std.specs.Prelude.{pos}
 use Rattle.dj_source.specs.declared.syntax.Operation as the_operation
 use Rattle.dj_source.specs.declared.syntax.Operation.TheVariants as operations
-use Rattle.dj_source.specs.Lines.{Operation, Plain, Push, Local, Increment, Load, LoadLong, Jump, Table, Lookup, Member, Dynamic, ClassOf, Array, Multi}
+use Rattle.dj_source.specs.trusted.Lines.{Operation, Plain, Push, Local, Increment, Load, LoadLong, Jump, Table, Lookup, Member, Dynamic, ClassOf, Array, Multi}
 use Rattle.dj_tokens.specs.Views.{units_of}
 use Rattle.dj_tokens.specs.Texts.{text_view}
 use Rattle.dj_source.specs.TypeViews.{literal_view}

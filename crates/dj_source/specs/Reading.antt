@@ -1,19 +1,19 @@
--- The readers' vocabulary: reading as functions on the tokens at hand. Clauses of the crate's own readers cite it, and no public one;
+-- Definitions that only the readers' clauses cite: reading as functions on the tokens at hand. No public clause cites them;
 -- proofs/TextLaws says that what is read of a text is its source or its fault.
 use Rattle.std.specs.Prelude.{ℕ, ◌^◌, ◌&&◌, ◌||◌, Bool, true, false, ⊤, ℤ, pos, negsuc, List, [], ◌∷◌, length, take, drop, Option, Some, None, nat_lt, nat_le, if◌then◌else◌, bytes_eq, codes}
 use Rattle.std.specs.Option.{option_map}
 use Rattle.std.specs.Str.Parse.{digits_value}
-use Rattle.dj_bytes.specs.Options.{◌>>=◌}
-use Rattle.dj_names.specs.Types.{Name}
-use Rattle.dj_names.specs.ModifiedUtf8.{units_text}
-use Rattle.dj_tokens.specs.Words.{Token, Word, Quoted, LineEnd, Placed}
-use Rattle.dj_tokens.specs.Mnemonics.{mnemonics, base_words}
+use Rattle.dj_bytes.specs.trusted.Options.{◌>>=◌}
+use Rattle.dj_names.specs.trusted.Types.{Name}
+use Rattle.dj_names.specs.trusted.ModifiedUtf8.{units_text}
+use Rattle.dj_tokens.specs.trusted.Words.{Token, Word, Quoted, LineEnd, Placed}
+use Rattle.dj_tokens.specs.trusted.Mnemonics.{mnemonics, base_words}
 use Rattle.dj_tokens.specs.WordReading.{tested, row_of, place_from, is_some_label, is_numeral, number_in, class_text_test}
-use Rattle.dj_source.specs.Lines.{FrameType, Simple, Object, New}
+use Rattle.dj_source.specs.trusted.Lines.{FrameType, Simple, Object, New}
 
 -- ---- steps
 
--- what was read, with the tokens after it; or the tokens from the first on that may not stand there; or those from a number on that its field doesn't hold
+-- what was read, with the tokens after it; or the tokens from the first that isn't allowed; or those from a number on that its field doesn't hold
 pub data Read (A : Type 0) : Type 0 where
   Got : A → List Placed → Read A
   Wrong : List Placed → Read A
@@ -58,7 +58,7 @@ one says fits (here ∷ rest) = said_by fits (says here.token) here rest
 abbrev pub any_size : {A : Type 0} → A → Bool
 any_size a = true
 
--- what a token begins, and what stands after it
+-- what a token begins, and what comes after it
 abbrev pub begun : {K A : Type 0} → Option K → (K → Reader A) → Placed → List Placed → Read A
 begun None next here rest = Wrong (here ∷ rest)
 begun (Some k) next here rest = next k rest
@@ -106,7 +106,7 @@ abbrev pub is_between : ℕ → ℕ → ℤ → Bool
 is_between low high (pos n) = nat_le low n && nat_le n high
 is_between low high (negsuc n) = false
 
--- a number that fits so many bits and a sign
+-- a number that fits this many bits and a sign
 abbrev pub is_signed : ℕ → ℤ → Bool
 is_signed bits (pos n) = nat_lt n (2 ^ bits)
 is_signed bits (negsuc n) = nat_lt n (2 ^ bits)

@@ -2,17 +2,17 @@
 use Rattle.std.specs.Prelude.{◌≡◌, ℕ, ◌⊎◌, ⊤, List}
 use Rattle.dj_source.specs.declared.error.AsmError.{AsmError}
 use Rattle.dj_source.specs.declared.error.AsmError.TheVariants as asm_errors
-use Rattle.dj_source.specs.Lines.{Line}
-use Rattle.dj_source.specs.Sources.{Source, lines_of, IsTextOf}
-use Rattle.dj_source.specs.Faults.{WordFault}
-use Rattle.dj_source.specs.Labels.{IsMislabelled, LabelFault, line_numbers}
+use Rattle.dj_source.specs.trusted.Lines.{Line}
+use Rattle.dj_source.specs.trusted.Sources.{Source, lines_of, IsTextOf}
+use Rattle.dj_source.specs.trusted.Faults.{WordFault}
+use Rattle.dj_source.specs.trusted.Labels.{IsMislabelled, LabelFault, line_numbers}
 
 -- the lines of a text that have words, and their numbers in it
 pub record TextLines : Type 0 where
   pub lines : List Line
   pub numbers : List ℕ
 
--- they are those of the source that the text means, none of which names a label wrongly
+-- they are those of the source that the text means, none of which uses a label wrongly
 pub record AreLinesOf (text : List ℕ) (read : TextLines) : Type 0 where
   pub source : Source
   pub is_text : IsTextOf text source

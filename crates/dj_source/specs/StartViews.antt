@@ -8,7 +8,7 @@ use Rattle.dj_source.specs.declared.frame.FrameWord.{FrameWord}
 use Rattle.dj_source.specs.declared.frame.FrameWord.TheVariants as frame_words
 use Rattle.dj_source.specs.declared.frame.TypesEnd.{TypesEnd}
 use Rattle.dj_source.specs.declared.frame.TypesEnd.TheVariants as type_ends
-use Rattle.dj_tokens.specs.Words.{Token, Placed}
+use Rattle.dj_tokens.specs.trusted.Words.{Token, Placed}
 use Rattle.dj_source.specs.LineReading.{FrameStart, SameWord, StackWord, ChopWord, AppendWord, FullWord, is_slash, is_end, ValueStart, IntWord, LongWord, StringWord, LiteralStart, IntLiteralWord, StringLiteralWord, ClassLiteralWord}
 
 abbrev pub value_word_view : ValueWord → ValueStart

@@ -5,7 +5,7 @@ use Rattle.dj_source.specs.declared.reader.Stop.TheVariants as stops
 use Rattle.dj_source.specs.declared.reader.NumberField.{NumberField}
 use Rattle.dj_source.specs.declared.reader.NumberField.TheVariants as fields
 use Rattle.dj_source.specs.declared.reader.Spot as the_spot
-use Rattle.dj_tokens.specs.Words.{Word, Placed}
+use Rattle.dj_tokens.specs.trusted.Words.{Word, Placed}
 use Rattle.dj_source.specs.Reading.{Read, Got, Wrong, Large, word_of, is_between, is_signed}
 use Rattle.dj_tokens.specs.Views.{units_of, left_of}
 
@@ -28,7 +28,7 @@ abbrev pub GivesRead : {X A : Type 0} → (X → A) → (X → List Placed) → 
 GivesRead view left (Ok x) read = read ≡ Got (view x) (left x)
 GivesRead view left (Err stop) read = Stops stop read
 
--- a token that is no word stands at the front, or none
+-- the first token is no word, or there is none
 abbrev pub IsNoWord : Stop → List Placed → Type 0
 IsNoWord stop [] = stop ≡ stops.Missing
 IsNoWord stop (here ∷ rest) = (word_of here.token ≡ None) × (stop ≡ stops.Wrong here.line here.column)

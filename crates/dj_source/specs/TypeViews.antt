@@ -8,7 +8,7 @@ use Rattle.dj_source.specs.declared.syntax.SimpleType.{SimpleType}
 use Rattle.dj_source.specs.declared.syntax.SimpleType.TheVariants as simples
 use Rattle.dj_source.specs.declared.syntax.FrameType as the_type
 use Rattle.dj_source.specs.declared.syntax.FrameType.TheVariants as types
-use Rattle.dj_source.specs.Lines.{Value, IntValue, LongValue, StringValue, Literal, IntLiteral, StringLiteral, ClassLiteral, FrameType, Simple, Object, New}
+use Rattle.dj_source.specs.trusted.Lines.{Value, IntValue, LongValue, StringValue, Literal, IntLiteral, StringLiteral, ClassLiteral, FrameType, Simple, Object, New}
 use Rattle.dj_tokens.specs.Views.{units_of, string_units_of}
 use Rattle.dj_tokens.specs.Texts.{text_view}
 

@@ -1,6 +1,6 @@
 ghost use Rattle.std.specs.Prelude.{◌≡◌, ◌∷◌, [], codes};
 ghost use Rattle.std.specs.Option.{option_map};
-ghost use Rattle.dj_tokens.specs.Words.{word_units};
+ghost use Rattle.dj_tokens.specs.trusted.Words.{word_units};
 ghost use Rattle.dj_tokens.specs.WordReading.{row_of};
 ghost use Rattle.dj_source.specs.LineReading.{value, value_after, literal, literal_after, IntWord, LongWord, StringWord, IntLiteralWord, StringLiteralWord, ClassLiteralWord};
 ghost use Rattle.dj_tokens.specs.Views.{left_of};

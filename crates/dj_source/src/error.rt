@@ -6,7 +6,7 @@ use thiserror::Error;
 /// Why a text means no class file. Lines and columns count from 1.
 #[derive(Clone, Copy, Debug, PartialEq, Eq, Error)]
 pub enum AsmError {
-    /// What stands in this line at this column is nothing that may stand there.
+    /// What is in this line at this column isn't allowed there.
     #[error("line {line}, column {column}: this may not stand here")]
     Syntax {
         /// The line.
@@ -20,7 +20,7 @@ pub enum AsmError {
         /// The line.
         line: u32,
     },
-    /// What the line asks for is outside its field.
+    /// What the line has is outside its field.
     #[error("line {line}: outside its field")]
     Large {
         /// The line.

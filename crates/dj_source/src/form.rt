@@ -1,5 +1,5 @@
 ghost use Rattle.std.specs.Prelude.{◌≡◌};
-ghost use Rattle.dj_ops.specs.Forms.{form_of};
+ghost use Rattle.dj_ops.specs.trusted.Forms.{form_of};
 ghost use Rattle.dj_source.specs.FormViews.{form_view};
 
 /// What follows an opcode.
@@ -27,7 +27,7 @@ pub(crate) enum Form {
 }
 
 /// The form of an opcode.
-#[tactic(auto, unfolding(dj_ops::specs::Forms::form_of))]
+#[tactic(auto, unfolding(dj_ops::specs::trusted::Forms::form_of))]
 pub(crate) fn form_of(op: u8) -> Form
     ensures { form_view result ≡ form_of op }
 {

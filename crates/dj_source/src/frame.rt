@@ -1,6 +1,6 @@
 ghost use Rattle.std.specs.Prelude.{◌≡◌, ◌∷◌, ◌++◌, [], codes};
 ghost use Rattle.std.specs.Option.{option_map};
-ghost use Rattle.dj_tokens.specs.Words.{word_units};
+ghost use Rattle.dj_tokens.specs.trusted.Words.{word_units};
 ghost use Rattle.dj_tokens.specs.WordReading.{row_of};
 ghost use Rattle.dj_source.specs.Reading.{read_map};
 ghost use Rattle.dj_source.specs.LineReading.{SameWord, StackWord, ChopWord, AppendWord, FullWord, types_up_to, types_until, frame_after, frame};
@@ -154,10 +154,8 @@ fn no_more<'t>(
 ) -> Result<(FrameTypes<'t>, LineTokens<'t>), Stop>
     ensures { GivesRead (λ x. x.0) (λ x. left_of x.1) result (read_map (λ more. types.entry ++ more) (types_up_to 0 (left_of at.entry))) }
 {
-    match line_end(at) {
-        Err(stop) => Err(stop),
-        Ok(at) => Ok((types, at)),
-    }
+    let at = line_end(at)?;
+    Ok((types, at))
 }
 
 /// The locals and the operands.
@@ -190,7 +188,7 @@ fn types_until<'t>(
     }
 }
 
-/// The tokens after the one that ends the types, where it stands here.
+/// The tokens after the one that ends the types, where that comes first.
 fn after_end<'t>(end: TypesEnd, at: LineTokens<'t>) -> Option<LineTokens<'t>>
     ensures { AfterEnd (ends_types end) (left_of at.entry) (option_map (λ x. left_of x) result) }
 {

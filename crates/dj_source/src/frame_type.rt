@@ -1,8 +1,8 @@
 ghost use Rattle.std.specs.Prelude.{◌≡◌, ◌++◌, true, false, MatchOption, IfOk, codes};
 ghost use Rattle.std.specs.Option.{option_map};
-ghost use Rattle.dj_names.specs.ModifiedUtf8.{units_text};
-ghost use Rattle.dj_tokens.specs.Words.{word_units};
-ghost use Rattle.dj_source.specs.Lines.{Object, New};
+ghost use Rattle.dj_names.specs.trusted.ModifiedUtf8.{units_text};
+ghost use Rattle.dj_tokens.specs.trusted.Words.{word_units};
+ghost use Rattle.dj_source.specs.trusted.Lines.{Object, New};
 ghost use Rattle.dj_tokens.specs.WordReading.{tested, class_text_test, is_some_label};
 ghost use Rattle.dj_source.specs.Reading.{is_simple_type, type_in};
 ghost use Rattle.dj_source.specs.LineReading.{frame_type, caught};
@@ -83,13 +83,12 @@ pub(crate) fn frame_type<'t>(
     ensures { GivesRead (λ x. type_view x.0) (λ x. left_of x.1) result (frame_type (left_of at.entry)) }
 {
     let spot = word_at(at)?;
-    match type_of(alloc, spot.word.bytes) {
-        Err(_) => Err(Stop::Memory),
-        Ok(None) => Err(Stop::Wrong {
+    match type_of(alloc, spot.word.bytes)? {
+        None => Err(Stop::Wrong {
             line: spot.line,
             column: spot.column,
         }),
-        Ok(Some(ty)) => Ok((ty, spot.rest)),
+        Some(ty) => Ok((ty, spot.rest)),
     }
 }
 
@@ -104,17 +103,13 @@ pub(crate) fn caught<'t>(
     if spells(spot.word.bytes, b"any") {
         return Ok((None, spot.rest));
     }
-    match text_of(alloc, spot.word.bytes) {
-        Err(_) => Err(Stop::Memory),
-        Ok(name) => {
-            if is_of_kind(NameKind::ClassOrArray, name.as_slice()) {
-                Ok((Some(name), spot.rest))
-            } else {
-                Err(Stop::Wrong {
-                    line: spot.line,
-                    column: spot.column,
-                })
-            }
-        }
+    let name = text_of(alloc, spot.word.bytes)?;
+    if is_of_kind(NameKind::ClassOrArray, name.as_slice()) {
+        Ok((Some(name), spot.rest))
+    } else {
+        Err(Stop::Wrong {
+            line: spot.line,
+            column: spot.column,
+        })
     }
 }

@@ -13,7 +13,7 @@ pub struct FrameTypes<'t> {
 
 impl<'t> Model for FrameTypes<'t> {
     ghost use Rattle.std.specs.Prelude.{List, map};
-    ghost use Rattle.dj_source.specs.Lines.{FrameType};
+    ghost use Rattle.dj_source.specs.trusted.Lines.{FrameType};
     ghost use Rattle.dj_source.specs.TypeViews.{type_view};
 
     ghost Value = { List FrameType };

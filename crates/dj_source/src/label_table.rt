@@ -2,9 +2,9 @@ ghost use Rattle.std.specs.Prelude.{◌≡◌, ◌+◌, ◌<◌, ◌≤◌, ◌^
 ghost use Rattle.std.specs.Cmp.Lexicographic.{slice_cmp};
 ghost use Rattle.std.specs.Ordering.{nat_cmp, is_lt};
 ghost use Rattle.std.specs.List.Sorted.{IsSortedBy, IsStableBy, IsPartitionPoint};
-ghost use Rattle.dj_tokens.specs.Words.{word_units};
+ghost use Rattle.dj_tokens.specs.trusted.Words.{word_units};
 ghost use Rattle.dj_tokens.specs.Views.{units_of};
-ghost use Rattle.dj_source.specs.Labels.{is_instruction};
+ghost use Rattle.dj_source.specs.trusted.Labels.{is_instruction};
 ghost use Rattle.dj_tokens.specs.WordReading.{row_of};
 ghost use Rattle.dj_source.specs.LabelReading.{defined_by, number_after, marks_of};
 ghost use Rattle.dj_source.specs.LabelViews.{label_of_mark, mark_view, mark_row, is_label_before, marked};
@@ -17,7 +17,7 @@ use std::alloc::Global;
 use std::cmp::Ordering;
 use std::marker::Model;
 
-/// How many lines and how many instructions stand before a label.
+/// How many lines and how many instructions come before a label.
 #[derive(Clone, Copy)]
 pub(crate) struct Mark {
     pub place: u32,
@@ -45,7 +45,7 @@ impl<'l, 't> Model for LabelTable<'l, 't> {
 
 impl<'l, 't> LabelTable<'l, 't> {
     ghost use Rattle.std.specs.Prelude.{ℕ};
-    ghost use Rattle.dj_source.specs.Lines.{Label};
+    ghost use Rattle.dj_source.specs.trusted.Lines.{Label};
 
     /// The labels of these lines.
     #[tactic(auto, using(crate::proofs::LabelTables::stable_rows))]
@@ -203,7 +203,7 @@ fn sort_by_label(marks: &mut Vec<Mark>, lines: &[Line<'_>]) -> Result<(), NoMemo
 }
 
 /// The word of the label that the line at a mark defines.
-#[tactic(auto, unfolding(dj_tokens::specs::Words::word_units))]
+#[tactic(auto, unfolding(dj_tokens::specs::trusted::Words::word_units))]
 fn label_at<'t>(lines: &[Line<'t>], mark: Mark) -> &'t [u8]
     ensures { word_units 0 result.now ≡ label_of_mark lines.now mark }
 {

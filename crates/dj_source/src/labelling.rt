@@ -5,7 +5,7 @@ ghost use Rattle.dj_source.specs.TypeViews.{type_view};
 ghost use Rattle.dj_source.specs.PairViews.{pair_view};
 ghost use Rattle.dj_source.specs.OperationViews.{operation_view};
 ghost use Rattle.dj_source.specs.LineViews.{frame_view, line_view};
-ghost use Rattle.dj_source.specs.Labels.{AtInstruction, Range, instruction_count, type_uses, frame_uses, operation_uses, uses_of};
+ghost use Rattle.dj_source.specs.trusted.Labels.{AtInstruction, Range, instruction_count, type_uses, frame_uses, operation_uses, uses_of};
 ghost use Rattle.dj_source.specs.LabelReading.{defined_by, is_met, is_again, is_mislabelled, mislabelled_from, mislabelled_in, begins_method, section_size, first_mislabelled};
 
 use crate::label_table::{LabelTable, defined_label, is_instruction};
@@ -15,7 +15,7 @@ use dj_names::NoMemory;
 use dj_tokens::Word;
 use std::alloc::Global;
 
-/// How many lines stand before the first that names a label wrongly.
+/// How many lines come before the first that uses a label wrongly.
 #[tactic(auto, using(crate::proofs::Labellings::next_section, crate::proofs::Labellings::found_section, crate::proofs::Labellings::no_section))]
 pub(crate) fn first_mislabelled(
     alloc: Global,
@@ -36,7 +36,7 @@ pub(crate) fn first_mislabelled(
     Ok(None)
 }
 
-/// How many lines there are up to the next method: of all lines of a text those before the methods, and from the first line of a method on its own.
+/// How many lines there are up to the next method: in all lines of a text those before the methods, and from a method's first line on its own lines.
 pub fn section_size(lines: &[Line<'_>]) -> usize
     requires { 0 < length lines.now }
     ensures size { result ≡ section_size (map line_view lines.now) }
@@ -71,7 +71,7 @@ fn begins_method(line: &Line<'_>) -> bool
     }
 }
 
-/// The first line of a method that names a label wrongly.
+/// The first line of a method that uses a label wrongly.
 #[tactic(auto, using(crate::proofs::Labellings::by_table))]
 fn mislabelled_in(alloc: Global, lines: &[Line<'_>]) -> Result<Option<usize>, NoMemory>
     requires { length lines.now < 2 ^ 32 }
@@ -90,7 +90,7 @@ pub(crate) fn instruction_count(lines: &[Line<'_>]) -> usize
     lines.iter().filter(|line| is_instruction(line)).count()
 }
 
-/// The first line that names a label wrongly, by the table of labels.
+/// The first line that uses a label wrongly, by the table of labels.
 #[tactic(auto, using(crate::proofs::Labellings::right_line, crate::proofs::Labellings::wrong_line, crate::proofs::Labellings::no_line))]
 fn mislabelled_by(table: &LabelTable<'_, '_>, count: usize, lines: &[Line<'_>]) -> Option<usize>
     ensures first { result ≡ mislabelled_from table.now count 0 (map line_view lines.now) }
@@ -104,14 +104,14 @@ fn mislabelled_by(table: &LabelTable<'_, '_>, count: usize, lines: &[Line<'_>]) 
     None
 }
 
-/// Whether the line after so many names a label wrongly.
+/// Whether the line after this many uses a label wrongly.
 fn is_mislabelled(table: &LabelTable<'_, '_>, count: usize, place: usize, line: &Line<'_>) -> bool
     ensures { result ≡ is_mislabelled table.now count place (line_view line.now) }
 {
     is_again(table, place, line) || !line_is_met(table, count, line)
 }
 
-/// Whether the line after so many defines a label that an earlier line defines.
+/// Whether the line after this many defines a label that an earlier line defines.
 fn is_again(table: &LabelTable<'_, '_>, place: usize, line: &Line<'_>) -> bool
     ensures { result ≡ is_again table.now place (defined_by (line_view line.now)) }
 {
@@ -124,7 +124,7 @@ fn is_again(table: &LabelTable<'_, '_>, place: usize, line: &Line<'_>) -> bool
     }
 }
 
-/// Whether labels are what the line asks of them.
+/// Whether labels are what the line requires of them.
 fn line_is_met(table: &LabelTable<'_, '_>, count: usize, line: &Line<'_>) -> bool
     ensures { result ≡ list_all (is_met table.now count) (uses_of (line_view line.now)) }
 {
@@ -161,7 +161,7 @@ fn is_range(table: &LabelTable<'_, '_>, from: Word<'_>, to: Word<'_>) -> bool
     }
 }
 
-/// Whether an instruction stands at the label.
+/// Whether an instruction is at the label.
 fn is_instruction_label(table: &LabelTable<'_, '_>, count: usize, label: Word<'_>) -> bool
     ensures { result ≡ is_met table.now count (AtInstruction (units_of label.entry)) }
 {
@@ -171,7 +171,7 @@ fn is_instruction_label(table: &LabelTable<'_, '_>, count: usize, label: Word<'_
     }
 }
 
-/// Whether labels are what the frame asks of them.
+/// Whether labels are what the frame requires of them.
 #[tactic(auto, using(crate::proofs::Labellings::all_of_both))]
 fn frame_is_met(table: &LabelTable<'_, '_>, count: usize, frame: &Frame<'_>) -> bool
     ensures { result ≡ list_all (is_met table.now count) (frame_uses (frame_view frame.now)) }
@@ -187,7 +187,7 @@ fn frame_is_met(table: &LabelTable<'_, '_>, count: usize, frame: &Frame<'_>) -> 
     }
 }
 
-/// Whether labels are what the types ask of them.
+/// Whether labels are what the types require of them.
 fn types_are_met(table: &LabelTable<'_, '_>, count: usize, types: &[FrameType<'_>]) -> bool
     ensures { result ≡ list_all (is_met table.now count) (flat_map type_uses (map type_view types.now)) }
 {
@@ -199,7 +199,7 @@ fn types_are_met(table: &LabelTable<'_, '_>, count: usize, types: &[FrameType<'_
     true
 }
 
-/// Whether the label of a type is what it asks of it.
+/// Whether the label of a type is what the type requires of it.
 fn type_is_met(table: &LabelTable<'_, '_>, count: usize, ty: &FrameType<'_>) -> bool
     ensures { result ≡ list_all (is_met table.now count) (type_uses (type_view ty.now)) }
 {
@@ -209,7 +209,7 @@ fn type_is_met(table: &LabelTable<'_, '_>, count: usize, ty: &FrameType<'_>) -> 
     }
 }
 
-/// Whether labels are what the instruction asks of them.
+/// Whether labels are what the instruction requires of them.
 fn operation_is_met(table: &LabelTable<'_, '_>, count: usize, operation: &Operation<'_>) -> bool
     ensures { result ≡ list_all (is_met table.now count) (operation_uses (operation_view operation.now)) }
 {
@@ -241,7 +241,7 @@ fn operation_is_met(table: &LabelTable<'_, '_>, count: usize, operation: &Operat
     }
 }
 
-/// Whether an instruction stands at each of the labels.
+/// Whether an instruction is at each of the labels.
 fn targets_are_met(table: &LabelTable<'_, '_>, count: usize, targets: &[Word<'_>]) -> bool
     ensures { result ≡ list_all (is_met table.now count) (map AtInstruction (map units_of targets.now)) }
 {
@@ -253,7 +253,7 @@ fn targets_are_met(table: &LabelTable<'_, '_>, count: usize, targets: &[Word<'_>
     true
 }
 
-/// Whether an instruction stands at each target.
+/// Whether an instruction is at each target.
 fn pairs_are_met(table: &LabelTable<'_, '_>, count: usize, pairs: &[Pair<'_>]) -> bool
     ensures { result ≡ list_all (is_met table.now count) (map (λ pair. AtInstruction pair.1) (map pair_view pairs.now)) }
 {

@@ -1,6 +1,6 @@
 ghost use Rattle.dj_source.specs.Laws.{OneSource, OneWordFault, NoFaultOfSource, SourceOrFault};
 
-/// The words of a text say one source at most.
+/// The words of a text mean one source at most.
 pub fn one_source()
     ensures { OneSource }
 {}
@@ -10,12 +10,12 @@ pub fn one_word_fault()
     ensures { OneWordFault }
 {}
 
-/// A text whose words say a source has no fault of its words.
+/// A text whose words mean a source has no fault of its words.
 pub fn no_fault_of_source()
     ensures { NoFaultOfSource }
 {}
 
-/// The words of a text say a source or have a first fault.
+/// The words of a text mean a source or have a first fault.
 pub fn source_or_fault()
     ensures { SourceOrFault }
 {}

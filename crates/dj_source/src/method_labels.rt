@@ -1,6 +1,6 @@
 ghost use Rattle.std.specs.Prelude.{◌≡◌, ◌<◌, ◌^◌, length, map, IfOk};
-ghost use Rattle.dj_source.specs.Lines.{Label};
-ghost use Rattle.dj_source.specs.Labels.{instruction_count};
+ghost use Rattle.dj_source.specs.trusted.Lines.{Label};
+ghost use Rattle.dj_source.specs.trusted.Labels.{instruction_count};
 ghost use Rattle.dj_source.specs.LineViews.{line_view};
 ghost use Rattle.dj_tokens.specs.WordReading.{row_of};
 ghost use Rattle.dj_source.specs.LabelReading.{marks_of};
@@ -25,7 +25,7 @@ pub struct MethodLabels<'l, 't> {
 
 impl<'l, 't> Model for MethodLabels<'l, 't> {
     ghost use Rattle.std.specs.Prelude.{List, map};
-    ghost use Rattle.dj_source.specs.Lines.{Line};
+    ghost use Rattle.dj_source.specs.trusted.Lines.{Line};
     ghost use Rattle.dj_source.specs.LineViews.{line_view};
 
     ghost Value = { List Line };
@@ -35,7 +35,7 @@ impl<'l, 't> Model for MethodLabels<'l, 't> {
 
 impl<'l, 't> MethodLabels<'l, 't> {
     ghost use Rattle.dj_tokens.specs.Views.{units_of};
-    ghost use Rattle.dj_source.specs.Labels.{label_number};
+    ghost use Rattle.dj_source.specs.trusted.Labels.{label_number};
 
     /// The labels of these lines.
     pub fn of(alloc: Global, lines: &'l [Line<'t>]) -> Result<MethodLabels<'l, 't>, NoMemory>
@@ -51,7 +51,7 @@ impl<'l, 't> MethodLabels<'l, 't> {
         })
     }
 
-    /// How many instructions stand before the first line that defines the label, and all of them where none does.
+    /// How many instructions come before the first line that defines the label, and all of them where none does.
     #[tactic(auto, using(crate::proofs::LabelNumbers::number_of_mark, crate::proofs::LabelNumbers::number_of_none))]
     pub fn number(&self, label: Word<'t>) -> u32
         ensures { result ≡ label_number self.now (units_of label.entry) }

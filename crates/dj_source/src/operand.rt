@@ -180,7 +180,7 @@ pub(crate) fn open_method<'t>(
     ))
 }
 
-/// Whether `interface` stands at the line's end, and that.
+/// Whether `interface` comes next, and then the line's end.
 fn interface_end<'t>(at: LineTokens<'t>) -> Result<(bool, LineTokens<'t>), Stop>
     ensures { GivesRead (λ x. x.0) (λ x. left_of x.1) result (interface_end (left_of at.entry)) }
 {
@@ -255,13 +255,9 @@ pub(crate) fn class_of<'t>(
 pub(crate) fn array<'t>(at: LineTokens<'t>) -> Result<(Operation<'t>, LineTokens<'t>), Stop>
     ensures { GivesRead (λ x. operation_view x.0) (λ x. left_of x.1) result (array (left_of at.entry)) }
 {
-    match base(at) {
-        Err(stop) => Err(stop),
-        Ok((base, at)) => match line_end(at) {
-            Err(stop) => Err(stop),
-            Ok(at) => Ok((Operation::Array { base }, at)),
-        },
-    }
+    let (base, at) = base(at)?;
+    let at = line_end(at)?;
+    Ok((Operation::Array { base }, at))
 }
 
 /// A type of arrays, and how many of its dimensions are made.

@@ -1,7 +1,7 @@
 ghost use Rattle.std.specs.Prelude.{◌≡◌};
-ghost use Rattle.dj_ops.specs.Forms.{form_of};
+ghost use Rattle.dj_ops.specs.trusted.Forms.{form_of};
 ghost use Rattle.dj_source.specs.LineReading.{may_be_wide, wide, wide_after, operation, operation_by, wrong};
-ghost use Rattle.dj_source.specs.Lines.{Operation as LineOperation};
+ghost use Rattle.dj_source.specs.trusted.Lines.{Operation as LineOperation};
 ghost use Rattle.dj_tokens.specs.Views.{left_of};
 ghost use Rattle.dj_source.specs.OperationViews.{operation_view};
 ghost use Rattle.dj_source.specs.FormViews.{form_view};
@@ -53,7 +53,7 @@ pub(crate) fn operation<'t>(
     }
 }
 
-/// What may not stand here.
+/// What isn't allowed here.
 fn wrong(at: LineTokens<'_>) -> Stop
     ensures { Stops result (wrong {A = LineOperation} (left_of at.entry)) }
 {
@@ -90,7 +90,7 @@ fn wide_after<'t>(op: u8, at: LineTokens<'t>) -> Result<(Operation<'t>, LineToke
     }
 }
 
-/// Whether the instruction may stand after `wide`.
+/// Whether the instruction may come after `wide`.
 fn may_be_wide(op: u8) -> bool
     ensures { result ≡ may_be_wide (form_of op) }
 {

@@ -15,7 +15,7 @@ use std::alloc::Global;
 /// Why a line is not read.
 #[derive(Clone, Copy)]
 pub(crate) enum Stop {
-    /// The token that begins here may not stand here.
+    /// The token that begins here isn't allowed here.
     Wrong { line: u32, column: u32 },
     /// The number in this line is outside its field.
     Large { line: u32 },
@@ -44,7 +44,7 @@ pub(crate) enum NumberField {
     Chop,
 }
 
-/// A word, and where it stands.
+/// A word, and where it is.
 #[derive(Clone, Copy)]
 pub(crate) struct Spot<'t> {
     pub line: u32,
@@ -53,7 +53,7 @@ pub(crate) struct Spot<'t> {
     pub rest: LineTokens<'t>,
 }
 
-/// The next token, which is to be a word.
+/// The next token, which has to be a word.
 pub(crate) fn word_at<'t>(at: LineTokens<'t>) -> Result<Spot<'t>, Stop>
     ensures { IsSpot (left_of at.entry) result }
 {
@@ -184,22 +184,18 @@ pub(crate) fn name<'t>(
     ensures { GivesRead (λ x. text_view x.0) (λ x. left_of x.1) result (name (test_of kind) (left_of at.entry)) }
 {
     let spot = word_at(at)?;
-    match text_of(alloc, spot.word.bytes) {
-        Err(_) => Err(Stop::Memory),
-        Ok(text) => {
-            if is_of_kind(kind, text.as_slice()) {
-                Ok((text, spot.rest))
-            } else {
-                Err(Stop::Wrong {
-                    line: spot.line,
-                    column: spot.column,
-                })
-            }
-        }
+    let text = text_of(alloc, spot.word.bytes)?;
+    if is_of_kind(kind, text.as_slice()) {
+        Ok((text, spot.rest))
+    } else {
+        Err(Stop::Wrong {
+            line: spot.line,
+            column: spot.column,
+        })
     }
 }
 
-/// This word alone.
+/// This word and no other.
 pub(crate) fn keyword<'t>(at: LineTokens<'t>, word: &[u8]) -> Result<LineTokens<'t>, Stop>
     ensures { GivesRead (λ x. tt) (λ x. left_of x) result (keyword word.now (left_of at.entry)) }
 {

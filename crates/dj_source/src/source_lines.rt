@@ -35,14 +35,14 @@ impl<'t> SourceLines<'t> {
         &self.lines
     }
 
-    /// The number of the line after so many.
+    /// The number of the line after this many.
     pub fn number(&self, place: usize) -> Option<u32>
         ensures { result ≡ slice_get self.now.numbers place }
     {
         self.numbers.get(place).copied()
     }
 
-    /// No lines, and room for so many.
+    /// No lines, and room for this many.
     pub(crate) fn with_room(alloc: Global, room: usize) -> Result<SourceLines<'t>, NoMemory>
         ensures { IfOk result (λ read. read ≡ no_lines) }
     {
@@ -60,7 +60,7 @@ impl<'t> SourceLines<'t> {
         Ok(self.numbers.push(number)?)
     }
 
-    /// The first fault of the labels, where they have one.
+    /// The first fault of the labels, where there is one.
     pub(crate) fn label_fault(&self, alloc: Global) -> Result<Option<AsmError>, NoMemory>
         requires { length self.now.lines < 2 ^ 32 }
         ensures { IfOk result (λ fault. fault ≡ label_error self.now.numbers (first_mislabelled self.now.lines)) }
@@ -71,7 +71,7 @@ impl<'t> SourceLines<'t> {
         }
     }
 
-    /// The error of the line after so many, where there is one.
+    /// The error of the line after this many, where there is one.
     fn label_error(&self, place: usize) -> Option<AsmError>
         ensures { result ≡ label_error self.now.numbers (Some place) }
     {

@@ -1,6 +1,6 @@
 ghost use Rattle.std.specs.Prelude.{◌≡◌};
 ghost use Rattle.std.specs.Option.{option_map};
-ghost use Rattle.dj_tokens.specs.Words.{word_units};
+ghost use Rattle.dj_tokens.specs.trusted.Words.{word_units};
 ghost use Rattle.dj_tokens.specs.WordReading.{row_of};
 ghost use Rattle.dj_source.specs.LineReading.{directives, start_in, line_after};
 ghost use Rattle.dj_tokens.specs.Views.{left_of};
@@ -18,7 +18,7 @@ use crate::syntax::Line;
 use dj_tokens::{LineTokens, Word, label_of, opcode_of, row_at};
 use std::alloc::Global;
 
-/// A line that a word with a dot before it begins.
+/// A line that begins with a word with a dot before it.
 #[derive(Clone, Copy)]
 pub(crate) enum Directive {
     Class,
@@ -35,7 +35,7 @@ pub(crate) enum Directive {
     End,
 }
 
-/// What the first word of a line begins.
+/// What the first word of a line means.
 #[derive(Clone, Copy)]
 pub(crate) enum LineStart<'t> {
     Directive(Directive),
@@ -66,7 +66,7 @@ fn directive_of(bytes: &[u8]) -> Option<Directive>
     row_at(&DIRECTIVES, bytes)
 }
 
-/// What a word begins.
+/// What a word at the beginning of a line means.
 pub(crate) fn start_of(bytes: &[u8]) -> Option<LineStart<'_>>
     ensures { option_map start_view result ≡ start_in (word_units 0 bytes.now) }
 {

@@ -25,7 +25,7 @@ pub(crate) enum State {
     Locals,
     /// The lines of a body.
     Body,
-    /// Those between a frame and its instruction, and that.
+    /// What may come between a frame and its instruction, and the instruction.
     Frame,
 }
 
@@ -59,7 +59,7 @@ fn may_direct(state: State, directive: Directive) -> bool
     }
 }
 
-/// What may come after a line, where it may stand.
+/// What may come after a line, where the line is allowed.
 pub(crate) fn after(state: State, line: &Line<'_>) -> Option<State>
     ensures { option_map state_view result ≡ after (state_view state) (line_view line.now) }
 {
@@ -96,7 +96,7 @@ fn is_before_methods(state: State) -> bool
     matches!(state, State::Interfaces | State::Fields | State::Methods)
 }
 
-/// This state, where it may come.
+/// This state, where it is allowed.
 fn next(may: bool, state: State) -> Option<State>
     ensures { result ≡ (if may then Some state else None) }
 {

@@ -30,7 +30,7 @@ pub(crate) fn table<'t>(
     ))
 }
 
-/// Targets up to the default, and that.
+/// Targets up to the default, and the default.
 fn targets<'t>(
     alloc: Global,
     at: LineTokens<'t>,
@@ -70,7 +70,7 @@ pub(crate) fn lookup<'t>(
     Ok((Operation::Lookup { pairs, default }, at))
 }
 
-/// Matches with their targets up to the default, and that.
+/// Matches with their targets up to the default, and the default.
 fn pairs<'t>(
     alloc: Global,
     at: LineTokens<'t>,

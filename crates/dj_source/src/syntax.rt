@@ -35,9 +35,9 @@ pub enum SimpleType {
 #[derive(Drop)]
 pub enum FrameType<'t> {
     Simple(SimpleType),
-    /// Of a class or an array.
+    /// A type that names a class or an array.
     Object(Text<'t>),
-    /// Of the `new` at the label.
+    /// What the `new` at the label made.
     New(Word<'t>),
 }
 
@@ -46,7 +46,7 @@ pub enum FrameType<'t> {
 pub enum Frame<'t> {
     Same,
     Stack1(FrameType<'t>),
-    /// So many locals are gone.
+    /// This many local variables are dropped.
     Chop(u8),
     Append(FrameTypes<'t>),
     Full {
@@ -55,7 +55,7 @@ pub enum Frame<'t> {
     },
 }
 
-/// An instruction, by its opcode where the form is that of several.
+/// An instruction; where several opcodes have one form, the opcode says which.
 #[derive(Drop)]
 pub enum Operation<'t> {
     Plain {
@@ -65,7 +65,7 @@ pub enum Operation<'t> {
         op: u8,
         value: i16,
     },
-    /// Whether `wide` stands before it, and the local variable.
+    /// Whether `wide` comes before it, and the local variable.
     Local {
         wide: bool,
         op: u8,
@@ -96,7 +96,7 @@ pub enum Operation<'t> {
         pairs: Pairs<'t>,
         default: Word<'t>,
     },
-    /// Whether `interface` stands after the descriptor.
+    /// Whether `interface` comes after the descriptor.
     Member {
         op: u8,
         class: Text<'t>,

@@ -13,7 +13,7 @@ pub struct Labels<'t> {
 
 impl<'t> Model for Labels<'t> {
     ghost use Rattle.std.specs.Prelude.{List, map};
-    ghost use Rattle.dj_source.specs.Lines.{Label};
+    ghost use Rattle.dj_source.specs.trusted.Lines.{Label};
     ghost use Rattle.dj_tokens.specs.Views.{units_of};
 
     ghost Value = { List Label };
@@ -63,7 +63,7 @@ pub struct Pairs<'t> {
 
 impl<'t> Model for Pairs<'t> {
     ghost use Rattle.std.specs.Prelude.{List, ℤ, map};
-    ghost use Rattle.dj_source.specs.Lines.{Label};
+    ghost use Rattle.dj_source.specs.trusted.Lines.{Label};
     ghost use Rattle.dj_source.specs.PairViews.{pair_view};
 
     ghost Value = { List (ℤ × Label) };

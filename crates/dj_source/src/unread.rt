@@ -1,7 +1,7 @@
 ghost use Rattle.std.specs.Prelude.{◌≡◌, ◌+◌, ◌^◌, ◌<◌, ◌≤◌, ◌∷◌, [], length, List};
 ghost use Rattle.std.specs.Str.Lines.{lines};
 ghost use Rattle.dj_source.specs.LineReading.{line, missing};
-ghost use Rattle.dj_tokens.specs.Words.{Placed as PlacedToken};
+ghost use Rattle.dj_tokens.specs.trusted.Words.{Placed as PlacedToken};
 ghost use Rattle.dj_source.specs.Reading.{Got};
 ghost use Rattle.dj_source.specs.LineViews.{line_view};
 ghost use Rattle.dj_tokens.specs.Views.{placed_view, left_of};
@@ -20,7 +20,7 @@ use std::marker::Model;
 /// A line of a text, as it is read.
 #[derive(Drop)]
 pub(crate) enum Row<'t> {
-    /// Its number and what it says.
+    /// Its number and what it means.
     Said(u32, Line<'t>),
     /// It has no words.
     Blank,
@@ -60,7 +60,7 @@ impl<'t> Unread<'t> {
         }
     }
 
-    /// Reads the next line, and answers the first fault of a text's words where they have one that ends here.
+    /// Reads the next line, and returns the first fault of a text's words where they have one that ends here.
     #[tactic(auto, using(crate::proofs::UnreadLaws::blank, crate::proofs::UnreadLaws::worded, crate::proofs::UnreadLaws::said_leaves, crate::proofs::UnreadLaws::blank_leaves))]
     pub(crate) fn row(&mut self, alloc: Global) -> Result<Row<'t>, AsmError>
         ensures row { GivesRow self.old self.new result }

@@ -28,7 +28,7 @@ pub fn read_source<'t>(alloc: Global, text: &'t [u8]) -> Result<SourceLines<'t>,
     }
 }
 
-/// The lines of a text, whatever labels they name.
+/// The lines of a text, whatever labels they use.
 fn all_lines<'t>(alloc: Global, text: &'t [u8]) -> Result<SourceLines<'t>, AsmError>
     requires { length text.now ≤ 4294967294 }
     ensures read { IfOk result (AreAllRead text.now) }
@@ -40,7 +40,7 @@ fn all_lines<'t>(alloc: Global, text: &'t [u8]) -> Result<SourceLines<'t>, AsmEr
     Ok(read)
 }
 
-/// Appends what the next row says. Whether more may follow.
+/// Appends what the next line means. Whether there may be more lines.
 #[tactic(auto, using(crate::proofs::ReadingLaws::goes_on_said, crate::proofs::ReadingLaws::goes_on_blank, crate::proofs::ReadingLaws::ends, crate::proofs::ReadingLaws::stops))]
 fn put_row<'t>(
     alloc: Global,

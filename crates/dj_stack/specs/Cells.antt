@@ -23,7 +23,7 @@ used_in [] = 0
 used_in (zero ∷ places) = used_in places
 used_in (suc place ∷ places) = suc (used_in places)
 
--- so many cells are shared out, each to one
+-- this many cells are shared out, each to one
 pub record SharedOut (places : List ℕ) (cells : ℕ) : Type 0 where
   pub all : used_in places ≡ cells
   pub within : (i : ℕ) → get_or places i 0 ≤ cells

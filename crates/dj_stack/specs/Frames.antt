@@ -9,7 +9,7 @@ pub record StackFrame : Type 0 where
   pub locals : List (Option Value)
   -- the top first
   pub operands : List Value
-  -- so many operands have room
+  -- this many operands have room
   pub room : ℕ
 
 -- the most frames that a run has

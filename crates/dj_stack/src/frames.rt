@@ -41,7 +41,7 @@ impl Frames {
         }
     }
 
-    /// Pushes a frame of the method at instruction 0, whose locals have no value, with room for so many operands.
+    /// Pushes a frame of the method at instruction 0, whose locals have no value, with room for this many operands.
     pub fn push(&mut self, method: u32, locals: u16, stack: u16) -> Result<(), PushError>
         ensures pushed { OnOk result (self.new ≡ new_frame method locals stack ∷ self.old) }
         ensures fits { OnOk result (length self.old < most_frames) }

@@ -8,7 +8,7 @@ use crate::wide::WideOperands;
 use dj_names::Value;
 use std::alloc::Global;
 
-// So many operands are kept whole; of more the parts are kept apart, which takes less memory.
+// This many operands are kept whole; of more the parts are kept apart, which takes less memory.
 const FEW: u16 = 1024;
 
 /// The operands of a frame, the top last.
@@ -19,7 +19,7 @@ pub(crate) enum Operands {
 }
 
 impl Operands {
-    /// None yet, with room for so many.
+    /// None yet, with room for this many.
     pub(crate) fn with_room(alloc: Global, room: u16) -> Result<Operands, PushError>
         ensures operands { IfOk result (λ operands. values_of operands ≡ []) }
         ensures room { IfOk result (λ operands. room_of operands ≡ room) }

@@ -11,7 +11,7 @@ use crate::parts::Parts;
 use std::alloc::Global;
 
 impl Packed {
-    /// Nothing yet, with room for so many.
+    /// Nothing yet, with room for this many.
     pub(crate) fn with_room(alloc: Global, room: u16) -> Result<Packed, PushError>
         ensures parts { IfOk result (λ packed. parts_of packed ≡ []) }
         ensures room { IfOk result (λ packed. packed.room ≡ room) }

@@ -10,7 +10,7 @@ use dj_names::Value;
 use std::alloc::Global;
 
 impl Sparse {
-    /// So many without a value.
+    /// This many without a value.
     #[tactic(auto, using(crate::proofs::Cells::none_shared, crate::proofs::Cells::all_none))]
     pub(crate) fn new(alloc: Global, count: u16) -> Result<Sparse, PushError>
         ensures locals { IfOk result (λ sparse. variables_in sparse.places.items (parts_of sparse.cells) ≡ replicate count None) }

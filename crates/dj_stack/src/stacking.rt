@@ -15,7 +15,7 @@ use dj_names::Value;
 use std::alloc::Global;
 
 impl Stacked {
-    /// None yet, with room for so many.
+    /// None yet, with room for this many.
     pub(crate) fn with_room(alloc: Global, room: u16) -> Result<Stacked, PushError>
         ensures values { IfOk result (λ stacked. stacked_values stacked ≡ []) }
         ensures room { IfOk result (λ stacked. stacked.room ≡ room) }

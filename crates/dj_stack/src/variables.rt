@@ -8,7 +8,7 @@ use crate::wide::WideLocals;
 use dj_names::Value;
 use std::alloc::Global;
 
-// So many local variables are kept whole; of more those that were given a value have a cell, which takes less memory.
+// This many local variables are kept whole; of more those that were given a value have a cell, which takes less memory.
 const FEW: u16 = 1024;
 
 /// The local variables of a frame.
@@ -19,7 +19,7 @@ pub(crate) enum Locals {
 }
 
 impl Locals {
-    /// So many that have no value.
+    /// This many that have no value.
     pub(crate) fn new(alloc: Global, count: u16) -> Result<Locals, PushError>
         ensures locals { IfOk result (λ locals. locals_of locals ≡ replicate count None) }
         ensures refused { IfErr result (λ e. e ≡ PushError.Memory) }

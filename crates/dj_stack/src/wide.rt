@@ -10,7 +10,7 @@ pub(crate) struct WideLocals {
     pub ghost few: { length items.items < 65536 },
 }
 
-/// Few operands, the top last, with room for so many.
+/// Few operands, the top last, with room for this many.
 #[derive(Debug, Drop)]
 pub(crate) struct WideOperands {
     pub(crate) items: Vec<Value>,

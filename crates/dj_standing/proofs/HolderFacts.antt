@@ -1,8 +1,8 @@
 -- An image of two classes, one above the other, and of an array, at plain values.
 use Rattle.std.proofs.Common.{◌≡◌, true, false, [], ◌∷◌, Option, Some, None, map, codes, refl}
 use Rattle.dj_names.specs.declared.descriptor.Base.TheVariants as bases
-use Rattle.dj_names.specs.Types.{Name, base_array}
-use Rattle.dj_model.specs.Linking.{chain_of, most_classes}
+use Rattle.dj_names.specs.trusted.Types.{Name, base_array}
+use Rattle.dj_model.specs.trusted.Linking.{chain_of, most_classes}
 use Rattle.dj_image.specs.Sources.{Source, class_of_source}
 use Rattle.dj_image.specs.Imaged.{Imaged}
 use Rattle.dj_standing.specs.Holders.{holds}

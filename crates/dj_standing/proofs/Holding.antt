@@ -1,4 +1,4 @@
--- Which classes have the fields that one of them declares is told by the look-ups of an image, in its program without code.
+-- Which classes have the fields that one of them declares: the look-ups of an image, in its program without code, answer it.
 use Rattle.std.proofs.Common.{◌≡◌, ◌<◌, ◌≤◌, ℕ, zero, suc, ◌&&◌, false, List, [], ◌∷◌, map, length, Option, Some, None, refl, sym, ap, ◌∙◌, arith, IsTrue, ◌⊎◌, inl, inr}
 use Rattle.std.specs.Prelude.{nat_le, slice_get, unwrap_or}
 use Rattle.std.specs.Option.{option_map}
@@ -8,9 +8,9 @@ use Rattle.std.proofs.lemmas.List.{length-map}
 use Rattle.std.proofs.lemmas.Option.{slice_get_past, slice_get-get_or, unwrap_or-slice_get}
 use Rattle.dj_names.specs.declared.descriptor.Of.{Of}
 use Rattle.dj_names.specs.declared.descriptor.Ty.{Ty}
-use Rattle.dj_names.specs.Types.{Name, class_type}
-use Rattle.dj_model.specs.Program.{Program, Class, class_at, superclass_of}
-use Rattle.dj_model.specs.Linking.{chain, chain_of, is_among, most_classes}
+use Rattle.dj_names.specs.trusted.Types.{Name, class_type}
+use Rattle.dj_model.specs.trusted.Program.{Program, Class, class_at, superclass_of}
+use Rattle.dj_model.specs.trusted.Linking.{chain, chain_of, is_among, most_classes}
 use Rattle.dj_declared.specs.Files.{bare_class}
 use Rattle.dj_classes.specs.Tables.{name_at, name_of}
 use Rattle.dj_linking.specs.Linked.{Linked, class_name}
@@ -73,7 +73,7 @@ none_above : (program : Program) (name : Name) (levels dims : ℕ) (of : Of) →
 none_above program name levels zero of some = absurd (omega (arith, some))
 none_above program name levels (suc dims) of some = refl
 
--- ---- what is told of both
+-- ---- what is known of both
 
 module _ (imaged : Imaged) where
   array_holds : AreSettled (typed_of imaged) → (name : Option Name) (class : ℕ) → length (program_of imaged) ≤ class → class < length (types_of (typed_of imaged))

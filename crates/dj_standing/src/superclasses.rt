@@ -1,7 +1,7 @@
 use dj_image::Image;
 use dj_members::Holders;
 
-/// The classes of an image by their superclasses, which tell at one look which of them have the fields that a class declares.
+/// The classes of an image by their superclasses: one look shows which of them have the fields that a class declares.
 #[derive(Clone, Copy)]
 pub struct Superclasses<'i> {
     /// The image.

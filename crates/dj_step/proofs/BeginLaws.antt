@@ -4,17 +4,17 @@ use Rattle.std.proofs.lemmas.Bool.{le-ltb, lt-ltb}
 use Rattle.dj_names.specs.declared.descriptor.Ty.{Ty}
 use Rattle.dj_names.specs.declared.run.Outcome.TheVariants as outcomes
 use Rattle.dj_names.specs.declared.run.Thresholds.{Thresholds}
-use Rattle.dj_names.specs.Heaps.{Heap, object_size}
-use Rattle.dj_names.specs.Types.{Name}
+use Rattle.dj_names.specs.trusted.Heaps.{Heap, object_size}
+use Rattle.dj_names.specs.trusted.Types.{Name}
 use Rattle.dj_edge.specs.declared.host.HostAnswer.{HostAnswer}
-use Rattle.dj_model.specs.Types.{Declared}
-use Rattle.dj_model.specs.Program.{Program}
+use Rattle.dj_model.specs.trusted.Types.{Declared}
+use Rattle.dj_model.specs.trusted.Program.{Program}
 use Rattle.dj_model.specs.Standing.{IsEntry, AnswerStands}
-use Rattle.dj_model.specs.State.{Terms, State, Frame, Counting, Account}
-use Rattle.dj_model.specs.Charging.{new_account}
-use Rattle.dj_model.specs.Initialisation.{initialise}
-use Rattle.dj_model.specs.Step.{Went, Ended}
-use Rattle.dj_model.specs.Runs.{begin, begun, empty_heap, input_array, input_heap, start_state}
+use Rattle.dj_model.specs.trusted.State.{Terms, State, Frame, Counting, Account}
+use Rattle.dj_model.specs.trusted.Charging.{new_account}
+use Rattle.dj_model.specs.trusted.Initialisation.{initialise}
+use Rattle.dj_model.specs.trusted.Step.{Went, Ended}
+use Rattle.dj_model.specs.trusted.Runs.{begin, begun, empty_heap, input_array, input_heap, start_state}
 use Rattle.dj_model.proofs.LawProofs.{runs_stay_sound}
 use Rattle.dj_heap.specs.Heaps.{LimitedHeap}
 use Rattle.dj_stack.specs.Frames.{StackFrame}

@@ -8,10 +8,10 @@ use Rattle.dj_names.specs.declared.descriptor.Base.TheVariants as bases
 use Rattle.dj_names.specs.declared.descriptor.Of.{Of}
 use Rattle.dj_names.specs.declared.descriptor.Of.TheVariants as ofs
 use Rattle.dj_names.specs.declared.descriptor.Ty.{Ty}
-use Rattle.dj_names.specs.Descriptors.{of_text, type_text}
-use Rattle.dj_names.specs.Types.{Name, same_name, class_type, base_array}
-use Rattle.dj_model.specs.Program.{Program, Class}
-use Rattle.dj_model.specs.Natives.{class_name}
+use Rattle.dj_names.specs.trusted.Descriptors.{of_text, type_text}
+use Rattle.dj_names.specs.trusted.Types.{Name, same_name, class_type, base_array}
+use Rattle.dj_model.specs.trusted.Program.{Program, Class}
+use Rattle.dj_model.specs.trusted.Natives.{class_name}
 use Rattle.dj_natives.specs.Numbered as numbered
 use Rattle.dj_classes.specs.Tables.{name_of}
 use Rattle.dj_classes.proofs.Orders.{same_from_names, names_from_same}

@@ -12,9 +12,10 @@ use Rattle.std.proofs.lemmas.Option.{same_Some, none-some, slice_get-get_or, sli
 use Rattle.dj_names.specs.declared.descriptor.Base.TheVariants as bases
 use Rattle.dj_names.specs.declared.descriptor.Ty.{Ty}
 use Rattle.dj_names.specs.declared.run.Element.TheVariants as elements
-use Rattle.dj_names.specs.Heaps.{Array, object_size, array_size, heap_map}
-use Rattle.dj_names.specs.Types.{class_type, base_array}
-use Rattle.dj_model.specs.Runs.{input_array}
+use Rattle.dj_names.specs.trusted.Heaps.{Array, object_size, array_size}
+use Rattle.dj_names.specs.Heaps.{heap_map}
+use Rattle.dj_names.specs.trusted.Types.{class_type, base_array}
+use Rattle.dj_model.specs.trusted.Runs.{input_array}
 use Rattle.dj_natives.specs.Numbered as numbered
 use Rattle.dj_heap.specs.Heaps.{LimitedHeap, Makes, Refuses, Replaces, element_in, low_bits, with_number}
 use Rattle.dj_heap.specs.declared.errors.HeapError.TheVariants as errors

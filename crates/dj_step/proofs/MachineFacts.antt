@@ -5,10 +5,10 @@ use Rattle.dj_names.specs.declared.run.Outcome.{Outcome}
 use Rattle.dj_names.specs.declared.run.Thresholds.{Thresholds}
 use Rattle.dj_names.specs.Types.{sandbox_prefix}
 use Rattle.dj_edge.specs.declared.host.HostAnswer.{HostAnswer}
-use Rattle.dj_model.specs.State.{State, Uncounted, Accounted}
-use Rattle.dj_model.specs.Charging.{new_account}
-use Rattle.dj_model.specs.Step.{Went, Ended}
-use Rattle.dj_model.specs.Runs.{empty_heap}
+use Rattle.dj_model.specs.trusted.State.{State, Uncounted, Accounted}
+use Rattle.dj_model.specs.trusted.Charging.{new_account}
+use Rattle.dj_model.specs.trusted.Step.{Went, Ended}
+use Rattle.dj_model.specs.trusted.Runs.{empty_heap}
 use Rattle.dj_image.specs.Imaged.{Imaged}
 use Rattle.dj_step.specs.declared.answers.StepAnswer.{StepAnswer}
 use Rattle.dj_step.specs.declared.answers.StepAnswer.TheVariants as steps

@@ -3,16 +3,16 @@ use Rattle.std.proofs.Common.{◌≡◌, ◌<◌, ℕ, zero, suc, ◌-◌, List,
 use Rattle.std.specs.Prelude.{slice_get}
 use Rattle.std.proofs.lemmas.Option.{same_Some, none-some}
 use Rattle.dj_names.specs.declared.run.Value.TheVariants as values
-use Rattle.dj_model.specs.Types.{Declared}
-use Rattle.dj_model.specs.Program.{Program, Method, Code, Runs, code_of}
-use Rattle.dj_model.specs.Linking.{FoundMethod}
-use Rattle.dj_model.specs.Initialisation.{locals_for, new_frame}
+use Rattle.dj_model.specs.trusted.Types.{Declared}
+use Rattle.dj_model.specs.trusted.Program.{Program, Method, Code, Runs, code_of}
+use Rattle.dj_model.specs.trusted.Linking.{FoundMethod}
+use Rattle.dj_model.specs.trusted.Initialisation.{locals_for, new_frame}
 use Rattle.dj_model.specs.Sound.{IsSound}
 use Rattle.dj_model.specs.Standing.{IsEntry}
 use Rattle.dj_model.proofs.SoundFrames.{code_is, starts_ready}
 use Rattle.dj_stack.specs.Frames as stack
 use Rattle.dj_stack.specs.Frames.{StackFrame, SameButLocals, top_locals}
-use Rattle.dj_program.specs.Codes.{code_in}
+use Rattle.dj_program.specs.trusted.Codes.{code_in}
 use Rattle.dj_program.specs.Views.{parts_of}
 use Rattle.dj_program.specs.declared.code.MethodCode.{MethodCode}
 use Rattle.dj_types.specs.Members.{all_methods}

@@ -5,8 +5,8 @@ use Rattle.std.proofs.lemmas.Bool.{false≢true}
 use Rattle.dj_names.specs.declared.run.Outcome.{Outcome}
 use Rattle.dj_edge.specs.declared.host.HostAnswer.{HostAnswer}
 use Rattle.dj_names.specs.declared.run.Thresholds.{Thresholds}
-use Rattle.dj_model.specs.State.{Terms}
-use Rattle.dj_host.specs.Hosted.{given_since}
+use Rattle.dj_model.specs.trusted.State.{Terms}
+use Rattle.dj_host.specs.trusted.Hosted.{given_since}
 use Rattle.dj_image.specs.Imaged.{Imaged, program_of}
 use Rattle.dj_turning.specs.Memory.{NeedsNoMemory}
 use Rattle.dj_turning.specs.Running as running

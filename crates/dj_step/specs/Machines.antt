@@ -1,14 +1,14 @@
--- A machine over an image as the model sees it, how it begins, and what a step of it tells.
+-- A machine over an image as the model sees it, how it begins, and what a step of it answers.
 use Rattle.std.specs.Prelude.{◌≡◌, ℕ, ⊤, Bool, true, false, List, [], ◌∷◌, ◌++◌, Option, Some, None, if◌then◌else◌}
 use Rattle.dj_names.specs.declared.run.Outcome.{Outcome}
 use Rattle.dj_names.specs.declared.run.Outcome.TheVariants as outcomes
 use Rattle.dj_names.specs.declared.run.Thresholds.{Thresholds}
 use Rattle.dj_edge.specs.declared.host.HostAnswer.{HostAnswer}
-use Rattle.dj_model.specs.Types.{Prefix, Declared}
-use Rattle.dj_model.specs.Charging.{new_account}
-use Rattle.dj_model.specs.State.{Terms, Counting, Uncounted, Accounted, State}
-use Rattle.dj_model.specs.Step.{Went, step}
-use Rattle.dj_model.specs.Runs.{begin}
+use Rattle.dj_model.specs.trusted.Types.{Prefix, Declared}
+use Rattle.dj_model.specs.trusted.Charging.{new_account}
+use Rattle.dj_model.specs.trusted.State.{Terms, Counting, Uncounted, Accounted, State}
+use Rattle.dj_model.specs.trusted.Step.{Went, step}
+use Rattle.dj_model.specs.trusted.Runs.{begin}
 use Rattle.dj_image.specs.Imaged.{Imaged, program_of}
 use Rattle.dj_settling.specs.Told.{Told, On, Over, told_of}
 use Rattle.dj_step.specs.declared.answers.StepAnswer.{StepAnswer}
@@ -37,19 +37,19 @@ terms_of m = record { limit = Some m.limit; counting = m.counting }
 abbrev pub state_with : List HostAnswer → Machined → State
 state_with answers m = record m.state { answers = answers }
 
--- rewritten classes have an accounter; for others nobody counts
+-- rewritten classes have an accounter; for other classes no charges are counted
 abbrev pub counting_for : Prefix → Thresholds → Counting
 counting_for [] most = Uncounted
 counting_for (byte ∷ prefix) most = Accounted most
 
 -- ---- answers of the model
 
--- the run goes on in this state, or it has ended so
+-- the run goes on in this state, or it has ended with this outcome
 abbrev pub on_or_over : Option Outcome → State → Told
 on_or_over None s = On s
 on_or_over (Some outcome) s = Over outcome s.account s.answers
 
--- what the machine tells, with these answers left
+-- the state of the machine as an answer of the model, with these answers of the host left
 abbrev pub machine_told : List HostAnswer → Machined → Told
 machine_told answers m = on_or_over m.outcome (state_with answers m)
 
@@ -64,7 +64,7 @@ pub record Begins (imaged : Imaged) (entry : Declared) (input : List ℕ) (most 
   pub failed : m.failed ≡ false
   pub state : (answers : List HostAnswer) → begin (program_of imaged) imaged.prefix (terms_of m) entry input answers ≡ Went (state_with answers m)
 
--- how a run ends that doesn't begin; nothing is told where there was no memory
+-- how a run ends that ends before its first step; nothing is said where there was no memory
 abbrev pub start_outcome : StartError → Option Outcome
 start_outcome starts.Memory = None
 start_outcome (starts.Full used size) = Some (outcomes.HeapFull used size)
@@ -97,12 +97,12 @@ pub record IsSameRun (old new : Machined) : Type 0 where
   pub limit : new.limit ≡ old.limit
   pub counting : new.counting ≡ old.counting
 
--- one that is over stays as it was, and asks nothing
+-- a machine whose run is over stays as it is, and asks the host nothing
 pub record Stays (old new : Machined) (gave : List HostAnswer) : Type 0 where
   pub same : new ≡ old
   pub quiet : gave ≡ []
 
--- the model's step is told, where what the host gave stands before the rest of its answers, whatever these are; of one that fails nothing is told
+-- where what the host gave comes first among the answers, whatever the others are, the machine's step is the model's; nothing is said where there was no memory
 abbrev pub Goes : Machined → Machined → List HostAnswer → Type 0
 Goes old new gave = new.failed ≡ false → (rest : List HostAnswer)
     → told_of (step (program_of old.image) old.image.prefix (terms_of old) (state_with (gave ++ rest) old)) ≡ machine_told rest new

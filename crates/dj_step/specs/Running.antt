@@ -5,12 +5,12 @@ use Rattle.dj_names.specs.declared.run.Outcome.{Outcome}
 use Rattle.dj_names.specs.declared.run.Thresholds.{Thresholds}
 use Rattle.dj_names.specs.declared.run.Value.TheVariants as values
 use Rattle.dj_names.specs.declared.run.Element.TheVariants as elements
-use Rattle.dj_names.specs.Heaps.{Array, object_size, array_size}
-use Rattle.dj_model.specs.Types.{Prefix}
-use Rattle.dj_model.specs.Charging.{new_account}
-use Rattle.dj_model.specs.Initialisation.{new_frame}
-use Rattle.dj_model.specs.Linking.{static_count}
-use Rattle.dj_model.specs.Runs.{input_array, input_heap}
+use Rattle.dj_names.specs.trusted.Heaps.{Array, object_size, array_size}
+use Rattle.dj_model.specs.trusted.Types.{Prefix}
+use Rattle.dj_model.specs.trusted.Charging.{new_account}
+use Rattle.dj_model.specs.trusted.Initialisation.{new_frame}
+use Rattle.dj_model.specs.trusted.Linking.{static_count}
+use Rattle.dj_model.specs.trusted.Runs.{input_array, input_heap}
 use Rattle.dj_heap.specs.Heaps.{LimitedHeap}
 use Rattle.dj_stack.specs.Frames.{StackFrame}
 use Rattle.dj_calls.specs.Counting.{Counter}
@@ -59,12 +59,12 @@ pub record HoldsEntry (imaged : Imaged) (entry : ℕ) (frames : List StackFrame)
   pub seen : frames_seen (program_of imaged) frames ≡ new_frame (program_of imaged) (declared_at (program_of imaged) entry) (values.Ref 1 ∷ []) ∷ []
   pub stand : AreActivations imaged frames
 
--- what a run begins with, before the entry's class is initialised
+-- the run at its beginning, before the entry's class is initialised
 abbrev pub begin_parts : Imaged → LimitedHeap → List StackFrame → Parts
 begin_parts imaged heap frames =
     parts (replicate (length (program_of imaged)) false) (store heap (replicate (static_count (program_of imaged)) 0) (record { count = length imaged.texts; made = [] })) frames
 
--- who counts, and nothing yet
+-- who counts charges, and no charge was counted yet
 pub record IsCounter (prefix : Prefix) (limits : Thresholds) (counter : Option Counter) : Type 0 where
   pub counting : counting_of counter ≡ counting_for prefix limits
   pub account : account_of counter ≡ new_account
@@ -77,7 +77,7 @@ pub record IsFirst (imaged : Imaged) (limits : Thresholds) (heap : LimitedHeap) 
   pub counter : IsCounter imaged.prefix limits r.counter
   pub stop : r.stop ≡ 0
 
--- the entry's class, by some number, was initialised
+-- the entry's class, which has some number, was initialised
 pub record PreparesEntry (imaged : Imaged) (entry : ℕ) (before after : Parts) (result : Prepared) : Type 0 where
   pub class : ℕ
   pub named : class_name (program_of imaged) class ≡ (declared_at (program_of imaged) entry).class
@@ -97,9 +97,9 @@ GoesOn prepared.Waits = ⊤
 GoesOn prepared.TooDeep = ⊥
 GoesOn (prepared.HeapFull used size) = ⊥
 
--- ---- the code's own: how the input is filled in
+-- ---- used by the code alone: how the input is filled in
 
--- the bytes with their sign, of which so many are in, and zeros in place of the others
+-- the bytes with their sign, this many of them, and zeros in place of the others
 abbrev pub filled : ℕ → List ℕ → List ℤ
 filled at [] = []
 filled zero (byte ∷ bytes) = pos 0 ∷ filled zero bytes

@@ -1,7 +1,7 @@
 use dj_names::NoMemory;
 use thiserror::Error;
 
-/// What a step of a machine tells.
+/// What a step of a machine answers.
 #[derive(Clone, Copy, Debug, PartialEq, Eq)]
 pub enum StepAnswer {
     /// The run goes on.

@@ -20,7 +20,7 @@ use dj_stack::Frames;
 use dj_turning::{Run, Tables};
 use std::alloc::Global;
 
-// The run with this heap and these frames, and the entry's class is initialised.
+// The run with this heap and these frames, once the entry's class is initialised.
 #[tactic(auto, using(crate::proofs::FirstLaws::flags_first, crate::proofs::FirstLaws::store_first, crate::proofs::FirstLaws::begins_run))]
 pub(crate) fn begin_run(
     alloc: Global,
@@ -81,7 +81,7 @@ fn no_flags(alloc: Global, image: &Image) -> Result<Initialised, NoMemory>
     Initialised::new(alloc, image.linker().classes().class_count())
 }
 
-// Who counts: the accounter, where the classes are rewritten.
+// Who counts charges: the accounter, where the classes are rewritten.
 #[tactic(auto, using(crate::proofs::FirstLaws::counter_told))]
 fn counter(image: &Image, limits: Thresholds) -> Option<Accounter>
     requires { AreLow limits }

@@ -1,6 +1,6 @@
 ghost use Rattle.std.specs.Prelude.{◌≡◌, ◌≤◌, IfOk, IfErr, Some, length, slice_get};
 ghost use Rattle.dj_names.specs.declared.descriptor.Base.TheVariants as bases;
-ghost use Rattle.dj_names.specs.Types.{base_array};
+ghost use Rattle.dj_names.specs.trusted.Types.{base_array};
 ghost use Rattle.dj_types.specs.Typed.{types_of};
 ghost use Rattle.dj_image.specs.Imaged.{typed_of};
 ghost use Rattle.dj_step.specs.Running.{FillsBytes, HasZeros, HoldsInput, RefusesInput};
@@ -37,7 +37,7 @@ pub(crate) fn input_heap(
     Ok(heap)
 }
 
-// The arrays of bytes.
+// The number of the arrays of bytes.
 #[tactic(auto, using(crate::proofs::BytesLaws::bytes_there, crate::proofs::BytesLaws::bytes_type))]
 fn bytes_class(image: &Image) -> u32
     ensures { slice_get (types_of (typed_of image.now)) result ≡ Some (base_array bases.Byte) }
@@ -50,7 +50,7 @@ fn bytes_class(image: &Image) -> u32
     }
 }
 
-// The elements of the first object become these bytes, with their sign.
+// Makes these bytes, with their sign, the elements of the first object.
 #[tactic(auto, using(crate::proofs::InputLaws::filled_none, crate::proofs::InputLaws::byte_within, crate::proofs::InputLaws::filled_more, crate::proofs::InputLaws::filled_all))]
 fn fill(heap: &mut Heap, input: &[u8], count: u32)
     requires zeros { HasZeros input.now heap.old }

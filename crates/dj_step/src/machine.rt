@@ -3,7 +3,7 @@ ghost use Rattle.std.specs.Option.{option_map};
 ghost use Rattle.dj_model.specs.Sound.{IsSound};
 ghost use Rattle.dj_model.specs.Standing.{AsksNothing, IsEntry};
 ghost use Rattle.dj_calls.specs.Counting.{AreLow};
-ghost use Rattle.dj_host.specs.Hosted.{given_since};
+ghost use Rattle.dj_host.specs.trusted.Hosted.{given_since};
 ghost use Rattle.dj_types.specs.Members.{all_methods};
 ghost use Rattle.dj_image.specs.Imaged.{program_of};
 ghost use Rattle.dj_activations.specs.Activations.{declared_at};
@@ -31,7 +31,7 @@ use std::marker::Model;
 #[derive(Drop)]
 pub struct Machine<'a> {
     image: &'a Image,
-    // What the run may be charged and how many bytes its heap may have, which the run has too, until there is no memory.
+    // What the run may be charged, and how many bytes its heap may have.
     limits: Thresholds,
     heap_limit: u64,
     tables: Tables,
@@ -119,7 +119,7 @@ impl<'a> Machine<'a> {
         }
     }
 
-    /// What the next step tells, where the run has ended or there was no memory; else that it goes on.
+    /// What the next step answers, where the run has ended or there was no memory; else that it goes on.
     pub fn answer(&self) -> StepAnswer
         ensures { result ≡ step_answer self.now }
     {
@@ -132,7 +132,7 @@ impl<'a> Machine<'a> {
         }
     }
 
-    /// How the run has ended, once it has, of a machine that isn't needed any more.
+    /// How the run has ended, once it has; the machine isn't needed any more.
     pub fn into_outcome(self) -> Option<Outcome>
         ensures { result ≡ self.entry.outcome }
     {

@@ -7,8 +7,8 @@ use Rattle.std.proofs.lemmas.Bool.{false≢true}
 use Rattle.std.proofs.lemmas.List.{map-set, length-set}
 use Rattle.std.proofs.lemmas.List.Sums.{sum_by-set}
 use Rattle.dj_names.specs.declared.run.Element.TheVariants as elements
-use Rattle.dj_straight.specs.Objects.{Object}
-use Rattle.dj_straight.specs.Effects.{Null, NoArray, IsArray, array_at, array_in, array_size, element_at, with_element, with_object}
+use Rattle.dj_straight.specs.trusted.Objects.{Object}
+use Rattle.dj_straight.specs.trusted.Effects.{Null, NoArray, IsArray, array_at, array_in, array_size, element_at, with_element, with_object}
 use Rattle.dj_straight.specs.Arrays.{byte_array, byte_size, heap_of}
 
 object_view : Vec ℤ → Object

@@ -1,14 +1,14 @@
--- Code is cut into straight instructions in one way at most, and the instructions from its begin tell whether it is.
+-- Code is cut into straight instructions in one way at most, and the instructions from its begin say whether it is.
 use Rattle.std.proofs.Common.{◌≡◌, ℕ, ◌<◌, List, [], ◌∷◌, ◌++◌, length, All, Result, Ok, Err, IsErrOf, refl, sym, ap₂, subst, ◌∙◌, arith, inl, inr}
 use Rattle.std.specs.List.{AllByRecursion}
 use Rattle.std.proofs.lemmas.List.Elements.{All-from_recursion}
 use Rattle.dj_ops.specs.declared.instruction.Instr.{Instr}
 use Rattle.dj_ops.specs.declared.read.OpError.{OpError}
 use Rattle.dj_ops.specs.declared.read.OpError.TheVariants as errors
-use Rattle.dj_ops.specs.Instructions.{IsProper, Stands}
+use Rattle.dj_ops.specs.trusted.Instructions.{IsProper, Stands}
 use Rattle.dj_ops.specs.Refusals.{Yields}
-use Rattle.dj_straight.specs.StraightInstrs.{IsStraight, IsStraightAt}
-use Rattle.dj_straight.specs.Cuts.{AreInstructions}
+use Rattle.dj_straight.specs.trusted.StraightInstrs.{IsStraight, IsStraightAt}
+use Rattle.dj_straight.specs.trusted.Cuts.{AreInstructions}
 use Rattle.dj_ops.proofs.Whole.{one_at}
 
 -- ---- one way at most
@@ -73,11 +73,11 @@ up_to_none code at (i ∷ instrs) end p lt none (o ∷ others) q =
 memory_is : (e : OpError) → IsErrOf (refused e) errors.Memory → e ≡ errors.Memory
 memory_is e h = cc
 
--- an instruction that is not straight tells that no straight one stands there
+-- where another instruction stands, no straight one does
 pub other_tells : (code : List ℕ) (at : ℕ) (instr : Instr) (next : ℕ) → Stands code at instr next → (IsStraight instr → ⊥) → IsNoneAt code at
 other_tells code at instr next s other i n t = other (subst IsStraight (one_at code at n next i instr t.stands s).0 t.straight)
 
--- a refusal for another reason than memory tells that nothing stands there
+-- where the reader refuses for another reason than memory, nothing stands
 pub refusal_tells : (code : List ℕ) (at : ℕ) (e : OpError) → (e ≡ errors.Memory → ⊥) → ((instr : Instr) (next : ℕ) → Stands code at instr next → Yields (Err e) (Ok (instr, next))) → IsNoneAt code at
 refusal_tells code at e other all instr next s =
     elim (all instr next s.stands) [

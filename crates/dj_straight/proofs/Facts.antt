@@ -12,19 +12,19 @@ use Rattle.dj_names.specs.declared.run.Costs.{Costs}
 use Rattle.dj_names.specs.declared.run.Thresholds.{Thresholds}
 use Rattle.dj_names.specs.declared.run.Outcome.{Outcome}
 use Rattle.dj_names.specs.declared.run.Outcome.TheVariants as outcomes
-use Rattle.dj_names.specs.Values.{raised_class}
-use Rattle.dj_straight.specs.Objects.{Object, Instance, Array, Text}
+use Rattle.dj_names.specs.trusted.Values.{raised_class}
+use Rattle.dj_straight.specs.trusted.Objects.{Object, Instance, Array, Text}
 use Rattle.dj_names.specs.declared.run.Raised.TheVariants as raises
-use Rattle.dj_straight.specs.Instructions.{Bytes, Chars, Shorts, Ints, Longs, Nop, Return, Add, Subtract, instruction_of, simple}
-use Rattle.dj_straight.specs.Program.{Name, Program, Method, method_in, Abstract, Field, Constant, Int, Long, Text as TextConstant, is_subclass, ancestors_of, field_kind, chain_of, has_initialiser, code_of}
-use Rattle.dj_straight.specs.Metered.{begin, start_state, input_array, turns_from, metered_terms, Ends}
-use Rattle.dj_straight.specs.State.{Frame, State}
-use Rattle.dj_straight.specs.Effects.{reaches, access_kind, element_value, kept, array_size, text_size, Part, Flow, Next, To, Raise, Throw, Back, Broken, Full, IsArray, NoArray, reached, goes, make, effect, Terms, Effect, computed, compute_two, put, store_found, store_raises, return_top}
-use Rattle.dj_straight.specs.Initialisation.{Initialised, Ready, Waits, Fails, argument_slots, with_frames, constants_of, with_constants}
-use Rattle.dj_straight.specs.Step.{Answer, Ended, Went, IllFormed, message_of, raise, resumed, unwound, settle, done, bytes_in, result_outcome, prepared, returned, leaves, stopped_by, ended_by, ends_with, throw}
-use Rattle.dj_straight.specs.Charges.{paid, Paid, Exceeds}
-use Rattle.dj_straight.specs.FrameKinds.{kind_slots}
-use Rattle.dj_straight.specs.Rows.{class_with, limited_to, field_with, text_desc, beginning, initialiser_with, entry, verify_with, op}
+use Rattle.dj_straight.specs.trusted.Instructions.{Bytes, Chars, Shorts, Ints, Longs, Nop, Return, Add, Subtract, instruction_of, simple}
+use Rattle.dj_straight.specs.trusted.Program.{Name, Program, Method, method_in, Abstract, Field, Constant, Int, Long, Text as TextConstant, is_subclass, ancestors_of, field_kind, chain_of, has_initialiser, code_of}
+use Rattle.dj_straight.specs.trusted.Metered.{begin, start_state, input_array, turns_from, metered_terms, Ends}
+use Rattle.dj_straight.specs.trusted.State.{Frame, State}
+use Rattle.dj_straight.specs.trusted.Effects.{reaches, access_kind, element_value, kept, array_size, text_size, StraightPart, Flow, Next, To, Raise, Throw, Back, Broken, Full, IsArray, NoArray, reached, goes, make, effect, Terms, Effect, computed, compute_two, put, store_found, store_raises, return_top}
+use Rattle.dj_straight.specs.trusted.Initialisation.{Initialised, Ready, Waits, Fails, argument_slots, with_frames, constants_of, with_constants}
+use Rattle.dj_straight.specs.trusted.Step.{Answer, Ended, Went, IllFormed, message_of, raise, resumed, unwound, settle, done, bytes_in, result_outcome, prepared, returned, leaves, stopped_by, ended_by, ends_with, throw}
+use Rattle.dj_straight.specs.trusted.Charges.{paid, Paid, Exceeds}
+use Rattle.dj_straight.specs.trusted.FrameKinds.{kind_slots}
+use Rattle.dj_straight.specs.SmallRuns.{class_with, limited_to, field_with, text_desc, beginning, initialiser_with, entry, verify_with, op}
 
 -- ---- arrays
 
@@ -199,7 +199,7 @@ throws_with_message : unwound [] (limited_to 32) with_message (codes "X") 2 [] �
 unfolding unwound
 throws_with_message = refl
 
-no_part : Part
+no_part : StraightPart
 no_part = record { locals = []; operands = []; heap = record { objects = []; used = 0 }; statics = []; literals = [] }
 
 goes_to : settle [] (limited_to 32) no_state (frame_of (codes "f")) [] no_part (To 9)
@@ -438,7 +438,7 @@ caller_catches_stop = refl
 
 -- ---- what is computed, stored and returned
 
-abbrev two_operands : Part
+abbrev two_operands : StraightPart
 two_operands = record no_part {
   locals = Some (values.Int (pos 1)) ∷ [];
   operands = values.Int (pos 2) ∷ values.Int (pos 3) ∷ [];

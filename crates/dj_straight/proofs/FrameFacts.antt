@@ -1,19 +1,20 @@
--- What frames tell, what instructions leave, and what flows into what, each written by hand (JVMS 4.7.4 and 4.10.1).
+-- What frames declare, what instructions leave, and what flows into what, each written by hand (JVMS 4.7.4 and 4.10.1).
 use Rattle.std.proofs.Common.{◌≡◌, ℕ, ◌<◌, true, false, pos, List, [], ◌∷◌, map, replicate, Option, Some, None, codes, refl, ap, length, arith}
 use Rattle.dj_names.specs.declared.descriptor.Kind.{Kind}
 use Rattle.dj_names.specs.declared.descriptor.Kind.TheVariants as kinds
 use Rattle.dj_names.specs.declared.run.Value.TheVariants as values
 use Rattle.dj_names.specs.declared.run.Element.TheVariants as elements
-use Rattle.dj_straight.specs.Program.{Code, Range}
-use Rattle.dj_straight.specs.Instructions.{Instruction, Nop, Push, Load, Store, LoadElement, StoreElement, Move, Compute, Return, ArrayLength, NewArray, Other, Pop, Dup, Add, Bytes, Longs, ends, targets, throws, makes_uninitialised, asks_program, is_straight}
-use Rattle.dj_straight.specs.StackMaps.{VerificationType, Top, Integer, Float, Double, Long, Null, UninitializedThis, Object, Uninitialized, FrameForm, Same, Stack1, Chop, Append, Full, StackMapFrame}
+use Rattle.dj_straight.specs.trusted.Program.{Code, Range}
+use Rattle.dj_straight.specs.trusted.Instructions.{Instruction, Nop, Push, Load, Store, LoadElement, StoreElement, Move, Compute, Return, ArrayLength, NewArray, Other, Pop, Dup, Add, Bytes, Longs, ends, targets, makes_uninitialised}
+use Rattle.dj_straight.specs.Instructions.{throws, asks_program, is_straight}
+use Rattle.dj_straight.specs.trusted.StackMaps.{VerificationType, Top, Integer, Float, Double, Long, Null, UninitializedThis, Object, Uninitialized, FrameForm, Same, Stack1, Chop, Append, Full, StackMapFrame}
 use Rattle.std.specs.Prelude.{⊤}
-use Rattle.dj_straight.specs.FrameKinds.{Signature, Kinds, kind_slots, depth, Of, NoEntry, entry_of, entries_of, stack_of, Entries, form_entries, padded, fitting, Placed, Read, Faulty, NoMap, frames_after, frames_of, parameter_entries, placed_at}
-use Rattle.dj_straight.specs.Shape.{same_result, after, LocalsFlow, FlowsInto, FlowsTo, FlowsToEach, TellsOr, StateBefore, IsHandlerFrame, LocalsFlowTo, Holds}
+use Rattle.dj_straight.specs.trusted.FrameKinds.{Signature, Kinds, kind_slots, depth, Of, NoEntry, entry_of, entries_of, stack_of, Entries, form_entries, padded, fitting, Placed, Read, Faulty, NoMap, frames_after, frames_of, parameter_entries, placed_at}
+use Rattle.dj_straight.specs.trusted.Shape.{same_result, after, LocalsFlow, FlowsInto, FlowsTo, FlowsToEach, TellsOr, StateBefore, IsHandlerFrame, LocalsFlowTo, Holds}
 use Rattle.dj_names.specs.declared.run.Raised.TheVariants as raises
-use Rattle.dj_straight.specs.Effects.{Part, Flow, Next, To, Raise, Throw, Back, Broken, Full as HeapFull, effect}
+use Rattle.dj_straight.specs.trusted.Effects.{StraightPart, Flow, Next, To, Raise, Throw, Back, Broken, Full as HeapFull, effect}
 use Rattle.dj_straight.specs.Sound.{LocalsHave, HasKinds, LeavesKinds, IsSoundFlow, HasSoundEffect}
-use Rattle.dj_straight.specs.Rows.{limited_to}
+use Rattle.dj_straight.specs.SmallRuns.{limited_to}
 use Rattle.dj_straight.proofs.Shapes.{one_state}
 
 -- ---- types
@@ -32,7 +33,7 @@ entries : map (entry_of two_nops) (Top ∷ Integer ∷ Float ∷ Double ∷ Long
     ≡ Of None ∷ Of (Some kinds.Int) ∷ NoEntry ∷ NoEntry ∷ Of (Some kinds.Long) ∷ Of (Some kinds.Ref) ∷ Of (Some kinds.Ref) ∷ Of (Some kinds.Ref) ∷ NoEntry ∷ NoEntry ∷ []
 entries = refl
 
--- a long is one entry; one type that tells nothing spoils all
+-- a long is one entry; one type that has no entry spoils all
 entries_in_order : map (entries_of two_nops) ([] ∷ (Top ∷ Long ∷ Integer ∷ Null ∷ []) ∷ (Float ∷ Integer ∷ []) ∷ (Integer ∷ Double ∷ []) ∷ (Integer ∷ Uninitialized 1 ∷ Null ∷ []) ∷ [])
     ≡ Some [] ∷ Some (None ∷ Some kinds.Long ∷ Some kinds.Int ∷ Some kinds.Ref ∷ []) ∷ None ∷ None ∷ None ∷ []
 entries_in_order = refl
@@ -121,7 +122,7 @@ at number form = record { at = number; form = form }
 abbrev pub placed : ℕ → List (Option Kind) → List Kind → Placed
 placed number locals stack = record { at = number; kinds = kinds_of locals stack }
 
--- each is told from the one before: after an operand and after Full too
+-- each starts from the one before: after an operand and after Full too
 four_in_a_row : frames_after two_nops (Some kinds.Ref ∷ []) (at 2 (Append (Long ∷ [])) ∷ at 3 (Stack1 Integer) ∷ at 5 (Chop 1) ∷ at 9 (Append (Integer ∷ Null ∷ [])) ∷ [])
     ≡ Read (placed 2 (Some kinds.Ref ∷ Some kinds.Long ∷ None ∷ []) []
     ∷ placed 3 (Some kinds.Ref ∷ Some kinds.Long ∷ None ∷ []) (kinds.Int ∷ [])
@@ -142,7 +143,7 @@ no_frames : frames_after two_nops (Some kinds.Ref ∷ []) [] ≡ Read []
 unfolding frames_after
 no_frames = refl
 
--- the number of the first that tells no kinds: by its type, by its form, by its operands, by its local variables
+-- the number of the first that has no kinds: by its type, by its form, by its operands, by its local variables
 first_faulty : map (frames_after two_nops (Some kinds.Ref ∷ [])) (
     (at 4 Same ∷ at 5 (Append (Float ∷ [])) ∷ at 6 (Stack1 Double) ∷ [])
     ∷ (at 4 Same ∷ at 6 (Chop 2) ∷ at 7 (Append (Float ∷ [])) ∷ [])
@@ -155,7 +156,7 @@ first_faulty : map (frames_after two_nops (Some kinds.Ref ∷ [])) (
 unfolding frames_after
 first_faulty = refl
 
--- ---- the first frame is told from the parameters
+-- ---- the first frame starts from the parameters
 
 abbrev long_and_reference : Signature
 long_and_reference = record { parameters = kinds.Long ∷ kinds.Ref ∷ []; result = None }
@@ -405,7 +406,7 @@ int_at_handler h = let e : kinds.Int ∷ [] ≡ kinds.Ref ∷ [] = h in absurd c
 two_at_handler : IsHandlerFrame (Some (kinds_of [] (kinds.Ref ∷ kinds.Ref ∷ []))) → ⊥
 two_at_handler h = let e : kinds.Ref ∷ kinds.Ref ∷ [] ≡ kinds.Ref ∷ [] = h in absurd cc
 
--- a frame tells the kinds, whatever else would hold
+-- a frame declares the kinds, whatever else would hold
 tells : TellsOr (Some (kinds_of [] [])) (kinds_of [] []) ⊥
 tells = refl
 
@@ -476,7 +477,7 @@ no_value_for_kind h = h.locals
 
 -- ---- what may follow an instruction
 
-abbrev some_part : Part
+abbrev some_part : StraightPart
 some_part = record {
   locals = Some (values.Ref 1) ∷ None ∷ Some (values.Int (pos 5)) ∷ [];
   operands = values.Int (pos 7) ∷ [];
@@ -588,7 +589,7 @@ none_before_third k h =
     let both : true ≡ false = rw (← instruction) at h.4 in
     absurd cc
 
--- a frame tells it, also before the first instruction and after a return
+-- a frame declares it, also before the first instruction and after a return
 before_framed : StateBefore reference_in (code_with (Return None ∷ Nop ∷ []) [] []) (placed 1 [] (kinds.Int ∷ []) ∷ []) 1 (kinds_of [] (kinds.Int ∷ []))
 before_framed = refl
 

@@ -13,7 +13,7 @@ pub mod Sound
 pub mod Shapes
 pub mod Programs
 pub mod Runs
-mod Rows
+mod SmallRuns
 mod Opcodes
 mod Facts
 mod FrameFacts

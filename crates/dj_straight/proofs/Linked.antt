@@ -14,25 +14,25 @@ use Rattle.dj_names.specs.declared.run.Thresholds.{Thresholds}
 use Rattle.dj_names.specs.declared.run.Outcome.{Outcome}
 use Rattle.dj_names.specs.declared.run.Outcome.TheVariants as outcomes
 use Rattle.dj_names.specs.declared.run.Message.TheVariants as messages
-use Rattle.dj_names.specs.Values.{value_kind, raised_class}
-use Rattle.dj_straight.specs.Objects.{Object, Array}
-use Rattle.dj_straight.specs.Program.{Name}
-use Rattle.dj_straight.specs.State.{Heap, Static, Literal}
-use Rattle.dj_straight.specs.Instructions as model
-use Rattle.dj_straight.specs.Instructions.{Instruction}
-use Rattle.dj_straight.specs.Effects.{Part, Flow, Next, To, Raise, Throw, Back, Broken, Full, Effect, effect, goes, same_kind, is_of_kind, slots_of, local_at, is_long, without_long_before, stored, load_value, Found, Null, NoArray, IsArray, array_at, array_in, only, reached, load_found, element_at, store_found, new_contents}
-use Rattle.dj_straight.specs.Step.{result_outcome, bytes_in}
+use Rattle.dj_names.specs.trusted.Values.{value_kind, raised_class}
+use Rattle.dj_straight.specs.trusted.Objects.{Object, Array}
+use Rattle.dj_straight.specs.trusted.Program.{Name}
+use Rattle.dj_straight.specs.trusted.State.{Heap, Static, Literal}
+use Rattle.dj_straight.specs.trusted.Instructions as model
+use Rattle.dj_straight.specs.trusted.Instructions.{Instruction}
+use Rattle.dj_straight.specs.trusted.Effects.{StraightPart, Flow, Next, To, Raise, Throw, Back, Broken, Full, Effect, effect, goes, same_kind, is_of_kind, slots_of, local_at, is_long, without_long_before, stored, load_value, Found, Null, NoArray, IsArray, array_at, array_in, only, reached, load_found, element_at, store_found, new_contents}
+use Rattle.dj_straight.specs.trusted.Step.{result_outcome, bytes_in}
 use Rattle.dj_straight.specs.declared.program.Action.{Action}
 use Rattle.dj_straight.specs.declared.program.Action.TheVariants as actions
 use Rattle.dj_straight.specs.declared.machine.Ending.{Ending}
-use Rattle.dj_straight.specs.declared.machine.turns.Turns.TheVariants as ways
+use Rattle.dj_straight.specs.declared.machine.turns.Advance.TheVariants as ways
 use Rattle.dj_straight.specs.Methods.{action_view}
 use Rattle.dj_straight.specs.Machines.{straight_effect}
 use Rattle.dj_straight.specs.Turns.{TurnsDo, FlowEnds}
 use Rattle.dj_straight.specs.Running.{PushesNull}
 use Rattle.dj_straight.proofs.StraightRuns.{first_part}
 
--- a reference is null or the number of one of so many objects
+-- a reference is null or the number of one of this many objects
 abbrev pub Made : ℕ → Value → Type 0
 Made n (values.Ref r) = r ≤ n
 Made n (values.Int z) = ⊤
@@ -55,7 +55,7 @@ abbrev pub AreArrays : List Object → Type 0
 AreArrays [] = ⊤
 AreArrays (o ∷ objects) = IsBytes o × AreArrays objects
 
-pub record IsLinked (p : Part) : Type 0 where
+pub record IsLinked (p : StraightPart) : Type 0 where
   pub locals : LocalsMade (length p.heap.objects) p.locals
   pub operands : OperandsMade (length p.heap.objects) p.operands
   pub arrays : AreArrays p.heap.objects
@@ -154,7 +154,7 @@ stored_made n vs slot (values.Ref r) made all = set_made n _ slot (values.Ref r)
 -- ---- effects
 
 -- what holds after an instruction
-abbrev pub After : Part → Flow → Type 0
+abbrev pub After : StraightPart → Flow → Type 0
 After p Next = IsLinked p
 After p (Back (Some (values.Ref r))) = (r ≤ length p.heap.objects) × AreArrays p.heap.objects
 After p (Raise raised) = ⊤
@@ -173,7 +173,7 @@ on_if_not true x on = tt
 on_if_not false x on = on
 
 module _ (locals : List (Option Value)) (heap : Heap) (statics : List Static) (literals : List Literal) (all : LocalsMade (length heap.objects) locals) (arrays : AreArrays heap.objects) where
-  abbrev part : List Value → Part
+  abbrev part : List Value → StraightPart
   part operands = record { locals = locals; operands = operands; heap = heap; statics = statics; literals = literals }
 
   abbrev AreMade : List Value → Type 0
@@ -265,7 +265,7 @@ module _ (locals : List (Option Value)) (heap : Heap) (statics : List Static) (l
   unfolding effect
   store_linked kind slot [] made = tt
   store_linked kind slot (v ∷ rest) made =
-      let next : Part = record (part rest) { locals = stored locals slot v } in
+      let next : StraightPart = record (part rest) { locals = stored locals slot v } in
       let linked : IsLinked next = record { locals = stored_made (length heap.objects) locals slot v made.0 all; operands = made.1; arrays = arrays } in
       on_if (is_of_kind kind v && nat_lt (slot + slots_of kind - 1) (length locals)) (Some (goes next Next)) linked
 
@@ -310,7 +310,7 @@ module _ (locals : List (Option Value)) (heap : Heap) (statics : List Static) (l
   action_linked actions.NewByteArray operands null made = new_array_linked operands made
   action_linked (actions.Other op) operands null made = tt
 
-effect_linked : (a : Action) (p q : Part) (flow : Flow) → PushesNull (action_view a) → IsLinked p → straight_effect (action_view a) p ≡ Some (goes q flow) → After q flow
+effect_linked : (a : Action) (p q : StraightPart) (flow : Flow) → PushesNull (action_view a) → IsLinked p → straight_effect (action_view a) p ≡ Some (goes q flow) → After q flow
 effect_linked a p q flow null linked e = subst OnEffect e (action_linked p.locals p.heap p.statics p.literals linked.locals linked.arrays a p.operands null linked.operands)
 
 -- ---- a run
@@ -319,7 +319,7 @@ none_made : (n count : ℕ) → LocalsMade n (replicate count None)
 none_made n zero = tt
 none_made n (suc count) = none_made n count
 
-pub first_linked : (max_locals : ℕ) (input : List ℕ) (p : Part) → p ≡ first_part max_locals input → IsLinked p
+pub first_linked : (max_locals : ℕ) (input : List ℕ) (p : StraightPart) → p ≡ first_part max_locals input → IsLinked p
 first_linked max_locals input p is =
     rw is (record { locals = (omega arith, none_made 1 (max_locals - 1)); operands = tt; arrays = (tt, tt) })
 
@@ -328,7 +328,7 @@ pub action_null : (all items : List Action) (n : ℕ) (d : Action) → items ≡
     → PushesNull (action_view (get_or items n d))
 action_null all items n d is within null = subst (λ (xs : List Action). PushesNull (action_view (get_or xs n d))) (sym is) (null n d (subst (λ (xs : List Action). n < length xs) is within))
 
-pub next_linked : (most : Thresholds) (costs now : Costs) (a : Action) (p next : Part) → PushesNull (action_view a) → IsLinked p
+pub next_linked : (most : Thresholds) (costs now : Costs) (a : Action) (p next : StraightPart) → PushesNull (action_view a) → IsLinked p
     → TurnsDo most costs (action_view a) p next (ways.Go now) → IsLinked next
 next_linked most costs now a p next null linked (inl done) = effect_linked a p next Next null linked done.2.1
 next_linked most costs now a p next null linked (inr stopped) = absurd stopped
@@ -344,7 +344,7 @@ result_no_link : (heap : Heap) (r : ℕ) → r ≤ length heap.objects → AreAr
 result_no_link heap zero within arrays link = absurd cc
 result_no_link heap (suc n) within arrays link = bytes_no_link (array_at heap.objects (suc n)) (bytes_in_list heap.objects n (omega arith) arrays) link
 
-flow_no_link : (q : Part) (flow : Flow) (outcome : Outcome) → After q flow → FlowEnds q.heap flow outcome → outcome ≡ outcomes.Link → ⊥
+flow_no_link : (q : StraightPart) (flow : Flow) (outcome : Outcome) → After q flow → FlowEnds q.heap flow outcome → outcome ≡ outcomes.Link → ⊥
 flow_no_link q (Raise raised) outcome after end link =
     let other : outcomes.Threw (raised_class raised) messages.Null ≡ outcomes.Link = sym end ∙ link in absurd cc
 flow_no_link q (Back (Some (values.Ref r))) outcome after end link = result_no_link q.heap r after.0 after.1 (sym end ∙ link)
@@ -355,7 +355,7 @@ flow_no_link q (Full used size) outcome after end link = end
 flow_no_link q Broken outcome after end link = after
 flow_no_link q (Back _) outcome after end link = after
 
-pub end_linked : (most : Thresholds) (costs : Costs) (a : Action) (p next : Part) (e : Ending) → PushesNull (action_view a) → IsLinked p
+pub end_linked : (most : Thresholds) (costs : Costs) (a : Action) (p next : StraightPart) (e : Ending) → PushesNull (action_view a) → IsLinked p
     → TurnsDo most costs (action_view a) p next (ways.End e) → e.outcome ≡ outcomes.Link → ⊥
 end_linked most costs a p next e null linked (inl done) link =
     flow_no_link done.2.1 done.2.2 e.outcome (effect_linked a p done.2.1 done.2.2 null linked done.2.3) done.2.4 link

@@ -4,7 +4,7 @@ use Rattle.dj_names.specs.declared.descriptor.Kind.TheVariants as kinds
 use Rattle.dj_names.specs.declared.run.Value.TheVariants as values
 use Rattle.dj_names.specs.declared.run.Element.TheVariants as elements
 use Rattle.dj_ops.specs.declared.instruction.Instr.TheVariants as instrs
-use Rattle.dj_straight.specs.Instructions.{Instruction, Nop, Push, Load, Store, LoadElement, StoreElement, Move, Compute, Return, ArrayLength, NewArray, Other, Pop, Dup, Add, Subtract, Multiply, And, Or, Xor, Bytes, simple, instruction_of}
+use Rattle.dj_straight.specs.trusted.Instructions.{Instruction, Nop, Push, Load, Store, LoadElement, StoreElement, Move, Compute, Return, ArrayLength, NewArray, Other, Pop, Dup, Add, Subtract, Multiply, And, Or, Xor, Bytes, simple, instruction_of}
 
 run_alone : List ℕ
 run_alone =

@@ -1,12 +1,12 @@
 -- The instructions that run so far ask for no class.
 use Rattle.std.proofs.Common.{◌≡◌, List, Some, refl}
 use Rattle.dj_names.specs.declared.run.Value.{Value}
-use Rattle.dj_straight.specs.Program.{Program}
-use Rattle.dj_straight.specs.Instructions.{Instruction, Nop, Push, Load, Store, LoadElement, StoreElement, Move, Compute, Return, ArrayLength, NewArray, Other}
-use Rattle.dj_straight.specs.Effects.{Terms, Part, effect}
-use Rattle.dj_straight.specs.Charges.{own_amounts}
+use Rattle.dj_straight.specs.trusted.Program.{Program}
+use Rattle.dj_straight.specs.trusted.Instructions.{Instruction, Nop, Push, Load, Store, LoadElement, StoreElement, Move, Compute, Return, ArrayLength, NewArray, Other}
+use Rattle.dj_straight.specs.trusted.Effects.{Terms, StraightPart, effect}
+use Rattle.dj_straight.specs.trusted.Charges.{own_amounts}
 
-pub same_effect : (a b : Program) (m n : Terms) (i : Instruction) (p : Part) → m.limit ≡ n.limit → effect a m i p ≡ effect b n i p
+pub same_effect : (a b : Program) (m n : Terms) (i : Instruction) (p : StraightPart) → m.limit ≡ n.limit → effect a m i p ≡ effect b n i p
 unfolding effect
 same_effect a b m n Nop p e = refl
 same_effect a b m n (Push v) p e = refl

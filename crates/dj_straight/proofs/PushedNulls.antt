@@ -4,7 +4,7 @@ use Rattle.std.specs.Prelude.{◌-◌, ◌&&◌, ◌==◌, nat_le, if◌then◌e
 use Rattle.std.specs.List.{AllByRecursion}
 use Rattle.dj_ops.specs.declared.instruction.Instr.{Instr}
 use Rattle.dj_ops.specs.declared.instruction.Instr.TheVariants as instrs
-use Rattle.dj_straight.specs.Instructions.{Instruction, Row, rows, row_does, simple, local_rows, local_does, NewArray, Other, byte_array_class, instruction_of}
+use Rattle.dj_straight.specs.trusted.Instructions.{Instruction, Row, rows, row_does, simple, local_rows, local_does, NewArray, Other, byte_array_class, instruction_of}
 use Rattle.dj_names.specs.declared.run.Element.TheVariants as elements
 use Rattle.dj_straight.specs.Running.{PushesNull}
 

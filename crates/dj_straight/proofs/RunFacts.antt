@@ -11,18 +11,18 @@ use Rattle.dj_names.specs.declared.run.Charge.TheVariants as charges
 use Rattle.dj_names.specs.declared.run.Message.TheVariants as messages
 use Rattle.dj_names.specs.declared.run.Costs.{Costs}
 use Rattle.dj_names.specs.declared.run.Outcome.TheVariants as outcomes
-use Rattle.dj_straight.specs.Objects.{Object, Instance, Array, Text}
-use Rattle.dj_straight.specs.Instructions.{Instruction, Nop, NewArray, LoadElement, StoreElement, Bytes, Chars, Shorts, Ints, Longs}
-use Rattle.dj_straight.specs.Program.{Name, Program, Text as TextConstant}
-use Rattle.dj_straight.specs.State.{Frame, State}
-use Rattle.dj_straight.specs.Effects.{Part, Flow, Next, To, Back, Broken, Effect, effect, array_at, Null, NoArray, IsArray, value_number}
-use Rattle.dj_straight.specs.Initialisation.{Initialised, Ready, Waits, Fails, initialise, initialiser_frames, constants_of, with_constants}
-use Rattle.dj_straight.specs.Step.{Went, Ended, settle, returned, done, raise, class_in, unwound}
-use Rattle.dj_straight.specs.Charges.{own_amounts}
-use Rattle.dj_straight.specs.Metered.{Ends, turns_from, with_paid}
-use Rattle.dj_straight.specs.FrameKinds.{Of, NoEntry, made_if}
-use Rattle.dj_straight.specs.Rows.{class_with, limited_to, field_with, text_desc, initialiser_with, bytes_at_most}
-use Rattle.dj_straight.specs.Program.{code_of, chain_of, has_initialiser}
+use Rattle.dj_straight.specs.trusted.Objects.{Object, Instance, Array, Text}
+use Rattle.dj_straight.specs.trusted.Instructions.{Instruction, Nop, NewArray, LoadElement, StoreElement, Bytes, Chars, Shorts, Ints, Longs}
+use Rattle.dj_straight.specs.trusted.Program.{Name, Program, Text as TextConstant}
+use Rattle.dj_straight.specs.trusted.State.{Frame, State}
+use Rattle.dj_straight.specs.trusted.Effects.{StraightPart, Flow, Next, To, Back, Broken, Effect, effect, array_at, Null, NoArray, IsArray, value_number}
+use Rattle.dj_straight.specs.trusted.Initialisation.{Initialised, Ready, Waits, Fails, initialise, initialiser_frames, constants_of, with_constants}
+use Rattle.dj_straight.specs.trusted.Step.{Went, Ended, settle, returned, done, raise, class_in, unwound}
+use Rattle.dj_straight.specs.trusted.Charges.{own_amounts}
+use Rattle.dj_straight.specs.trusted.Metered.{Ends, turns_from, with_paid}
+use Rattle.dj_straight.specs.trusted.FrameKinds.{Of, NoEntry, made_if}
+use Rattle.dj_straight.specs.SmallRuns.{class_with, limited_to, field_with, text_desc, initialiser_with, bytes_at_most}
+use Rattle.dj_straight.specs.trusted.Program.{code_of, chain_of, has_initialiser}
 
 abbrev some_costs : Costs
 some_costs = record { alloc = 4; invoke = 3; jump = 2; throw = 1 }
@@ -55,7 +55,7 @@ abbrev below : List Frame
 below = frame_of (codes "g") ∷ frame_of (codes "h") ∷ []
 
 -- the frame's part of that state
-abbrev its_part : Part
+abbrev its_part : StraightPart
 its_part = record { locals = f.locals; operands = f.operands; heap = some_state.heap; statics = some_state.statics; literals = some_state.literals }
 
 -- ---- frames below
@@ -125,7 +125,7 @@ numbers = refl
 -- ---- arrays of every element
 
 -- an array of two elements is object 1; a store of 98432, which is 65536 and 32768 and 128
-abbrev before : Name → Element → Value → Part
+abbrev before : Name → Element → Value → StraightPart
 before class element v = record {
   locals = [];
   operands = v ∷ values.Int (pos 1) ∷ values.Ref 1 ∷ [];
@@ -164,7 +164,7 @@ unfolding effect int_wrap
 stores_boolean = refl
 
 -- a reference to an array of another element, or to no array, is of a class that its use doesn't allow, whatever the index
-abbrev other_arrays : List Part
+abbrev other_arrays : List StraightPart
 other_arrays =
     before (codes "[C") elements.Char (values.Int (pos 7))
     ∷ record (before (codes "[C") elements.Char (values.Int (pos 7))) { heap = record { objects = Text [] ∷ []; used = 16 } }
@@ -184,7 +184,7 @@ loads_long : seen (effect [] (limited_to 64) (LoadElement Longs) (record (before
 unfolding effect
 loads_long = refl
 
-abbrev length_three : Part
+abbrev length_three : StraightPart
 length_three = record { locals = []; operands = values.Int (pos 3) ∷ values.Ref 0 ∷ []; heap = record { objects = []; used = 0 }; statics = []; literals = [] }
 
 abbrev each_new : List Instruction

@@ -4,16 +4,17 @@ use Rattle.dj_names.specs.declared.run.Value.TheVariants as values
 use Rattle.dj_names.specs.declared.run.Costs.{Costs}
 use Rattle.dj_names.specs.declared.run.Thresholds.{Thresholds}
 use Rattle.dj_names.specs.declared.run.Outcome.{Outcome}
-use Rattle.dj_straight.specs.Program.{Program, MethodName, Code, code_of, is_initialiser}
-use Rattle.dj_straight.specs.State.{Frame, State}
-use Rattle.dj_straight.specs.Instructions.{Instruction, ends}
-use Rattle.dj_straight.specs.Effects.{Part, Flow, Next, To, Raise, Throw, Back, Broken, Full, effect}
-use Rattle.dj_straight.specs.Step.{part_of, at_number}
-use Rattle.dj_straight.specs.Charges.{own_amounts, paid, Payment, Paid, Exceeds}
-use Rattle.dj_straight.specs.Metered.{Ends, turns, run, metered_terms}
-use Rattle.dj_straight.specs.Initialisation.{new_frame}
-use Rattle.dj_straight.specs.FrameKinds.{Signature, Kinds, Read}
-use Rattle.dj_straight.specs.Shape.{StateBefore, Holds, AllHold, first_kinds}
+use Rattle.dj_straight.specs.trusted.Program.{Program, MethodName, Code, code_of, is_initialiser}
+use Rattle.dj_straight.specs.trusted.State.{Frame, State}
+use Rattle.dj_straight.specs.trusted.Instructions.{Instruction, ends}
+use Rattle.dj_straight.specs.trusted.Effects.{StraightPart, Flow, Next, To, Raise, Throw, Back, Broken, Full, effect}
+use Rattle.dj_straight.specs.trusted.Step.{part_of, at_number}
+use Rattle.dj_straight.specs.trusted.Charges.{own_amounts, paid, Payment, Paid, Exceeds}
+use Rattle.dj_straight.specs.trusted.Metered.{Ends, turns, run, metered_terms}
+use Rattle.dj_straight.specs.trusted.Initialisation.{new_frame}
+use Rattle.dj_straight.specs.trusted.FrameKinds.{Signature, Kinds, Read}
+use Rattle.dj_straight.specs.trusted.Shape.{StateBefore, Holds, first_kinds}
+use Rattle.dj_straight.specs.Shape.{AllHold}
 use Rattle.dj_straight.specs.Sound.{HasKinds, HasSoundEffect, IsSoundFlow}
 use Rattle.dj_straight.specs.Laws.{IsStraightEntry}
 use Rattle.dj_straight.proofs.Turns.{Stands, turns_more, turns_ended, turns_next, turns_raise, turns_back, turns_broken, turns_full, turns_stopped, first_state, begins_plainly}
@@ -35,7 +36,7 @@ no_target k below = absurd (omega arith)
 
 module _ (program : Program) (most : Thresholds) (signature : Signature) (code : Code)
     (no_handlers : code.ranges ≡ []) (each : AllHold signature code (Read [])) where
-  -- the run ends within so many turns
+  -- the run ends within this many turns
   abbrev EndsFrom : ℕ → State → Type 0
   EndsFrom n s = (outcome : Outcome) × (costs : Costs) × (turns program most n s ≡ Ends outcome costs)
 
@@ -60,7 +61,7 @@ module _ (program : Program) (most : Thresholds) (signature : Signature) (code :
       → ((t : State) (g : Frame) → IsAt t g → f.number + 1 ≡ g.number → IsFalse (ends i) → EndsFrom n t)
       → (IsFalse (ends i) → StateBefore signature code [] (suc f.number) left)
       → paid most s.costs (own_amounts program (Some i) f.operands) ≡ Paid costs
-      → (p : Part) (flow : Flow) → effect program (metered_terms most) i (part_of f s) ≡ Some (record { part = p; flow = flow })
+      → (p : StraightPart) (flow : Flow) → effect program (metered_terms most) i (part_of f s) ≡ Some (record { part = p; flow = flow })
       → IsSoundFlow signature code i left p flow
       → EndsFrom (2 + n) s
   done n s f i left costs at stands rest state payment p Next e sound =
@@ -99,7 +100,7 @@ module _ (program : Program) (most : Thresholds) (signature : Signature) (code :
   paying n s f i left at stands rest state sound (Exceeds charge costs) payment =
       later 1 (2 + n) s (omega arith) (_, _, turns_stopped program most s f code i stands charge costs payment)
 
-  -- so many instructions are left
+  -- this many instructions are left
   ends_from : (count : ℕ) (s : State) (f : Frame) → IsAt s f → f.number + count ≡ length code.instructions → 0 < count
       → EndsFrom (2 * count) s
   ends_from zero s f at total some = absurd (omega arith)

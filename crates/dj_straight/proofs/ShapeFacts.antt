@@ -3,11 +3,12 @@ use Rattle.std.proofs.Common.{◌≡◌, ℕ, zero, suc, ◌<◌, ◌≤◌, tru
 use Rattle.dj_names.specs.declared.descriptor.Kind.{Kind}
 use Rattle.dj_names.specs.declared.descriptor.Kind.TheVariants as kinds
 use Rattle.dj_names.specs.declared.run.Value.TheVariants as values
-use Rattle.dj_straight.specs.Program.{Code, Range}
-use Rattle.dj_straight.specs.Instructions.{Instruction, Nop, Push, Load, Store, Move, Return, Pop, ends}
-use Rattle.dj_straight.specs.StackMaps.{Integer, Long, Null, FrameForm, Same, Stack1, Chop, Append, Full}
-use Rattle.dj_straight.specs.FrameKinds.{Signature, Kinds, Placed, Frames, Read, Faulty, frames_after, frames_of, placed_at}
-use Rattle.dj_straight.specs.Shape.{ParametersFit, first_kinds, after, LocalsFlow, FlowsTo, StateBefore, IsHandlerFrame, LocalsFlowTo, Holds, AllHold, HasShape, IsFrameOrFault, IsNumberedFault, IsShapeFault}
+use Rattle.dj_straight.specs.trusted.Program.{Code, Range}
+use Rattle.dj_straight.specs.trusted.Instructions.{Instruction, Nop, Push, Load, Store, Move, Return, Pop, ends}
+use Rattle.dj_straight.specs.trusted.StackMaps.{Integer, Long, Null, FrameForm, Same, Stack1, Chop, Append, Full}
+use Rattle.dj_straight.specs.trusted.FrameKinds.{Signature, Kinds, Placed, Frames, Read, Faulty, frames_after, frames_of, placed_at}
+use Rattle.dj_straight.specs.trusted.Shape.{ParametersFit, first_kinds, after, LocalsFlow, FlowsTo, StateBefore, IsHandlerFrame, LocalsFlowTo, Holds, IsFrameOrFault, IsNumberedFault, IsShapeFault}
+use Rattle.dj_straight.specs.Shape.{AllHold, HasShape}
 use Rattle.dj_straight.proofs.Shapes.{one_state, one_number, no_fault_with_shape}
 use Rattle.dj_straight.proofs.FrameFacts.{code_with, any_object, kinds_of, at, placed, reference_in}
 
@@ -167,7 +168,7 @@ faulty_frame signature code number fit read = inr (fit, subst (λ (frames : Fram
 no_fault_but : (signature : Signature) (code : Code) (a b : ℕ) → IsNumberedFault signature code a → (a ≡ b → ⊥) → IsNumberedFault signature code b → ⊥
 no_fault_but signature code a b fault other h = other (one_number signature code a b fault h)
 
--- ---- the first so many
+-- ---- the first n
 
 one_more : (P : ℕ → Type 0) (n : ℕ) → ((number : ℕ) → number < n → P number) → P n → (number : ℕ) → number < suc n → P number
 one_more P n before at number below = elim (le_or number n below) [
@@ -217,7 +218,7 @@ module _ (code : Code) (p : List Placed) where
       → FlowsTo (first_kinds reference_in code) (placed_at p 0) → At number
   end number k left t none first = ended_with reference_in code p number k (Return None) left t (no_ranges code p number k none) first refl
 
-  -- the first so many
+  -- the first n
   none_yet : (number : ℕ) → number < 0 → At number
   none_yet number below = absurd (omega arith)
 
@@ -239,7 +240,7 @@ module _ (code : Code) (p : List Placed) where
   first_7 : At 0 → At 1 → At 2 → At 3 → At 4 → At 5 → At 6 → (number : ℕ) → number < 7 → At number
   first_7 h0 h1 h2 h3 h4 h5 h6 = one_more At 6 (one_more At 5 (first_5 h0 h1 h2 h3 h4) h5) h6
 
--- a frame that agrees: an int is stored, and the frame tells it
+-- a frame that agrees: an int is stored, and the frame declares it
 
 abbrev agrees : Code
 agrees = code_with (push_int ∷ Store kinds.Int 1 ∷ Nop ∷ Load kinds.Int 1 ∷ Return None ∷ []) [] (at 2 (Append (Integer ∷ [])) ∷ [])
@@ -326,7 +327,7 @@ operand_other_fault =
     fault_at reference_in operand_other p 1 (omega arith) refl (omega arith) (first_1 operand_other p (next operand_other p 0 _ _ _ t0 refl tt (omega arith) tt))
     (refused reference_in operand_other p 1 _ _ _ t1 refl (λ h. let e : kinds.Int ∷ [] ≡ kinds.Ref ∷ [] = h.1 in absurd cc))
 
--- two operands, of which the frame tells the bottom first
+-- two operands, of which the frame declares the bottom first
 abbrev operands_turned : Code
 operands_turned = code_with (push_int ∷ push_null ∷ Return None ∷ []) [] (at 2 (Full (Null ∷ []) (Integer ∷ Null ∷ [])) ∷ [])
 
@@ -342,7 +343,7 @@ operands_turned_shape =
     (next operands_turned p 1 _ _ _ t1 refl tt (omega arith) ((refl, tt), refl))
     (end operands_turned p 2 _ _ t2 refl tt))
 
--- the frame tells a local variable that has no value
+-- the frame declares a local variable that has no value
 abbrev local_lacks : Code
 local_lacks = code_with (push_int ∷ Move Pop ∷ Return None ∷ []) [] (at 2 (Append (Integer ∷ [])) ∷ [])
 
@@ -368,7 +369,7 @@ local_other_fault =
     fault_at reference_in local_other p 1 (omega arith) refl (omega arith) (first_1 local_other p (next local_other p 0 _ _ _ t0 refl tt (omega arith) tt))
     (refused reference_in local_other p 1 _ _ _ t1 refl (λ h. let e : Some kinds.Ref ≡ Some kinds.Int = h.0.1.0 in absurd cc))
 
--- the frame tells less
+-- the frame declares less
 abbrev forgets : Code
 forgets = code_with (push_int ∷ Store kinds.Int 1 ∷ Nop ∷ Return None ∷ []) [] (at 2 Same ∷ [])
 
@@ -386,7 +387,7 @@ forgets_shape =
     (next forgets p 2 _ _ _ t2 refl tt (omega arith) tt)
     (end forgets p 3 _ _ t3 refl tt))
 
--- what it doesn't tell isn't found after it
+-- what it doesn't declare isn't found after it
 abbrev forgotten : Code
 forgotten = code_with (push_int ∷ Store kinds.Int 1 ∷ Nop ∷ Load kinds.Int 1 ∷ Return None ∷ []) [] (at 2 Same ∷ [])
 
@@ -455,7 +456,7 @@ begins_forgets_fault =
     fault_at reference_in begins_forgets p 0 (omega arith) refl (omega arith) (none_yet begins_forgets p)
     (stuck reference_in begins_forgets p 0 (kinds_of (None ∷ None ∷ None ∷ []) []) (Load kinds.Ref 0) refl refl refl)
 
--- they don't: it tells another local variable
+-- they don't: it declares another local variable
 abbrev begins_more : Code
 begins_more = code_with (Return None ∷ []) [] (at 0 (Append (Integer ∷ [])) ∷ [])
 
@@ -511,7 +512,7 @@ not_shaped h = no_fault_with_shape reference_in two_stuck (Some 1) h (refl, two_
 
 -- ---- frames and parameters come first
 
--- the frame at the fourth tells nothing, and the second instruction doesn't find what it takes
+-- the frame at the fourth has no kinds, and the second instruction doesn't find what it takes
 abbrev faulty : Code
 faulty = code_with (Nop ∷ Load kinds.Int 1 ∷ Nop ∷ Return None ∷ []) [] (at 3 (Chop 2) ∷ [])
 
@@ -647,7 +648,7 @@ caught_two = caught_with (Full (Null ∷ []) (Null ∷ Null ∷ [])) (kinds.Ref 
 abbrev catch_all : ℕ → ℕ → ℕ → Range
 catch_all start end handler = record { start = start; end = end; handler = handler; catches = None }
 
--- the handler's frame tells an int, which stands there from the third instruction to the fifth
+-- the handler's frame declares an int, which stands there from the third instruction to the fifth
 abbrev guarded : ℕ → ℕ → Code
 guarded start end = code_with (push_int ∷ Store kinds.Int 1 ∷ Nop ∷ push_null ∷ Store kinds.Ref 1 ∷ Return None ∷ Return None ∷ [])
     (catch_all start end 6 ∷ []) (at 6 (Full (any_object ∷ Integer ∷ []) (Null ∷ [])) ∷ [])

@@ -2,12 +2,13 @@
 use Rattle.std.proofs.Common.{◌≡◌, ◌⊎◌, ℕ, zero, suc, ◌<◌, length, IsSome, IsNone, List, [], ◌∷◌, Option, Some, None, refl, sym, ap, subst, ◌∙◌, inl, inr, arith}
 use Rattle.std.proofs.lemmas.Bool.{cases_lt}
 use Rattle.dj_names.specs.declared.descriptor.Kind.{Kind}
-use Rattle.dj_straight.specs.Program.{Code}
-use Rattle.dj_straight.specs.StackMaps.{StackMapFrame}
-use Rattle.dj_straight.specs.FrameKinds.{Signature, Kinds, kind_slots, Entries, stack_of, form_entries, fitting, Placed, Frames, Read, Faulty, NoMap, with_fitting, with_frame, parameter_entries, frames_after, frames_in, frames_of, placed_at}
-use Rattle.dj_straight.specs.Shape.{ParametersFit, after, TellsOr, StateBefore, Holds, HasShape, AllHold, IsFirstFault, IsFrameOrFault, IsNumberedFault, IsShapeFault}
+use Rattle.dj_straight.specs.trusted.Program.{Code}
+use Rattle.dj_straight.specs.trusted.StackMaps.{StackMapFrame}
+use Rattle.dj_straight.specs.trusted.FrameKinds.{Signature, Kinds, kind_slots, Entries, stack_of, form_entries, fitting, Placed, Frames, Read, Faulty, NoMap, with_fitting, with_frame, parameter_entries, frames_after, frames_in, frames_of, placed_at}
+use Rattle.dj_straight.specs.trusted.Shape.{ParametersFit, after, TellsOr, StateBefore, Holds, IsFirstFault, IsFrameOrFault, IsNumberedFault, IsShapeFault}
+use Rattle.dj_straight.specs.Shape.{HasShape, AllHold}
 
--- an empty stack map tells no kinds
+-- an empty stack map has no kinds
 pub no_frames : (signature : Signature) (code : Code) → code.frames ≡ Some [] → frames_of signature code ≡ Read []
 unfolding frames_after
 no_frames signature code e = ap (frames_in code (parameter_entries signature.parameters)) e
@@ -114,7 +115,7 @@ has_map code before [] e = absurd cc
 has_map code before (f ∷ rest) e =
     frame_map code f.at (form_entries code before f.form) (λ locals. frames_after code locals rest) (λ locals. has_map code locals rest) e
 
--- so many instructions hold, or one of them is the first that doesn't
+-- this many instructions hold, or one of them is the first that doesn't
 abbrev AllOrFirst : Signature → Code → List Placed → ℕ → Type 0
 AllOrFirst signature code placed count =
     ((number : ℕ) → number < count → Holds signature code placed number)

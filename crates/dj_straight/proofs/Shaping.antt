@@ -6,15 +6,16 @@ use Rattle.std.proofs.lemmas.Option.{get_or_from_slice_get, slice_get-map, slice
 use Rattle.std.specs.Option.{option_map}
 use Rattle.dj_names.specs.declared.descriptor.Kind.{Kind}
 use Rattle.dj_names.specs.declared.descriptor.Kind.TheVariants as kinds
-use Rattle.dj_straight.specs.Program.{Code, Range}
-use Rattle.dj_straight.specs.Instructions.{Instruction, ends, Nop, Push, Load, Store, LoadElement, StoreElement, Move, Compute, Return, ArrayLength, NewArray, Other}
-use Rattle.dj_straight.specs.Effects.{slots_of}
-use Rattle.dj_straight.specs.FrameKinds.{Kinds}
-use Rattle.dj_straight.specs.Shape.{taken, set_kind, without_long_before, after, StateBefore, Holds}
+use Rattle.dj_straight.specs.trusted.Program.{Code, Range}
+use Rattle.dj_straight.specs.trusted.Instructions.{Instruction, ends, Nop, Push, Load, Store, LoadElement, StoreElement, Move, Compute, Return, ArrayLength, NewArray, Other}
+use Rattle.dj_straight.specs.trusted.Effects.{slots_of}
+use Rattle.dj_straight.specs.trusted.FrameKinds.{Kinds}
+use Rattle.dj_straight.specs.trusted.Shape.{taken, set_kind, without_long_before, after, StateBefore, Holds}
 use Rattle.dj_straight.proofs.Shapes.{one_state}
 use Rattle.dj_straight.specs.declared.program.Action.{Action}
 use Rattle.dj_straight.specs.declared.program.StraightMethod.{StraightMethod}
-use Rattle.dj_straight.specs.Methods.{straight_code, straight_signature, action_view, code_view}
+use Rattle.dj_straight.specs.trusted.Methods.{straight_signature}
+use Rattle.dj_straight.specs.Methods.{straight_code, action_view, code_view}
 use Rattle.dj_straight.specs.Shaping.{Standing, room, HasRoomOf, Answers, StandsBefore}
 
 -- ---- the top

@@ -1,4 +1,4 @@
--- Values keep the kinds that code's shape tells, whatever instruction is done.
+-- Values keep the kinds that shape says, whatever instruction is done.
 use Rattle.std.proofs.Common.{◌≡◌, ℕ, zero, suc, ◌+◌, ◌-◌, ◌≤◌, Bool, true, false, ℤ, pos, negsuc, List, [], ◌∷◌, length, map, set, replicate, Option, Some, None, nat_lt, refl, sym, ap, subst, ◌∙◌, if◌then◌else◌, ◌⊎◌, inl, inr, length-set, arith, IsFalse}
 use Rattle.std.proofs.lemmas.List.{length-replicate}
 use Rattle.dj_names.specs.declared.descriptor.Kind.{Kind}
@@ -7,16 +7,17 @@ use Rattle.dj_names.specs.declared.run.Value.{Value}
 use Rattle.dj_names.specs.declared.run.Value.TheVariants as values
 use Rattle.dj_names.specs.declared.run.Element.{Element}
 use Rattle.dj_names.specs.declared.run.Element.TheVariants as elements
-use Rattle.dj_names.specs.Values.{value_kind}
-use Rattle.dj_straight.specs.Objects.{Object, Array}
-use Rattle.dj_straight.specs.Program.{Name, Code, Program, MethodName, code_of}
-use Rattle.dj_straight.specs.State.{Heap, Static, Literal}
-use Rattle.dj_straight.specs.Instructions.{Instruction, Nop, Push, Load, Store, LoadElement, StoreElement, Move, Compute, Return, ArrayLength, NewArray, Other, StackOperation, Pop, Dup, IntOperation, Add, Subtract, Multiply, And, Or, Xor, Access, Bytes, Chars, Shorts, Ints, Longs, ends, asks_program}
-use Rattle.dj_straight.specs.Effects.{Terms, Part, Next, Effect, effect, same_kind, is_of_kind, local_at, is_long, without_long_before, stored, slots_of, access_kind, reaches, Found, Null, NoArray, IsArray, only, array_at, reached, element_value, passes_limit, array_size, new_contents, make, load_found, element_at, store_found, with_object, with_element, kept, value_number, pushes, goes, Back, next_number, with_new}
-use Rattle.dj_straight.specs.Shape as shape
-use Rattle.dj_straight.specs.FrameKinds.{Signature, Kinds}
-use Rattle.dj_straight.specs.Shape.{ParametersFit, first_kinds, is_kind, kind_at, set_kind, pushed, taken, takes, store_kind, after, same_result, result_list}
-use Rattle.dj_straight.specs.Initialisation.{new_frame}
+use Rattle.dj_names.specs.trusted.Values.{value_kind}
+use Rattle.dj_straight.specs.trusted.Objects.{Object, Array}
+use Rattle.dj_straight.specs.trusted.Program.{Name, Code, Program, MethodName, code_of}
+use Rattle.dj_straight.specs.trusted.State.{Heap, Static, Literal}
+use Rattle.dj_straight.specs.trusted.Instructions.{Instruction, Nop, Push, Load, Store, LoadElement, StoreElement, Move, Compute, Return, ArrayLength, NewArray, Other, StackOperation, Pop, Dup, IntOperation, Add, Subtract, Multiply, And, Or, Xor, Access, Bytes, Chars, Shorts, Ints, Longs, ends}
+use Rattle.dj_straight.specs.Instructions.{asks_program}
+use Rattle.dj_straight.specs.trusted.Effects.{Terms, StraightPart, Next, Effect, effect, same_kind, is_of_kind, local_at, is_long, without_long_before, stored, slots_of, access_kind, reaches, Found, Null, NoArray, IsArray, only, array_at, reached, element_value, passes_limit, array_size, new_contents, make, load_found, element_at, store_found, with_object, with_element, kept, value_number, pushes, goes, Back, next_number, with_new}
+use Rattle.dj_straight.specs.trusted.Shape as shape
+use Rattle.dj_straight.specs.trusted.FrameKinds.{Signature, Kinds}
+use Rattle.dj_straight.specs.trusted.Shape.{ParametersFit, first_kinds, is_kind, kind_at, set_kind, pushed, taken, takes, store_kind, after, same_result, result_list}
+use Rattle.dj_straight.specs.trusted.Initialisation.{new_frame}
 use Rattle.dj_straight.specs.Sound.{LocalsHave, HasKinds, IsSoundFlow, HasSoundEffect}
 
 -- ---- tests
@@ -224,7 +225,7 @@ module _ (program : Program) (terms : Terms) (signature : Signature) (code : Cod
   abbrev at_kinds : List Value → Kinds
   at_kinds operands = record { locals = ks; stack = map value_kind operands }
 
-  abbrev part : List Value → Part
+  abbrev part : List Value → StraightPart
   part operands = record { locals = locals; operands = operands; heap = heap; statics = statics; literals = literals }
 
   abbrev Sound : Instruction → Effect → Type 0
@@ -276,7 +277,7 @@ module _ (program : Program) (terms : Terms) (signature : Signature) (code : Cod
       rw is (stored_has locals ks slot v has) in
       let length_is : length (stored locals slot v) ≡ code.max_locals = stored_length locals slot v ∙ long in
       let there : HasKinds (stored locals slot v) rest left = rw (← s.left_is) (record { locals = kept; operands = r.1 }) in
-      let p : Part = record (part rest) { locals = stored locals slot v } in
+      let p : StraightPart = record (part rest) { locals = stored locals slot v } in
       (record { part = p; flow = Next }, rw (r.0, long, s.fits) refl, ((there, length_is), refl))
 
   load_found_sound : (access : Access) (operands rest : List Value) (element : Element) (found : Option ℤ) → reaches access element ≡ true
@@ -311,7 +312,7 @@ module _ (program : Program) (terms : Terms) (signature : Signature) (code : Cod
   unfolding effect
   element_stored access v (values.Int index ∷ (values.Ref r ∷ rest)) is t e =
       let operands : List Value = v ∷ (values.Int index ∷ (values.Ref r ∷ rest)) in
-      let p : Part = part operands in
+      let p : StraightPart = part operands in
       let same : map value_kind rest ≡ left.stack = cc in
       let kinds_are : at_kinds rest ≡ left = ap (λ stack. record { locals = ks; stack = stack }) same ∙ e in
       let store : Name → Element → List ℤ → Effect = λ class element contents.
@@ -372,7 +373,7 @@ module _ (program : Program) (terms : Terms) (signature : Signature) (code : Cod
   length_good : (operands : List Value) → Good ArrayLength operands
   unfolding after effect
   length_good (values.Ref r ∷ rest) a =
-      let p : Part = part (values.Ref r ∷ rest) in
+      let p : StraightPart = part (values.Ref r ∷ rest) in
       let count : Name → Element → List ℤ → Effect = λ class element contents. pushes p rest (values.Int (pos (length contents))) in (
         reached p (array_at heap.objects r) count,
         refl,
@@ -415,7 +416,7 @@ module _ (program : Program) (terms : Terms) (signature : Signature) (code : Cod
   good (NewArray class element) operands = new_array_good class element operands
   good (Other op) operands = other_good op operands
 
-pub sound_effect : (program : Program) (terms : Terms) (signature : Signature) (code : Code) (i : Instruction) (k left : Kinds) (p : Part)
+pub sound_effect : (program : Program) (terms : Terms) (signature : Signature) (code : Code) (i : Instruction) (k left : Kinds) (p : StraightPart)
     → IsFalse (asks_program i) → HasKinds p.locals p.operands k → length p.locals ≡ code.max_locals → after signature code i k ≡ Some left
     → HasSoundEffect program terms signature code i left p
 sound_effect program terms signature code i k left p asks has long a =

@@ -4,14 +4,14 @@ use Rattle.std.specs.List.{flat_map, AllByRecursion}
 use Rattle.std.proofs.lemmas.List.{take_more, map_push}
 use Rattle.std.proofs.lemmas.Grind.{flat_map-append}
 use Rattle.dj_class.specs.declared.class.Attribute.{Attribute}
-use Rattle.dj_pool.specs.Pool.{Constant}
-use Rattle.dj_class.specs.ClassFile.{AttributeInfo, IsAttribute}
+use Rattle.dj_pool.specs.trusted.Pool.{Constant}
+use Rattle.dj_class.specs.trusted.ClassFile.{AttributeInfo, IsAttribute}
 use Rattle.dj_class.specs.Parts.{attribute_of}
-use Rattle.dj_class.specs.Code.{CodeInfo, IsCode}
+use Rattle.dj_class.specs.trusted.Code.{CodeInfo, IsCode}
 use Rattle.dj_class.proofs.CodeLaws.{one_code}
-use Rattle.dj_straight.specs.Program.{Code}
+use Rattle.dj_straight.specs.trusted.Program.{Code}
 use Rattle.dj_straight.specs.Finds.{Finds, now_of}
-use Rattle.dj_straight.specs.Straight.{is_named, bodies_of, IsStraightCode, IsStraightBody, HasStraightCode}
+use Rattle.dj_straight.specs.trusted.Straight.{is_named, bodies_of, IsStraightCode, IsStraightBody, HasStraightCode}
 use Rattle.dj_edge.proofs.Lists.{ok_so}
 
 -- ---- what a search answers

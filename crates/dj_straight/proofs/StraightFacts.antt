@@ -1,7 +1,10 @@
--- The reserved packages in plain values.
+-- The reserved packages, these and no others, and names in them.
 use Rattle.std.specs.Prelude.{◌≡◌, true, false, [], ◌∷◌, map, codes}
 use Rattle.std.proofs.Common.{refl}
-use Rattle.dj_straight.specs.Straight.{is_reserved}
+use Rattle.dj_straight.specs.trusted.Straight.{is_reserved, reserved_packages}
+
+packages : reserved_packages ≡ codes "sandbox/" ∷ codes "java/" ∷ codes "javax/" ∷ []
+packages = refl
 
 reserved : map is_reserved (codes "sandbox/A" ∷ codes "java/A" ∷ codes "javax/A" ∷ []) ≡ true ∷ true ∷ true ∷ []
 reserved = refl

@@ -4,7 +4,7 @@ use Rattle.std.specs.Prelude.{MatchBool, nat_eq}
 use Rattle.std.proofs.lemmas.Bool.{eqb-true, eqb-false, true≢false}
 use Rattle.dj_ops.specs.declared.instruction.Instr.{Instr}
 use Rattle.dj_ops.specs.declared.instruction.Instr.TheVariants as instrs
-use Rattle.dj_straight.specs.StraightInstrs.{is_straight_op, IsStraight}
+use Rattle.dj_straight.specs.trusted.StraightInstrs.{is_straight_op, IsStraight}
 
 array_op : is_straight_op 188 ≡ false
 unfolding is_straight_op

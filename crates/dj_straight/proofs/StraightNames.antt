@@ -8,7 +8,7 @@ use Rattle.std.proofs.lemmas.Cmp.{nat_list_cmp_total, tied_itself}
 use Rattle.std.proofs.lemmas.Bool.{true≢false}
 use Rattle.std.proofs.lemmas.List.Quantifiers.{all_pairs_push}
 use Rattle.std.proofs.lemmas.List.Elements.{Contains-append_left, Contains-append_right, Contains-push_cases, Contains-get_or}
-use Rattle.dj_edge.specs.Counts.{AllDiffer}
+use Rattle.dj_edge.specs.trusted.Counts.{AllDiffer}
 use Rattle.dj_edge.proofs.Pairs.{AllPairs-nil, AllPairs-map, AllPairs-unmap}
 use Rattle.dj_report.proofs.Sorted.{contains_none}
 use Rattle.std.specs.Cmp.Lexicographic.{slice_cmp}
@@ -18,10 +18,11 @@ use Rattle.std.specs.Prelude.{Vec}
 use Rattle.std.specs.Global.{Global}
 use Rattle.std.proofs.lemmas.List.{length-map, take_more, get_or-map}
 use Rattle.dj_straight.specs.Finds.{Finds, now_of, names_view}
-use Rattle.dj_pool.specs.Pool.{Constant, text_at}
-use Rattle.dj_class.specs.ClassFile.{MemberInfo}
-use Rattle.dj_straight.specs.Program.{Method}
-use Rattle.dj_straight.specs.Straight.{IsPlainMethod, ArePlainNames, AreStraightMethods, AreDistinctMethods}
+use Rattle.dj_pool.specs.trusted.Pool.{Constant, text_at}
+use Rattle.dj_class.specs.trusted.ClassFile.{MemberInfo}
+use Rattle.dj_straight.specs.trusted.Program.{Method}
+use Rattle.dj_straight.specs.trusted.Straight.{IsPlainMethod, AreStraightMethods, AreDistinctMethods}
+use Rattle.dj_straight.specs.Straight.{ArePlainNames}
 
 -- how the set's keys compare
 abbrev pub key_cmp : Bor (List ℕ) → Bor (List ℕ) → Ordering
@@ -152,7 +153,7 @@ pub none_found : (pool : List Constant) (ms : List MemberInfo) (found : Option (
 none_found pool ms None not none = none
 none_found pool ms (Some x) not is = absurd (not x refl)
 
--- one more name, under the function that tells it
+-- one more name, read by now_of
 pub names_more : (names : List (Bor (List ℕ))) (i : ℕ) (d : Bor (List ℕ)) → i < length names → take i (map now_of names) ++ now_of (get_or names i d) ∷ [] ≡ take (i + 1) (map now_of names)
 names_more names i d within =
     let inside : i < length (map now_of names) = omega (arith, length-map names now_of) in

@@ -10,39 +10,41 @@ use Rattle.dj_names.specs.declared.run.Costs.{Costs}
 use Rattle.dj_names.specs.declared.run.Thresholds.{Thresholds}
 use Rattle.dj_names.specs.declared.run.Outcome.{Outcome}
 use Rattle.dj_names.specs.declared.run.Element.TheVariants as elements
-use Rattle.dj_straight.specs.Program.{Program, MethodName, Code}
-use Rattle.dj_straight.specs.State.{Heap, Frame, State}
-use Rattle.dj_straight.specs.Instructions.{Instruction, ends}
-use Rattle.dj_straight.specs.Effects.{Part, Flow, Next, To, Raise, Throw, Back, Broken, Full, Effect, effect, goes, Found, Null, NoArray, IsArray, array_at}
-use Rattle.dj_straight.specs.Step.{result_outcome, bytes_in}
-use Rattle.dj_straight.specs.Charges as model
-use Rattle.dj_straight.specs.Charges.{paid, own_amounts, no_costs}
-use Rattle.dj_straight.specs.Metered.{Run, Goes, Ends, turns, RunsTo, metered_terms, input_array, input_size}
-use Rattle.dj_straight.specs.FrameKinds.{Kinds, Read}
-use Rattle.dj_straight.specs.Shape.{StateBefore, Holds, HasShape, AllHold, after, first_kinds}
+use Rattle.dj_straight.specs.trusted.Program.{Program, MethodName, Code}
+use Rattle.dj_straight.specs.trusted.State.{Heap, Frame, State}
+use Rattle.dj_straight.specs.trusted.Instructions.{Instruction, ends}
+use Rattle.dj_straight.specs.trusted.Effects.{StraightPart, Flow, Next, To, Raise, Throw, Back, Broken, Full, Effect, effect, goes, Found, Null, NoArray, IsArray, array_at}
+use Rattle.dj_straight.specs.trusted.Step.{result_outcome, bytes_in}
+use Rattle.dj_straight.specs.trusted.Charges as model
+use Rattle.dj_straight.specs.trusted.Charges.{paid, own_amounts, no_costs}
+use Rattle.dj_straight.specs.trusted.Metered.{Run, Goes, Ends, turns, RunsTo, metered_terms, input_array, input_size}
+use Rattle.dj_straight.specs.trusted.FrameKinds.{Kinds, Read}
+use Rattle.dj_straight.specs.trusted.Shape.{StateBefore, Holds, after, first_kinds}
+use Rattle.dj_straight.specs.Shape.{HasShape, AllHold}
 use Rattle.dj_straight.specs.Sound.{LocalsHave, HasKinds, HasSoundEffect, IsSoundFlow}
 use Rattle.dj_straight.proofs.Turns.{Stands, turns_more, turns_next, turns_raise, turns_back, turns_broken, turns_stopped, first_state, statics_none, begins_plainly}
 use Rattle.dj_straight.proofs.Sound.{sound_effect}
 use Rattle.dj_straight.proofs.Programs.{same_effect, same_amounts}
 use Rattle.dj_straight.proofs.Shapes.{one_state}
 use Rattle.dj_straight.specs.declared.machine.Ending.{Ending}
-use Rattle.dj_straight.specs.declared.machine.turns.Turns.TheVariants as ways
+use Rattle.dj_straight.specs.declared.machine.turns.Advance.TheVariants as ways
 use Rattle.dj_straight.specs.declared.program.Action.{Action}
-use Rattle.dj_straight.specs.Methods.{straight_signature, action_view}
+use Rattle.dj_straight.specs.trusted.Methods.{straight_signature}
+use Rattle.dj_straight.specs.Methods.{action_view}
 use Rattle.dj_straight.specs.Running.{IsPlainEntry, IsStraightEnd}
 use Rattle.dj_straight.specs.Machines.{straight_terms, straight_effect}
 use Rattle.dj_straight.specs.Turns.{straight_amounts, TurnsDo, FlowEnds}
 
-abbrev pub frame_at : MethodName → ℕ → Part → Frame
+abbrev pub frame_at : MethodName → ℕ → StraightPart → Frame
 frame_at entry number p = record { method = entry; number = number; locals = p.locals; operands = p.operands; paid = false }
 
 -- the state of the model where the machine stands at an instruction
-abbrev pub state_at : Program → MethodName → List ℕ → ℕ → Part → Costs → State
+abbrev pub state_at : Program → MethodName → List ℕ → ℕ → StraightPart → Costs → State
 state_at program entry input number p costs =
     record (first_state program entry input) { heap = p.heap; statics = p.statics; literals = p.literals; frames = frame_at entry number p ∷ []; costs = costs }
 
 -- the model's run stands where the machine does, with values of the kinds before the instruction
-pub record Reached (code : Code) (input : List ℕ) (most : Thresholds) (number : ℕ) (p : Part) (costs : Costs) : Type 0 where
+pub record Reached (code : Code) (input : List ℕ) (most : Thresholds) (number : ℕ) (p : StraightPart) (costs : Costs) : Type 0 where
   pub reaches : (program : Program) (entry : MethodName) → IsPlainEntry program entry code
       → turns program most (2 * number) (first_state program entry input) ≡ Goes (state_at program entry input number p costs)
   pub more : number < length code.instructions
@@ -58,7 +60,7 @@ none_have : (n : ℕ) → LocalsHave (replicate n None) (replicate n None)
 none_have zero = tt
 none_have (suc n) = none_have n
 
-abbrev pub first_part : ℕ → List ℕ → Part
+abbrev pub first_part : ℕ → List ℕ → StraightPart
 first_part max_locals input = record {
   locals = Some (values.Ref 1) ∷ replicate (max_locals - 1) None;
   operands = [];
@@ -72,7 +74,7 @@ first_is : (program : Program) (entry : MethodName) (code : Code) (input : List 
 first_is program entry code input plain =
     rw (statics_none program plain.no_fields, plain.code_is) refl
 
-pub reached_first : (code : Code) (input : List ℕ) (most : Thresholds) (p : Part) → HasShape straight_signature code → 0 < length code.instructions
+pub reached_first : (code : Code) (input : List ℕ) (most : Thresholds) (p : StraightPart) → HasShape straight_signature code → 0 < length code.instructions
     → p ≡ first_part code.max_locals input → Reached code input most 0 p no_costs
 unfolding turns
 reached_first code input most p shape some is =
@@ -89,7 +91,7 @@ reached_first code input most p shape some is =
 
 -- ---- an instruction
 
-module _ (code : Code) (input : List ℕ) (most : Thresholds) (number : ℕ) (i : Instruction) (p : Part) (costs : Costs)
+module _ (code : Code) (input : List ℕ) (most : Thresholds) (number : ℕ) (i : Instruction) (p : StraightPart) (costs : Costs)
     (no_handlers : code.ranges ≡ []) (each : AllHold straight_signature code (Read [])) (reached : Reached code input most number p costs)
     (at : slice_get code.instructions number ≡ Some i) where
   -- what is left of the kinds, and that the instruction has an effect
@@ -137,20 +139,20 @@ module _ (code : Code) (input : List ℕ) (most : Thresholds) (number : ℕ) (i 
     no_initialiser = plain.no_initialiser;
   }
 
-  -- so many turns later
+  -- this many turns later
   later : (program : Program) (entry : MethodName) → IsPlainEntry program entry code → (n : ℕ) (r : Run)
       → turns program most n (state_at program entry input number p costs) ≡ r → turns program most (2 * number + n) (first_state program entry input) ≡ r
   later program entry plain n r e =
       turns_more program most (2 * number) n (first_state program entry input) (state_at program entry input number p costs) (reached.reaches program entry plain) ∙ e
 
   -- the flow is sound where it goes on
-  goes_on : (next : Part) → straight_effect i p ≡ Some (goes next Next) → IsSoundFlow straight_signature code i finds.left next Next
+  goes_on : (next : StraightPart) → straight_effect i p ≡ Some (goes next Next) → IsSoundFlow straight_signature code i finds.left next Next
   goes_on next e =
       let both : Some finds.sound.0 ≡ Some (goes next Next) = sym finds.sound.1 ∙ e in
       let same : finds.sound.0 ≡ goes next Next = cc in
       subst (λ (x : Effect). IsSoundFlow straight_signature code i finds.left x.part x.flow) same finds.sound.2
 
-  pub reached_next : (next : Part) (now : Costs) → TurnsDo most costs i p next (ways.Go now) → now.alloc ≤ most.alloc
+  pub reached_next : (next : StraightPart) (now : Costs) → TurnsDo most costs i p next (ways.Go now) → now.alloc ≤ most.alloc
       → Reached code input most (number + 1) next now
   reached_next next now (inr stopped) within = absurd stopped
   reached_next next now (inl done) within =
@@ -173,13 +175,13 @@ module _ (code : Code) (input : List ℕ) (most : Thresholds) (number : ℕ) (i 
         within = within;
       }
 
-  -- the run ends in this way, if it does after so many turns from here
+  -- the run ends in this way, if it does after this many turns from here
   ended : (program : Program) (entry : MethodName) → IsPlainEntry program entry code → (n : ℕ) (outcome : Outcome) (now : Costs)
       → turns program most n (state_at program entry input number p costs) ≡ Ends outcome now → RunsTo program entry input most outcome now
   ended program entry plain n outcome now e =
       (2 * number + n, rw (begins_plainly program entry input most plain.no_fields plain.none_above) (later program entry plain n (Ends outcome now) e))
 
-  done_end : (program : Program) (entry : MethodName) → IsPlainEntry program entry code → (q : Part) (flow : Flow) (outcome : Outcome) (now : Costs)
+  done_end : (program : Program) (entry : MethodName) → IsPlainEntry program entry code → (q : StraightPart) (flow : Flow) (outcome : Outcome) (now : Costs)
       → paid most costs (straight_amounts i p.operands) ≡ model.Paid now → straight_effect i p ≡ Some (goes q flow) → FlowEnds q.heap flow outcome
       → turns program most 2 (state_at program entry input number p costs) ≡ Ends outcome now
   done_end program entry plain q Next outcome now payment e end = absurd end
@@ -196,7 +198,7 @@ module _ (code : Code) (input : List ℕ) (most : Thresholds) (number : ℕ) (i 
       turns_broken program most (state_at program entry input number p costs) (frame_at entry number p) code i (stands program entry plain) now (its_payment program _ payment) q (its_effect program _ e)
       ∙ ap (λ (o : Outcome). Ends o now) (sym end)
 
-  pub runs_to : (next : Part) (e : Ending) → TurnsDo most costs i p next (ways.End e)
+  pub runs_to : (next : StraightPart) (e : Ending) → TurnsDo most costs i p next (ways.End e)
       → (program : Program) (entry : MethodName) → IsPlainEntry program entry code → RunsTo program entry input most e.outcome e.costs
   runs_to next e (inl done) program entry plain =
       let payment : paid most costs (straight_amounts i p.operands) ≡ model.Paid e.costs = done.1 ∙ ap model.Paid (sym done.2.0) in
@@ -239,6 +241,6 @@ straight_flow heap (Raise raised) outcome end = rw end tt
 straight_flow heap (Back result) outcome end = rw end (straight_result heap result)
 straight_flow heap Broken outcome end = rw end tt
 
-pub straight_end : (most : Thresholds) (costs : Costs) (i : Instruction) (p next : Part) (e : Ending) → TurnsDo most costs i p next (ways.End e) → IsStraightEnd e.outcome
+pub straight_end : (most : Thresholds) (costs : Costs) (i : Instruction) (p next : StraightPart) (e : Ending) → TurnsDo most costs i p next (ways.End e) → IsStraightEnd e.outcome
 straight_end most costs i p next e (inl done) = straight_flow done.2.1.heap done.2.2 e.outcome done.2.4
 straight_end most costs i p next e (inr stopped) = rw stopped.1 tt

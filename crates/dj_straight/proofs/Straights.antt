@@ -3,25 +3,27 @@ use Rattle.std.proofs.Common.{◌≡◌, ℕ, zero, suc, ◌+◌, ◌<◌, ◌�
 use Rattle.std.specs.List.{AllByRecursion}
 use Rattle.std.proofs.lemmas.List.{length-map}
 use Rattle.std.proofs.lemmas.List.Elements.{All-from_recursion}
-use Rattle.dj_edge.specs.Held.{File}
+use Rattle.dj_edge.specs.trusted.Held.{File}
 use Rattle.dj_ops.specs.declared.instruction.Instr.{Instr}
-use Rattle.dj_straight.specs.Cuts.{AreInstructions}
+use Rattle.dj_straight.specs.trusted.Cuts.{AreInstructions}
 use Rattle.dj_straight.proofs.Cuts.{one_cut_from}
-use Rattle.dj_pool.specs.Pool.{Constant, text_at}
-use Rattle.dj_class.specs.ClassFile.{AttributeInfo, MemberInfo, ClassFile, IsClassFile}
-use Rattle.dj_class.specs.Code.{CodeInfo}
+use Rattle.dj_pool.specs.trusted.Pool.{Constant, text_at}
+use Rattle.dj_class.specs.trusted.ClassFile.{AttributeInfo, MemberInfo, ClassFile, IsClassFile}
+use Rattle.dj_class.specs.trusted.Code.{CodeInfo}
 use Rattle.dj_class.proofs.CodeLaws.{one_code}
 use Rattle.dj_pool.proofs.Decides.{tests_decide}
 use Rattle.dj_class.proofs.ClassLaws.{one_class_file}
-use Rattle.dj_straight.specs.Instructions.{instruction_of}
-use Rattle.dj_straight.specs.Program.{Name, Program, HasNoFields, Class, Method, Code, Runs, same_name, method_in, runs_static, initialiser_name, class_has_initialiser, has_initialiser}
+use Rattle.dj_straight.specs.trusted.Instructions.{instruction_of}
+use Rattle.dj_straight.specs.trusted.Program.{Name, Program, Class, Method, Code, Runs, same_name, method_in, runs_static, initialiser_name, class_has_initialiser, has_initialiser}
+use Rattle.dj_straight.specs.Program.{HasNoFields}
 use Rattle.dj_straight.specs.declared.program.StraightMethod.{StraightMethod}
 use Rattle.dj_straight.specs.declared.program.StraightClass.{StraightClass}
-use Rattle.dj_straight.specs.Methods.{straight_descriptor, action_view, code_view, method_view, class_view, program_view, object_name}
-use Rattle.dj_straight.specs.Straight.{bodies_of, IsStraightCode, IsStraightBody, HasStraightCode, IsStraightMethod, AreStraightMethods, IsStraightClass, IsStraightFile, IsStraightSet}
+use Rattle.dj_straight.specs.trusted.Methods.{straight_descriptor, object_name}
+use Rattle.dj_straight.specs.Methods.{action_view, code_view, method_view, class_view, program_view}
+use Rattle.dj_straight.specs.trusted.Straight.{bodies_of, IsStraightCode, IsStraightBody, HasStraightCode, IsStraightMethod, AreStraightMethods, IsStraightClass, IsStraightFile, IsStraightSet}
 use Rattle.dj_rules.specs.Views.{path_file_view}
 use Rattle.dj_report.specs.declared.report.PathFile.{PathFile}
-use Rattle.dj_rules.specs.Violations.{this_name}
+use Rattle.dj_rules.specs.trusted.Violations.{this_name}
 use Rattle.dj_straight.specs.Running.{PushesNull, IsRunnable, AreRunnable}
 use Rattle.dj_straight.proofs.PushedNulls.{all_push_null}
 

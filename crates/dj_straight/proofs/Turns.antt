@@ -12,16 +12,17 @@ use Rattle.dj_names.specs.declared.run.Raised.{Raised}
 use Rattle.dj_names.specs.declared.run.Message.TheVariants as messages
 use Rattle.dj_names.specs.declared.run.Outcome.{Outcome}
 use Rattle.dj_names.specs.declared.run.Outcome.TheVariants as outcomes
-use Rattle.dj_names.specs.Values.{raised_class}
-use Rattle.dj_straight.specs.Objects.{Object}
-use Rattle.dj_straight.specs.Program.{Name, same_name, Program, HasNoFields, Class, MethodName, Code, class_at, fields_of, code_of, chain, has_initialiser, is_initialiser}
-use Rattle.dj_straight.specs.State.{Frame, State}
-use Rattle.dj_straight.specs.Instructions.{Instruction}
-use Rattle.dj_straight.specs.Effects.{Terms, Part, Next, Raise, Back, Broken, Full, Effect, effect, object_at}
-use Rattle.dj_straight.specs.Initialisation.{Ready, initialiser_frames, statics_of, with_constants, constants_of, without}
-use Rattle.dj_straight.specs.Step.{Answer, Went, Ended, IllFormed, step, unwound, raise, settled, result_outcome, at_number, part_of, new_exception}
-use Rattle.dj_straight.specs.Charges.{amounts, own_amounts, paid, Payment, Paid, Exceeds}
-use Rattle.dj_straight.specs.Metered.{Run, Goes, Ends, Stuck, turn, turns, then_turn, turns_from, run, RunsTo, begin, metered_terms, start_state, input_heap, payment_run, answer_run}
+use Rattle.dj_names.specs.trusted.Values.{raised_class}
+use Rattle.dj_straight.specs.trusted.Objects.{Object}
+use Rattle.dj_straight.specs.trusted.Program.{Name, same_name, Program, Class, MethodName, Code, class_at, fields_of, code_of, chain, has_initialiser, is_initialiser}
+use Rattle.dj_straight.specs.Program.{HasNoFields}
+use Rattle.dj_straight.specs.trusted.State.{Frame, State}
+use Rattle.dj_straight.specs.trusted.Instructions.{Instruction}
+use Rattle.dj_straight.specs.trusted.Effects.{Terms, StraightPart, Next, Raise, Back, Broken, Full, Effect, effect, object_at}
+use Rattle.dj_straight.specs.trusted.Initialisation.{Ready, initialiser_frames, statics_of, with_constants, constants_of, without}
+use Rattle.dj_straight.specs.trusted.Step.{Answer, Went, Ended, IllFormed, step, unwound, raise, settled, result_outcome, at_number, part_of, new_exception}
+use Rattle.dj_straight.specs.trusted.Charges.{amounts, own_amounts, paid, Payment, Paid, Exceeds}
+use Rattle.dj_straight.specs.trusted.Metered.{Run, Goes, Ends, Stuck, turn, turns, then_turn, turns_from, run, RunsTo, begin, metered_terms, start_state, input_heap, payment_run, answer_run}
 
 -- ---- more turns
 
@@ -143,14 +144,14 @@ two_turns program most s f code i stands costs payment e h =
 
 pub turns_next : (program : Program) (most : Thresholds) (s : State) (f : Frame) (code : Code) (i : Instruction) → Stands program s f code i
     → (costs : Costs) → paid most s.costs (own_amounts program (Some i) f.operands) ≡ Paid costs
-    → (p : Part) → effect program (metered_terms most) i (part_of f s) ≡ Some (record { part = p; flow = Next })
+    → (p : StraightPart) → effect program (metered_terms most) i (part_of f s) ≡ Some (record { part = p; flow = Next })
     → turns program most 2 s ≡ Goes (record s { heap = p.heap; statics = p.statics; literals = p.literals; frames = at_number f p (f.number + 1) ∷ []; costs = costs })
 turns_next program most s f code i stands costs payment p h =
     two_turns program most s f code i stands costs payment (record { part = p; flow = Next }) h
 
 pub turns_back : (program : Program) (most : Thresholds) (s : State) (f : Frame) (code : Code) (i : Instruction) → Stands program s f code i
     → (costs : Costs) → paid most s.costs (own_amounts program (Some i) f.operands) ≡ Paid costs
-    → (p : Part) (result : Option Value) → effect program (metered_terms most) i (part_of f s) ≡ Some (record { part = p; flow = Back result })
+    → (p : StraightPart) (result : Option Value) → effect program (metered_terms most) i (part_of f s) ≡ Some (record { part = p; flow = Back result })
     → turns program most 2 s ≡ Ends (result_outcome p.heap result) costs
 turns_back program most s f code i stands costs payment p result h =
     two_turns program most s f code i stands costs payment (record { part = p; flow = Back result }) h
@@ -158,14 +159,14 @@ turns_back program most s f code i stands costs payment p result h =
 pub turns_broken : (program : Program) (most : Thresholds) (s : State) (f : Frame) (code : Code) (i : Instruction)
     → Stands program s f code i
     → (costs : Costs) → paid most s.costs (own_amounts program (Some i) f.operands) ≡ Paid costs
-    → (p : Part) → effect program (metered_terms most) i (part_of f s) ≡ Some (record { part = p; flow = Broken })
+    → (p : StraightPart) → effect program (metered_terms most) i (part_of f s) ≡ Some (record { part = p; flow = Broken })
     → turns program most 2 s ≡ Ends outcomes.Link costs
 turns_broken program most s f code i stands costs payment p h =
     two_turns program most s f code i stands costs payment (record { part = p; flow = Broken }) h
 
 pub turns_full : (program : Program) (most : Thresholds) (s : State) (f : Frame) (code : Code) (i : Instruction)
     → Stands program s f code i → (costs : Costs) → paid most s.costs (own_amounts program (Some i) f.operands) ≡ Paid costs
-    → (p : Part) (used size : ℕ) → effect program (metered_terms most) i (part_of f s) ≡ Some (record { part = p; flow = Full used size })
+    → (p : StraightPart) (used size : ℕ) → effect program (metered_terms most) i (part_of f s) ≡ Some (record { part = p; flow = Full used size })
     → turns program most 2 s ≡ Ends (outcomes.HeapFull used size) costs
 turns_full program most s f code i stands costs payment p used size h =
     two_turns program most s f code i stands costs payment (record { part = p; flow = Full used size }) h
@@ -180,7 +181,7 @@ new_object objects new = rw add-one (slice_last objects new)
 
 -- where its frame stands alone, a new exception ends the run, without message
 raised_ends : (program : Program) (most : Thresholds) (s : State) (f : Frame) (code : Code) (i : Instruction) → Stands program s f code i
-    → (p : Part) (costs : Costs) (class : Name)
+    → (p : StraightPart) (costs : Costs) (class : Name)
     → answer_run (raise program (metered_terms most) (record (paid_state s f costs) { heap = p.heap; statics = p.statics; literals = p.literals }) class)
     ≡ Ends (outcomes.Threw class messages.Null) costs
 unfolding unwound
@@ -190,7 +191,7 @@ raised_ends program most s f code i stands p costs class =
 pub turns_raise : (program : Program) (most : Thresholds) (s : State) (f : Frame) (code : Code) (i : Instruction)
     → Stands program s f code i
     → (costs : Costs) → paid most s.costs (own_amounts program (Some i) f.operands) ≡ Paid costs
-    → (p : Part) (raised : Raised) → effect program (metered_terms most) i (part_of f s) ≡ Some (record { part = p; flow = Raise raised })
+    → (p : StraightPart) (raised : Raised) → effect program (metered_terms most) i (part_of f s) ≡ Some (record { part = p; flow = Raise raised })
     → turns program most 2 s ≡ Ends (outcomes.Threw (raised_class raised) messages.Null) costs
 turns_raise program most s f code i stands costs payment p raised h =
     two_turns program most s f code i stands costs payment (record { part = p; flow = Raise raised }) h

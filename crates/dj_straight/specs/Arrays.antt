@@ -2,9 +2,9 @@
 use Rattle.std.specs.Prelude.{ℕ, ◌^◌, ◌<◌, ℤ, List, All, map, sum_by, length, codes}
 use Rattle.std.specs.Global.{Vec}
 use Rattle.dj_names.specs.declared.run.Element.TheVariants as elements
-use Rattle.dj_straight.specs.Objects.{Object, Array}
-use Rattle.dj_straight.specs.State.{Heap}
-use Rattle.dj_straight.specs.Effects.{array_size}
+use Rattle.dj_straight.specs.trusted.Objects.{Object, Array}
+use Rattle.dj_straight.specs.trusted.State.{Heap}
+use Rattle.dj_straight.specs.trusted.Effects.{array_size}
 
 -- an array of bytes
 abbrev pub byte_array : List ℤ → Object

@@ -2,7 +2,7 @@
 use Rattle.std.specs.Prelude.{ℕ, List, map, Option, MatchOption, Vec}
 use Rattle.std.specs.Borrow.{Bor}
 use Rattle.std.specs.Global.{Global}
-use Rattle.dj_straight.specs.Program.{Code, Method}
+use Rattle.dj_straight.specs.trusted.Program.{Code, Method}
 use Rattle.dj_straight.specs.declared.straight.code.StraightCode.{StraightCode}
 use Rattle.dj_straight.specs.declared.program.StraightMethod.{StraightMethod}
 use Rattle.dj_straight.specs.Methods.{straight_code, method_view}

@@ -1,20 +1,9 @@
-pub mod StraightInstrs
-pub mod Cuts
-pub mod Objects
 pub mod Instructions
-pub mod StackMaps
 pub mod Program
-pub mod State
-pub mod Effects
-pub mod Initialisation
-pub mod Step
-pub mod Charges
-pub mod Metered
-pub mod FrameKinds
 pub mod Shape
 pub mod Sound
 pub mod Laws
-pub mod Rows
+pub mod SmallRuns
 pub mod Methods
 pub mod Straight
 pub mod Arrays
@@ -23,3 +12,4 @@ pub mod Machines
 pub mod Turns
 pub mod Shaping
 pub mod Finds
+pub mod trusted

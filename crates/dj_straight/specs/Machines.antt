@@ -2,10 +2,10 @@
 use Rattle.std.specs.Prelude.{◌≡◌, ◌^◌, ◌<◌, ⊤, [], length, Option, Some, None, codes}
 use Rattle.dj_names.specs.declared.run.Element.TheVariants as elements
 use Rattle.dj_names.specs.declared.run.Value.TheVariants as values
-use Rattle.dj_names.specs.Values.{raised_class}
-use Rattle.dj_straight.specs.Instructions.{Instruction}
-use Rattle.dj_straight.specs.Effects as model
-use Rattle.dj_straight.specs.Effects.{Terms, Part, Effect, effect, goes}
+use Rattle.dj_names.specs.trusted.Values.{raised_class}
+use Rattle.dj_straight.specs.trusted.Instructions.{Instruction}
+use Rattle.dj_straight.specs.trusted.Effects as model
+use Rattle.dj_straight.specs.trusted.Effects.{Terms, StraightPart, Effect, effect, goes}
 use Rattle.dj_straight.specs.declared.machine.heap.Found.{Found}
 use Rattle.dj_straight.specs.declared.machine.heap.Found.TheVariants as founds
 use Rattle.dj_straight.specs.declared.machine.parts.Machine.{Machine}
@@ -21,25 +21,25 @@ abbrev pub IsShort : Found → Type 0
 IsShort (founds.Bytes bytes) = length bytes.now < 2 ^ 31
 IsShort _ = ⊤
 
-abbrev pub machine_view : Machine → Part
+abbrev pub machine_view : Machine → StraightPart
 machine_view m = record { locals = m.locals.items; operands = m.operands; heap = m.heap; statics = []; literals = [] }
 
 -- without a limit on the heap
 abbrev pub straight_terms : Terms
 straight_terms = record { limit = None; raised = raised_class; thresholds = None; stop = None }
 
--- the effect of a straight instruction: it asks for no class, so it is the same in every program and in every metered run
-abbrev pub straight_effect : Instruction → Part → Option Effect
+-- the effect of a straight instruction: it needs no class, so it is the same in every program and in every metered run
+abbrev pub straight_effect : Instruction → StraightPart → Option Effect
 straight_effect i p = effect [] straight_terms i p
 
--- the effect that is told so, of an instruction from the one state to the other
-abbrev pub told : Part → Part → Progress → Option Effect
+-- the effect of an instruction that goes on in this way, from the first part to the second
+abbrev pub told : StraightPart → StraightPart → Progress → Option Effect
 told before after ways.Next = Some (goes after model.Next)
 told before after (ways.Raises raised) = Some (goes before (model.Raise raised))
 told before after (ways.Returns reference) = Some (goes after (model.Back (Some (values.Ref reference))))
 told before after ways.Broken = Some (goes before model.Broken)
 told before after ways.IllFormed = None
 
--- the instruction has the effect that is told so
-abbrev pub Does : Instruction → Part → Part → Progress → Type 0
+-- the instruction has this effect
+abbrev pub Does : Instruction → StraightPart → StraightPart → Progress → Type 0
 Does i before after way = straight_effect i before ≡ told before after way

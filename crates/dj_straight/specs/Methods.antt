@@ -1,16 +1,16 @@
 -- The program's classes, methods and instructions as the model has them.
-use Rattle.std.specs.Prelude.{ℕ, List, [], ◌∷◌, map, Option, Some, None, codes}
+use Rattle.std.specs.Prelude.{ℕ, List, [], ◌∷◌, map, Option, Some, None}
 use Rattle.dj_names.specs.declared.descriptor.Kind.TheVariants as kinds
 use Rattle.dj_names.specs.declared.run.Element.TheVariants as elements
-use Rattle.dj_straight.specs.Instructions as model
-use Rattle.dj_straight.specs.Program.{Program, Class, Method, Code, Runs}
-use Rattle.dj_straight.specs.FrameKinds.{Signature}
+use Rattle.dj_straight.specs.trusted.Instructions as model
+use Rattle.dj_straight.specs.trusted.Program.{Program, Class, Method, Code, Runs}
 use Rattle.dj_straight.specs.declared.program.IntOperation.{IntOperation}
 use Rattle.dj_straight.specs.declared.program.IntOperation.TheVariants as operations
 use Rattle.dj_straight.specs.declared.program.Action.{Action}
 use Rattle.dj_straight.specs.declared.program.Action.TheVariants as actions
 use Rattle.dj_straight.specs.declared.program.StraightMethod.{StraightMethod}
 use Rattle.dj_straight.specs.declared.program.StraightClass.{StraightClass}
+use Rattle.dj_straight.specs.trusted.Methods.{straight_descriptor, object_name}
 
 abbrev pub operation_view : IntOperation → model.IntOperation
 operation_view operations.Add = model.Add
@@ -35,14 +35,7 @@ action_view actions.ArrayLength = model.ArrayLength
 action_view actions.NewByteArray = model.NewArray model.byte_array_class elements.Byte
 action_view (actions.Other op) = model.Other op
 
-abbrev pub straight_descriptor : List ℕ
-straight_descriptor = codes "([B)[B"
-
--- an array of bytes is taken, and one is returned
-abbrev pub straight_signature : Signature
-straight_signature = record { parameters = kinds.Ref ∷ []; result = Some kinds.Ref }
-
--- the code of straight instructions, without handlers and stack map
+-- the code of straight instructions, without handlers and without a stack map
 abbrev pub straight_code : ℕ → ℕ → List Action → Code
 straight_code max_stack max_locals actions = record {
   max_stack = max_stack;
@@ -57,9 +50,6 @@ code_view m = straight_code m.max_stack m.max_locals m.actions.items
 
 abbrev pub method_view : StraightMethod → Method
 method_view m = record { flags = m.flags; name = m.name; desc = straight_descriptor; body = Runs (code_view m) }
-
-abbrev pub object_name : List ℕ
-object_name = codes "java/lang/Object"
 
 abbrev pub class_view : StraightClass → Class
 class_view c = record {

@@ -3,8 +3,9 @@ use Rattle.std.specs.Prelude.{◌≡◌, suc, ◌<◌, ◌^◌, ⊤, false, Opti
 use Rattle.dj_names.specs.declared.run.Value.TheVariants as values
 use Rattle.dj_names.specs.declared.run.Outcome.{Outcome}
 use Rattle.dj_names.specs.declared.run.Outcome.TheVariants as outcomes
-use Rattle.dj_straight.specs.Instructions.{Instruction, Push}
-use Rattle.dj_straight.specs.Program.{Name, Program, HasNoFields, MethodName, Code, code_of, chain, has_initialiser, is_initialiser}
+use Rattle.dj_straight.specs.trusted.Instructions.{Instruction, Push}
+use Rattle.dj_straight.specs.trusted.Program.{Name, Program, MethodName, Code, code_of, chain, has_initialiser, is_initialiser}
+use Rattle.dj_straight.specs.Program.{HasNoFields}
 use Rattle.dj_straight.specs.Methods.{action_view}
 use Rattle.dj_straight.specs.declared.program.StraightMethod.{StraightMethod}
 use Rattle.dj_straight.specs.declared.program.StraightClass.{StraightClass}

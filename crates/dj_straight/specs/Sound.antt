@@ -1,13 +1,14 @@
--- Values of the kinds that code's shape tells, and effects that keep them.
+-- Values of the kinds that shape says, and effects that keep them.
 use Rattle.std.specs.Prelude.{◌≡◌, List, [], ◌∷◌, length, map, Option, Some, None, Contains, IsTrue, IsFalse, ⊤}
 use Rattle.std.specs.Option.{option_map}
 use Rattle.dj_names.specs.declared.descriptor.Kind.{Kind}
 use Rattle.dj_names.specs.declared.run.Value.{Value}
-use Rattle.dj_names.specs.Values.{value_kind}
-use Rattle.dj_straight.specs.Program.{Program, Code}
-use Rattle.dj_straight.specs.Instructions.{Instruction, ends, targets, throws}
-use Rattle.dj_straight.specs.Effects.{Terms, Part, Flow, Next, To, Raise, Throw, Back, Broken, Full, Effect, effect}
-use Rattle.dj_straight.specs.FrameKinds.{Signature, Kinds}
+use Rattle.dj_names.specs.trusted.Values.{value_kind}
+use Rattle.dj_straight.specs.trusted.Program.{Program, Code}
+use Rattle.dj_straight.specs.trusted.Instructions.{Instruction, ends, targets}
+use Rattle.dj_straight.specs.Instructions.{throws}
+use Rattle.dj_straight.specs.trusted.Effects.{Terms, StraightPart, Flow, Next, To, Raise, Throw, Back, Broken, Full, Effect, effect}
+use Rattle.dj_straight.specs.trusted.FrameKinds.{Signature, Kinds}
 
 -- as many local variables, and each that has a kind has a value of it
 abbrev pub LocalsHave : List (Option Value) → List (Option Kind) → Type 0
@@ -22,12 +23,12 @@ pub record HasKinds (variables : List (Option Value)) (stack : List Value) (k : 
   pub operands : map value_kind stack ≡ k.stack
 
 -- these kinds are left
-abbrev pub LeavesKinds : Code → Kinds → Part → Type 0
+abbrev pub LeavesKinds : Code → Kinds → StraightPart → Type 0
 LeavesKinds code left p = HasKinds p.locals p.operands left × (length p.locals ≡ code.max_locals)
 
 -- what may follow an instruction after which these kinds are left: the next instruction finds them, or one to which it may jump; only one that
 -- doesn't go on returns, with a value of the result's kind, and only one that throws throws an object
-abbrev pub IsSoundFlow : Signature → Code → Instruction → Kinds → Part → Flow → Type 0
+abbrev pub IsSoundFlow : Signature → Code → Instruction → Kinds → StraightPart → Flow → Type 0
 IsSoundFlow signature code i left p Next = LeavesKinds code left p × IsFalse (ends i)
 IsSoundFlow signature code i left p (To number) = LeavesKinds code left p × Contains (targets i) number
 IsSoundFlow signature code i left p (Raise raised) = ⊤
@@ -37,5 +38,5 @@ IsSoundFlow signature code i left p Broken = ⊤
 IsSoundFlow signature code i left p (Full used size) = ⊤
 
 -- the instruction has an effect, and it keeps the kinds
-abbrev pub HasSoundEffect : Program → Terms → Signature → Code → Instruction → Kinds → Part → Type 0
+abbrev pub HasSoundEffect : Program → Terms → Signature → Code → Instruction → Kinds → StraightPart → Type 0
 HasSoundEffect program terms signature code i left p = (e : Effect) × (effect program terms i p ≡ Some e) × IsSoundFlow signature code i left e.part e.flow

@@ -1,15 +1,15 @@
 ghost use Rattle.std.specs.Prelude.{◌≡◌, ◌≢◌, ℕ, ◌^◌, ◌<◌, List, length, All, IfOk, MatchBool, MatchOption};
 ghost use Rattle.dj_ops.specs.declared.instruction.Instr.{Instr};
 ghost use Rattle.dj_ops.specs.declared.read.OpError.TheVariants as errors;
-ghost use Rattle.dj_ops.specs.Instructions.{IsProper};
-ghost use Rattle.dj_straight.specs.StraightInstrs.{is_straight_op, IsStraight};
-ghost use Rattle.dj_straight.specs.Cuts.{AreInstructions};
+ghost use Rattle.dj_ops.specs.trusted.Instructions.{IsProper};
+ghost use Rattle.dj_straight.specs.trusted.StraightInstrs.{is_straight_op, IsStraight};
+ghost use Rattle.dj_straight.specs.trusted.Cuts.{AreInstructions};
 
 use crate::program::first_byte;
 use dj_ops::{Instr, Instrs, NoMemory, OpError, read_instr};
 use std::alloc::Global;
 
-#[tactic(auto, unfolding(crate::specs::StraightInstrs::is_straight_op))]
+#[tactic(auto, unfolding(crate::specs::trusted::StraightInstrs::is_straight_op))]
 fn is_straight_op(op: u8) -> bool
     ensures { result ≡ is_straight_op op }
 {
@@ -53,7 +53,7 @@ fn is_memory(e: OpError) -> bool
     matches!(e, OpError::Memory)
 }
 
-/// The instructions of straight code, in order, or none where the code isn't cut into straight instructions.
+/// The instructions of straight code, in order; none where the code can't be cut into straight instructions.
 pub fn read_instrs(alloc: Global, code: &[u8]) -> Result<Option<Instrs>, NoMemory>
     requires { length code.now < 2 ^ 32 }
     ensures { IfOk result (λ read. MatchOption read

@@ -1,4 +1,4 @@
-ghost use Rattle.dj_straight.specs.Rows.{WorkedRuns};
+ghost use Rattle.dj_straight.specs.SmallRuns.{WorkedRuns};
 ghost use Rattle.dj_straight.specs.Laws.{HasOneEnd, KeepsKinds, IsSameInEveryProgram, HasOneShapeFault, HasNoFaultWithShape, HasShapeOrFault, StraightCodeEnds};
 
 /// A run ends in one way, at one cost.
@@ -6,12 +6,12 @@ pub fn one_end()
     ensures { HasOneEnd }
 {}
 
-/// An instruction that asks for nothing of the program and finds the kinds that it takes has an effect, and leaves the kinds that it leaves.
+/// An instruction that needs nothing of the program and finds the kinds that it takes has an effect, and leaves the kinds that it leaves.
 pub fn sound_effect()
     ensures { KeepsKinds }
 {}
 
-/// What an instruction that asks for nothing of the program does, and what it is charged, is the same in every program.
+/// What an instruction that needs nothing of the program does, and what it is charged, is the same in every program.
 pub fn same_in_every_program()
     ensures { IsSameInEveryProgram }
 {}
@@ -36,7 +36,7 @@ pub fn straight_code_ends()
     ensures { StraightCodeEnds }
 {}
 
-/// The worked runs end as they are told.
+/// The worked runs end as they should.
 pub fn worked_runs()
     ensures { WorkedRuns }
 {}

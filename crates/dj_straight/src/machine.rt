@@ -1,9 +1,10 @@
 ghost use Rattle.std.specs.Prelude.{◌≡◌, ◌≤◌, ◌<◌, length, All, IfOk};
 ghost use Rattle.dj_names.specs.declared.run.Outcome.TheVariants.{Link};
-ghost use Rattle.dj_straight.specs.Program.{Program, MethodName};
-ghost use Rattle.dj_straight.specs.Metered.{RunsTo};
+ghost use Rattle.dj_straight.specs.trusted.Program.{Program, MethodName};
+ghost use Rattle.dj_straight.specs.trusted.Metered.{RunsTo};
 ghost use Rattle.dj_straight.specs.Shape.{HasShape};
-ghost use Rattle.dj_straight.specs.Methods.{action_view, code_view, straight_signature};
+ghost use Rattle.dj_straight.specs.trusted.Methods.{straight_signature};
+ghost use Rattle.dj_straight.specs.Methods.{action_view, code_view};
 ghost use Rattle.dj_straight.specs.Running.{IsPlainEntry, IsStraightEnd, PushesNull};
 
 mod act;
@@ -21,7 +22,7 @@ use dj_names::{Costs, Outcome, Thresholds};
 use dj_rules::RulesError;
 use first::first_machine;
 use std::alloc::Global;
-use turns::Turns;
+use turns::Advance;
 
 /// How a run went.
 #[derive(Drop)]
@@ -57,8 +58,8 @@ pub fn run_method(
     let mut costs = NO_COSTS;
     for action in method.actions.as_slice() {
         match machine.turns(alloc, *action, costs, &thresholds)? {
-            Turns::Go(paid) => costs = paid,
-            Turns::End(ending) => return Ok(ending),
+            Advance::Go(paid) => costs = paid,
+            Advance::End(ending) => return Ok(ending),
         }
     }
     unreachable!()

@@ -1,6 +1,6 @@
 ghost use Rattle.std.specs.Prelude.{◌≡◌};
-ghost use Rattle.dj_straight.specs.Instructions.{instruction_of, local_does, local_rows, new_array, simple};
-ghost use Rattle.dj_straight.specs.StraightInstrs.{first_byte};
+ghost use Rattle.dj_straight.specs.trusted.Instructions.{instruction_of, local_does, local_rows, new_array, simple};
+ghost use Rattle.dj_straight.specs.trusted.StraightInstrs.{first_byte};
 ghost use Rattle.dj_straight.specs.Methods.{action_view};
 
 use dj_names::{Kind, Name, Value};
@@ -43,7 +43,7 @@ pub enum Action {
     ArrayLength,
     /// An array of bytes is made.
     NewByteArray,
-    /// No straight instruction, by its first byte.
+    /// An instruction that isn't straight, by its first byte.
     Other(u8),
 }
 
@@ -66,7 +66,7 @@ pub struct StraightClass {
 }
 
 /// What an instruction does.
-#[tactic(auto, unfolding(crate::specs::Instructions::instruction_of))]
+#[tactic(auto, unfolding(crate::specs::trusted::Instructions::instruction_of))]
 pub fn action_of(instr: &Instr) -> Action
     ensures { action_view result ≡ instruction_of instr.now }
 {
@@ -103,7 +103,7 @@ pub fn first_byte(instr: &Instr) -> u8
 }
 
 /// What an instruction without operands does, by its opcode.
-#[tactic(auto, unfolding(crate::specs::Instructions::simple))]
+#[tactic(auto, unfolding(crate::specs::trusted::Instructions::simple))]
 fn simple_action(op: u8) -> Action
     ensures { action_view result ≡ simple op }
 {
@@ -131,7 +131,7 @@ fn simple_action(op: u8) -> Action
     }
 }
 
-/// What an instruction does that a slot follows.
+/// What an instruction with a slot does.
 fn local_action(op: u8, slot: u16) -> Action
     ensures { action_view result ≡ local_does local_rows op slot }
 {

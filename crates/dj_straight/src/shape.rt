@@ -1,12 +1,14 @@
 ghost use Rattle.std.specs.Prelude.{◌≡◌, ℕ, ◌+◌, ◌<◌, ◌≤◌, ◌^◌, List, [], ◌∷◌, length, slice_get, Some, IfOk, MatchOption, vec_len};
 ghost use Rattle.dj_names.specs.declared.descriptor.Kind.{Kind};
-ghost use Rattle.dj_names.specs.Values.{value_kind};
-ghost use Rattle.dj_straight.specs.Instructions as model;
-ghost use Rattle.dj_straight.specs.Effects.{same_kind, slots_of};
-ghost use Rattle.dj_straight.specs.Instructions.{ends};
-ghost use Rattle.dj_straight.specs.Shape.{after, first_kinds, gives, is_kind, kind_at, pushed, set_kind, taken, without_long_before, HasShape, IsShapeFault, StateBefore};
+ghost use Rattle.dj_names.specs.trusted.Values.{value_kind};
+ghost use Rattle.dj_straight.specs.trusted.Instructions as model;
+ghost use Rattle.dj_straight.specs.trusted.Effects.{same_kind, slots_of};
+ghost use Rattle.dj_straight.specs.trusted.Instructions.{ends};
+ghost use Rattle.dj_straight.specs.trusted.Shape.{after, first_kinds, gives, is_kind, kind_at, pushed, set_kind, taken, without_long_before, IsShapeFault, StateBefore};
+ghost use Rattle.dj_straight.specs.Shape.{HasShape};
 ghost use Rattle.dj_straight.specs.declared.program.Action.{Action};
-ghost use Rattle.dj_straight.specs.Methods.{action_view, code_view, straight_signature};
+ghost use Rattle.dj_straight.specs.trusted.Methods.{straight_signature};
+ghost use Rattle.dj_straight.specs.Methods.{action_view, code_view};
 ghost use Rattle.dj_straight.specs.Shaping.{room, HasRoomOf, SameRoom, SameLocals, Leaves, Takes, Answers};
 
 use crate::program::{Action, StraightMethod};
@@ -15,7 +17,7 @@ use dj_rules::RulesError;
 use std::alloc::Global;
 use std::marker::Model;
 
-// The kinds of the local variables and of the operands, where there is room for so many.
+// The kinds of the local variables and of the operands, with the room that the code has for them.
 #[derive(Drop)]
 struct KindState {
     max_stack: u16,
@@ -29,7 +31,7 @@ struct KindState {
 
 impl Model for KindState {
     ghost use Rattle.std.specs.Prelude.{◌≡◌, ◌≤◌, reverse, sum_by, vec_len};
-    ghost use Rattle.dj_straight.specs.Effects.{slots_of};
+    ghost use Rattle.dj_straight.specs.trusted.Effects.{slots_of};
     ghost use Rattle.dj_straight.specs.Shaping.{Standing};
 
     ghost Value = { Standing };
@@ -90,7 +92,7 @@ fn kind_at(locals: &[Option<Kind>], slot: usize) -> Option<Kind>
     }
 }
 
-// A long whose second slot this is loses its kind.
+// Where this slot is the second of a long, the long loses its kind.
 fn cut_long_before(locals: &mut [Option<Kind>], slot: usize)
     ensures { locals.new ≡ without_long_before locals.old slot }
 {
@@ -208,7 +210,7 @@ impl KindState {
         }
     }
 
-    #[tactic(auto, unfolding(crate::specs::Shape::after))]
+    #[tactic(auto, unfolding(crate::specs::trusted::Shape::after))]
     fn load(&mut self, kind: Kind, slot: u16) -> Result<bool, RulesError>
         ensures room { SameRoom self.old self.new }
         ensures loaded { IfOk result (λ fits. Leaves fits
@@ -221,7 +223,7 @@ impl KindState {
         }
     }
 
-    #[tactic(auto, unfolding(crate::specs::Shape::after))]
+    #[tactic(auto, unfolding(crate::specs::trusted::Shape::after))]
     fn store(&mut self, kind: Kind, slot: u16) -> bool
         ensures room { SameRoom self.old self.new }
         ensures stored { Leaves result
@@ -234,7 +236,7 @@ impl KindState {
         true
     }
 
-    #[tactic(auto, unfolding(crate::specs::Shape::after))]
+    #[tactic(auto, unfolding(crate::specs::trusted::Shape::after))]
     fn pop_one(&mut self) -> bool
         ensures room { SameRoom self.old self.new }
         ensures popped { Leaves result
@@ -246,7 +248,7 @@ impl KindState {
         }
     }
 
-    #[tactic(auto, unfolding(crate::specs::Shape::after))]
+    #[tactic(auto, unfolding(crate::specs::trusted::Shape::after))]
     fn dup(&mut self) -> Result<bool, RulesError>
         ensures room { SameRoom self.old self.new }
         ensures pushed { IfOk result (λ fits. Leaves fits
@@ -258,8 +260,8 @@ impl KindState {
         }
     }
 
-    // Whether the action finds what it takes, and what it gives fits. The kinds are those after it then.
-    #[tactic(auto, unfolding(crate::specs::Shape::after))]
+    // Whether the action finds what it takes, and what it gives fits. Then the kinds are those after it.
+    #[tactic(auto, unfolding(crate::specs::trusted::Shape::after))]
     fn step(&mut self, action: Action) -> Result<bool, RulesError>
         ensures room { SameRoom self.old self.new }
         ensures left { IfOk result (λ done. Leaves done
@@ -282,7 +284,7 @@ impl KindState {
         }
     }
 
-    // Whether the instruction of the number holds, before which these kinds stand. They are those after it then.
+    // Whether the instruction of this number holds, with these kinds before it. Then the kinds are those after it.
     fn holds(
         &mut self,
         method: &StraightMethod,
@@ -306,7 +308,7 @@ fn is_end(action: Action) -> bool
     action == Action::ReturnReference
 }
 
-/// The number of the instruction with which code without shape is reported, or none where it has shape.
+/// The number with which code without shape is reported; none where it has shape.
 pub fn shape_fault(alloc: Global, method: &StraightMethod) -> Result<Option<u32>, RulesError>
     requires { vec_len method.now.actions < 2 ^ 32 }
     ensures { IfOk result (λ fault. MatchOption fault (HasShape straight_signature (code_view method.now))

@@ -1,12 +1,13 @@
 ghost use Rattle.std.specs.Prelude.{◌≡◌, ◌↔◌, [], Some, map, IsTrue, IfOk, IfSome, MatchOption};
-ghost use Rattle.dj_pool.specs.Pool.{class_name_at};
-ghost use Rattle.dj_class.specs.ClassFile.{IsValid};
+ghost use Rattle.dj_pool.specs.trusted.Pool.{class_name_at};
+ghost use Rattle.dj_class.specs.trusted.ClassFile.{IsValid};
 ghost use Rattle.dj_class.specs.Views.{class_of};
-ghost use Rattle.dj_straight.specs.Methods.{object_name, class_view, program_view};
+ghost use Rattle.dj_straight.specs.trusted.Methods.{object_name};
+ghost use Rattle.dj_straight.specs.Methods.{class_view, program_view};
 ghost use Rattle.dj_straight.specs.Running.{AreRunnable};
-ghost use Rattle.dj_straight.specs.Straight.{is_reserved, IsPlainClass, IsStraightClass, IsStraightFile, IsNotStraight, IsStraightSet};
+ghost use Rattle.dj_straight.specs.trusted.Straight.{is_reserved, IsPlainClass, IsStraightClass, IsStraightFile, IsNotStraight, IsStraightSet};
 ghost use Rattle.dj_rules.specs.Reads.{IsViewOf, IsOnlyView};
-ghost use Rattle.dj_rules.specs.Violations.{this_name};
+ghost use Rattle.dj_rules.specs.trusted.Violations.{this_name};
 ghost use Rattle.dj_rules.specs.Views.{path_file_view};
 ghost use Rattle.dj_straight.specs.Finds.{Finds};
 
@@ -55,7 +56,7 @@ fn is_alone(view: &ClassView<'_>) -> bool
     view.interfaces.as_slice().is_empty() && view.fields.as_slice().is_empty()
 }
 
-// Whether the class is straight but for its methods.
+// Whether the class is straight as far as its methods aren't looked at.
 fn is_plain_class(view: &ClassView<'_>) -> bool
     ensures { IsTrue result ↔ IsPlainClass (class_of view.now) }
 {
@@ -123,7 +124,7 @@ fn set_of(
     }
 }
 
-/// The straight set that the files are, or none. The view is that of the file where it is the only one, and is let go.
+/// The straight set that the files are, or none. The view is that of the file where it is the only one, and is dropped.
 pub fn straight_set(
     alloc: Global,
     files: &[PathFile<'_>],

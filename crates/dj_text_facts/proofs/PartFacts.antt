@@ -1,7 +1,7 @@
 -- A class file with other constants, at plain values.
 use Rattle.std.proofs.Common.{◌≡◌, ◌++◌, List, [], ◌∷◌, length, codes, refl, ap, arith}
-use Rattle.dj_pool.specs.Pool.{Constant, Utf8, Class}
-use Rattle.dj_class.specs.ClassFile.{ClassFile}
+use Rattle.dj_pool.specs.trusted.Pool.{Constant, Utf8, Class}
+use Rattle.dj_class.specs.trusted.ClassFile.{ClassFile}
 use Rattle.dj_write.specs.Parts.{with_pool}
 
 -- each of its parts is another

@@ -5,14 +5,14 @@ use Rattle.std.proofs.lemmas.Bool.{cases_lt}
 use Rattle.std.proofs.lemmas.List.{length-take-le, take_all}
 use Rattle.std.proofs.lemmas.List.Elements.{Contains-append_right}
 use Rattle.std.proofs.lemmas.List.Sums.{count_by-le-length, sum_by-cons, sum_by-append}
-use Rattle.dj_source.specs.Lines.{FrameType, Frame, Same, Full, Plain, Aside, Catch, Line, Beside, Framed, End}
-use Rattle.dj_source.specs.Sources.{Source, Part, MethodSource, Mark, FrameStep, Coded, body_lines, method_lines, lines_of}
-use Rattle.dj_source.specs.Labels.{AreMethodLines}
-use Rattle.dj_entries.specs.Entries.{Utf8, Class, each_once, index_of}
-use Rattle.dj_entries.specs.Needs.{Need, needs_of, methods_needs, index_in}
-use Rattle.dj_entries.specs.Room.{HasRoom}
+use Rattle.dj_source.specs.trusted.Lines.{FrameType, Frame, Same, Full, Plain, Aside, Catch, Line, Beside, Framed, End}
+use Rattle.dj_source.specs.trusted.Sources.{Source, BodyPart, MethodSource, Mark, FrameStep, Coded, body_lines, method_lines, lines_of}
+use Rattle.dj_source.specs.trusted.Labels.{AreMethodLines}
+use Rattle.dj_entries.specs.trusted.Entries.{Utf8, Class, each_once, index_of}
+use Rattle.dj_entries.specs.trusted.Needs.{Need, needs_of, methods_needs, index_in}
+use Rattle.dj_entries.specs.trusted.Room.{HasRoom}
 use Rattle.dj_entries.proofs.Members.{each_in, in_here}
-use Rattle.dj_asm.specs.Large.{is_interface, is_field, is_method, is_catch, count_before, IsMethodLine, IsPastCatches, HasLongLists, IsLongFrame, IsTooLarge}
+use Rattle.dj_asm.specs.trusted.Large.{is_interface, is_field, is_method, is_catch, count_before, IsMethodLine, IsPastCatches, HasLongLists, IsLongFrame, IsTooLarge}
 
 -- ---- ranges are counted over a method
 
@@ -46,7 +46,7 @@ few_in_each s few place past =
 abbrev row : Aside
 row = Catch None (codes "L") (codes "L") (codes "L")
 
-abbrev rows : ℕ → List Part
+abbrev rows : ℕ → List BodyPart
 rows zero = []
 rows (suc n) = Mark row ∷ rows n
 
@@ -63,7 +63,7 @@ count_rows (suc n) = count_one (Beside row) (body_lines (rows n)) refl ∙ one_m
 few_rows : (n : ℕ) → n ≤ 65535 → IsFew (with_rows n)
 few_rows n few = omega (arith, few, count_rows n, count_append (body_lines (rows n)) (End ∷ []))
 
--- two methods may have so many each, which together are more
+-- two methods may have this many each, which together are more
 abbrev two_methods : ℕ → ℕ → Source
 two_methods n m = record { flags = 33; name = codes "A"; version = None; super = codes "A"; interfaces = []; fields = []; methods = with_rows n ∷ with_rows m ∷ [] }
 

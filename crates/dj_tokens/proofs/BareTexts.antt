@@ -3,8 +3,8 @@ use Rattle.std.proofs.Common.{◌≡◌, ℕ, ◌==◌, ◌&&◌, ◌++◌, true
 use Rattle.std.specs.List.{list_all}
 use Rattle.std.proofs.lemmas.Bool.{and_parts, not-true}
 use Rattle.std.proofs.lemmas.Bool.Decides.{nat_tests}
-use Rattle.dj_names.specs.ModifiedUtf8.{unit_text, units_text}
-use Rattle.dj_tokens.specs.Words.{begins_escape, word_units}
+use Rattle.dj_names.specs.trusted.ModifiedUtf8.{unit_text, units_text}
+use Rattle.dj_tokens.specs.trusted.Words.{begins_escape, word_units}
 use Rattle.dj_tokens.specs.Texts.{is_bare}
 use Rattle.dj_tokens.proofs.UnitLaws.{word_byte}
 

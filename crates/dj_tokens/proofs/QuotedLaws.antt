@@ -1,8 +1,8 @@
 -- The text of a string, unit by unit.
 use Rattle.std.proofs.Common.{Bor, ◌≡◌, ℕ, true, List, [], ◌∷◌, ◌++◌, Some, None, is_some, refl, sym, ap, ◌∙◌}
 use Rattle.std.proofs.lemmas.Bool.{false≢true}
-use Rattle.dj_names.specs.ModifiedUtf8.{unit_text, units_text}
-use Rattle.dj_tokens.specs.Words.{Opened, with_unit, string_units}
+use Rattle.dj_names.specs.trusted.ModifiedUtf8.{unit_text, units_text}
+use Rattle.dj_tokens.specs.trusted.Words.{Opened, with_unit, string_units}
 use Rattle.dj_tokens.specs.declared.string.StringStep.{StringStep}
 use Rattle.dj_tokens.specs.declared.string.StringStep.TheVariants as steps
 use Rattle.dj_tokens.specs.Views.{opened_units, step_view}

@@ -1,5 +1,3 @@
-pub mod Words
-pub mod Mnemonics
 pub mod WordReading
 pub mod Views
 pub mod Strings
@@ -8,3 +6,4 @@ pub mod Numbers
 pub mod NumberViews
 pub mod Texts
 pub mod Colons
+pub mod trusted

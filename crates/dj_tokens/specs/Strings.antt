@@ -1,13 +1,13 @@
--- The reader's own: what stands at the front of a string's bytes, after its opening quote.
+-- The reader's own: what a string's bytes begin with, after its opening quote.
 use Rattle.std.specs.Prelude.{ℕ, ◌==◌, ◌<◌, ◌||◌, ⊤, List, [], ◌∷◌, length, drop, if◌then◌else◌}
-use Rattle.dj_tokens.specs.Words.{is_plain, begins_escape, escaped_unit}
+use Rattle.dj_tokens.specs.trusted.Words.{is_plain, begins_escape, escaped_unit}
 
 pub data Step : Type 0 where
   -- the quote that closes the string, and the bytes after it
   Closed : List ℕ → Step
   -- a unit, and the bytes after it
   Unit : ℕ → List ℕ → Step
-  -- what stands in no string
+  -- bytes that no string has
   Broken : Step
 
 unfoldable pub backslash_step : List ℕ → Step
@@ -24,7 +24,7 @@ string_step (b ∷ bs) =
     else (if begins_escape (b ∷ bs) then Unit (escaped_unit (b ∷ bs)) (drop 5 bs)
     else byte_step b bs)
 
--- fewer than so many bytes are left after the step
+-- fewer than this many bytes are left after the step
 abbrev pub IsShorter : ℕ → Step → Type 0
 IsShorter n (Closed rest) = length rest < n
 IsShorter n (Unit unit rest) = length rest < n

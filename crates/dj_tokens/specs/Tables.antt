@@ -1,7 +1,7 @@
 -- The reader's own: words with what they stand for, as tables.
 use Rattle.std.specs.Prelude.{ℕ, suc, ◌==◌, List, [], ◌∷◌, length, filter}
 use Rattle.std.specs.Borrow.{Bor}
-use Rattle.dj_tokens.specs.Mnemonics.{mnemonics}
+use Rattle.dj_tokens.specs.trusted.Mnemonics.{mnemonics}
 
 -- what a row of the code's tables shows
 abbrev pub row_view : {K : Type 0} → Bor (List ℕ) × K → List ℕ × K
@@ -12,6 +12,6 @@ abbrev pub rows_from : ℕ → List (List ℕ) → List (List ℕ × ℕ)
 rows_from n [] = []
 rows_from n (w ∷ ws) = (w, n) ∷ rows_from (suc n) ws
 
--- the instructions whose words have so many bytes
+-- the instructions whose words have this many bytes
 abbrev pub rows_of_length : ℕ → List (List ℕ × ℕ)
 rows_of_length n = filter (λ (row : List ℕ × ℕ). length row.0 == n) (rows_from 0 mnemonics)

@@ -1,6 +1,6 @@
 -- What the code's texts show, and the tests that names take by their places.
 use Rattle.std.specs.Prelude.{ℕ, ◌==◌, ◌&&◌, Bool, not, List, nat_le, nat_lt}
-use Rattle.dj_names.specs.Types.{Name}
+use Rattle.dj_names.specs.trusted.Types.{Name}
 use Rattle.dj_names.specs.Tests.{unqualified_name_test, method_name_test, class_name_test, field_descriptor_test, method_descriptor_test, array_descriptor_test}
 use Rattle.dj_tokens.specs.declared.text.Text as the_text
 use Rattle.dj_tokens.specs.declared.text.Text.TheVariants as texts

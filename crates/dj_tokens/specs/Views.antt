@@ -11,7 +11,7 @@ use Rattle.dj_tokens.specs.declared.string.StringStep.TheVariants as steps
 use Rattle.dj_tokens.specs.declared.piece.Piece as the_piece
 use Rattle.dj_tokens.specs.declared.place.Place as the_place
 use Rattle.dj_tokens.specs.declared.tokens.LineTokens as the_line
-use Rattle.dj_tokens.specs.Words.{Token, Word, Quoted, Bad, LineEnd, Placed, Piece, Opened, word_units, string_units, tokens_after}
+use Rattle.dj_tokens.specs.trusted.Words.{Token, Word, Quoted, Bad, LineEnd, Placed, Piece, Opened, word_units, string_units, tokens_after}
 use Rattle.dj_tokens.specs.Strings.{Step, Closed, Unit, Broken}
 
 abbrev pub units_of : the_word.Word → List ℕ

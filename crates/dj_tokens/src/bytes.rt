@@ -2,7 +2,7 @@ ghost use Rattle.std.specs.Prelude.{◌≡◌, ◌≤◌, ◌∷◌, [], true, f
 ghost use Rattle.std.specs.Char.{digit_value, is_digit};
 ghost use Rattle.std.specs.List.{list_all};
 ghost use Rattle.std.specs.Str.Parse.{digits_value};
-ghost use Rattle.dj_tokens.specs.Words.{is_blank, is_plain, begins_escape, escaped_unit};
+ghost use Rattle.dj_tokens.specs.trusted.Words.{is_blank, is_plain, begins_escape, escaped_unit};
 
 /// Whether a byte is a space or a tab.
 pub(crate) fn is_blank(byte: u8) -> bool
@@ -11,7 +11,7 @@ pub(crate) fn is_blank(byte: u8) -> bool
     byte == b' ' || byte == b'\t'
 }
 
-/// Whether a byte is a space, or one of ASCII that is seen.
+/// Whether a byte is a space, or a printing one of ASCII.
 pub(crate) fn is_plain(byte: u8) -> bool
     ensures { result ≡ is_plain byte }
 {
@@ -30,7 +30,7 @@ pub(crate) fn digit_value(unit: u16) -> u16
     }
 }
 
-/// The unit of the escape at the front, where one stands there.
+/// The unit of the escape that comes first, where one does.
 pub(crate) fn escape_at(bytes: &[u8]) -> Option<u16>
     ensures unit { MatchOption result (begins_escape bytes.now ≡ false) (λ u. (begins_escape bytes.now ≡ true) × (u ≡ escaped_unit bytes.now)) }
     ensures long { IfSome result (λ u. 6 ≤ length bytes.now) }

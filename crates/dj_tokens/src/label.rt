@@ -1,5 +1,5 @@
 ghost use Rattle.std.specs.Prelude.{◌≡◌, ◌<◌, ◌≤◌, ◌∷◌, [], length, drop, option_map};
-ghost use Rattle.dj_tokens.specs.Words.{word_units};
+ghost use Rattle.dj_tokens.specs.trusted.Words.{word_units};
 ghost use Rattle.dj_tokens.specs.WordReading.{label_in};
 ghost use Rattle.dj_tokens.specs.Colons.{ends_colon};
 
@@ -21,7 +21,7 @@ pub fn label_of(bytes: &[u8]) -> Option<&[u8]>
     None
 }
 
-/// What stands before the last unit, where that is a colon and not alone.
+/// What comes before the last unit, where that is a colon and not alone.
 #[tactic(auto, using(crate::proofs::LabelWords::no_colon, crate::proofs::LabelWords::colon_alone, crate::proofs::LabelWords::label_before))]
 fn before_colon(bytes: &[u8], at: usize, unit: u16) -> Option<&[u8]>
     requires within { at < length bytes.now }
@@ -39,7 +39,7 @@ fn before_colon(bytes: &[u8], at: usize, unit: u16) -> Option<&[u8]>
 }
 
 /// The unit at the front of a word's bytes, and how many of them it is.
-#[tactic(auto, unfolding(crate::specs::Words::word_units), using(crate::proofs::UnitLaws::word_steps))]
+#[tactic(auto, unfolding(crate::specs::trusted::Words::word_units), using(crate::proofs::UnitLaws::word_steps))]
 fn first_unit(bytes: &[u8]) -> (u16, usize)
     requires { 0 < length bytes.now }
     ensures unit { word_units 0 bytes.now ≡ result.0 ∷ word_units 0 (drop result.1 bytes.now) }

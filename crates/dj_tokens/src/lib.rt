@@ -1,4 +1,4 @@
-//! The tokens of an assembler's text: words, strings and what they say.
+//! The tokens of an assembler's text: words, strings and what they mean.
 #![tactic(auto)]
 
 mod bytes;

@@ -1,12 +1,12 @@
 ghost use Rattle.std.specs.Prelude.{◌≡◌, map, length, option_map};
-ghost use Rattle.dj_tokens.specs.Words.{word_units};
+ghost use Rattle.dj_tokens.specs.trusted.Words.{word_units};
 ghost use Rattle.dj_tokens.specs.WordReading.{place_from};
-ghost use Rattle.dj_tokens.specs.Mnemonics.{mnemonics, base_words};
+ghost use Rattle.dj_tokens.specs.trusted.Mnemonics.{mnemonics, base_words};
 ghost use Rattle.dj_tokens.specs.Tables.{row_view, rows_of_length};
 
 use crate::spelling::{row_at, unit_count};
 
-/// A word, and what it stands for.
+/// A word, and what it means.
 type Row = (&'static [u8], u8);
 
 static THREE: [Row; 24] = [
@@ -255,7 +255,7 @@ static BASES: [Row; 8] = [
     (b"long", 11),
 ];
 
-/// The instructions whose words have so many bytes.
+/// The instructions whose words have this many bytes.
 fn rows(length: usize) -> &'static [Row]
     ensures { map row_view result.now ≡ rows_of_length length }
 {

@@ -1,5 +1,5 @@
 ghost use Rattle.std.specs.Prelude.{◌≡◌, ◌≢◌, ◌∷◌, false, pos, neg_ℤ, slice_index, MatchOption};
-ghost use Rattle.dj_tokens.specs.Words.{word_units};
+ghost use Rattle.dj_tokens.specs.trusted.Words.{word_units};
 ghost use Rattle.dj_tokens.specs.WordReading.{number_in};
 ghost use Rattle.dj_tokens.specs.Numbers.{flags_in, flags_from, digits_from, number_within, within};
 ghost use Rattle.dj_tokens.specs.NumberViews.{number_view};

@@ -1,20 +1,20 @@
 ghost use Rattle.std.specs.Prelude.{◌≡◌, ◌<◌, ◌≤◌, ◌||◌, not, false, length, slice_index, IfNone};
 ghost use Rattle.std.specs.List.{prefix_len, list_all};
-ghost use Rattle.dj_tokens.specs.Words.{is_blank, is_plain, bad, word_piece, string_piece, comment_piece, piece_of};
+ghost use Rattle.dj_tokens.specs.trusted.Words.{is_blank, is_plain, bad, word_piece, string_piece, comment_piece, piece_of};
 ghost use Rattle.dj_tokens.specs.Views.{piece_view};
 
 use crate::bytes::{is_blank, is_plain};
 use crate::string::after_string;
 use crate::token::{Quoted, Token, Word};
 
-/// What begins at the front of a line's bytes, and how many of them it has. A comment is no token.
+/// What a line's bytes begin with, and how many of them it has. A comment is no token.
 #[derive(Clone, Copy)]
 pub(crate) struct Piece<'t> {
     pub token: Option<Token<'t>>,
     pub size: usize,
 }
 
-/// What begins at the front, where no blank stands.
+/// What the bytes begin with, where that is no blank.
 pub(crate) fn piece_at(bytes: &[u8]) -> Piece<'_>
     requires some { 0 < length bytes.now }
     requires word { is_blank (slice_index bytes.now 0) ≡ false }
@@ -30,7 +30,7 @@ pub(crate) fn piece_at(bytes: &[u8]) -> Piece<'_>
     }
 }
 
-/// What no text has takes the rest of its line.
+/// A bad token takes the rest of its line.
 fn bad(bytes: &[u8]) -> Piece<'_>
     ensures piece { piece_view result ≡ bad bytes.now }
     ensures all { result.size ≡ length bytes.now }
@@ -75,14 +75,14 @@ fn word_piece(bytes: &[u8]) -> Piece<'_>
     }
 }
 
-/// Whether all bytes may stand in a comment.
+/// Whether all bytes may be in a comment.
 fn is_comment(bytes: &[u8]) -> bool
     ensures { result ≡ list_all (λ b. is_plain b || is_blank b) bytes.now }
 {
     bytes.iter().all(|b| is_plain(*b) || is_blank(*b))
 }
 
-/// Whether all bytes may stand in a word.
+/// Whether all bytes may be in a word.
 fn are_plain(bytes: &[u8]) -> bool
     ensures { result ≡ list_all is_plain bytes.now }
 {

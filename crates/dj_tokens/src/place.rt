@@ -1,5 +1,5 @@
 ghost use Rattle.std.specs.Prelude.{◌≡◌, ◌+◌, ◌^◌, ◌<◌, false, length, slice_index};
-ghost use Rattle.dj_tokens.specs.Words.{is_blank};
+ghost use Rattle.dj_tokens.specs.trusted.Words.{is_blank};
 
 use crate::bytes::is_blank;
 use crate::piece::piece_at;
@@ -49,7 +49,7 @@ impl<'t> Place<'t> {
         }
     }
 
-    /// The place after the blanks that stand here.
+    /// The place after the blanks at this one.
     #[tactic(auto, using(crate::proofs::LineLaws::step_blank))]
     fn at_word(self) -> Place<'t>
         ensures tokens { left_in_line result ≡ left_in_line self.entry }

@@ -1,22 +1,22 @@
 ghost use Rattle.std.specs.Prelude.{◌≡◌, ◌+◌, ◌≤◌, length, option_map, IfSome};
-ghost use Rattle.dj_tokens.specs.Words.{string_units};
+ghost use Rattle.dj_tokens.specs.trusted.Words.{string_units};
 ghost use Rattle.dj_tokens.specs.Strings.{string_step, byte_step, backslash_step, IsShorter};
 ghost use Rattle.dj_tokens.specs.Views.{step_view};
 
 use crate::bytes::{escape_at, is_plain};
 
-/// What stands at the front of a string's bytes.
+/// What a string's bytes begin with.
 #[derive(Clone, Copy)]
 pub(crate) enum StringStep<'t> {
     /// The quote that closes it, and the bytes after that.
     Closed(&'t [u8]),
     /// A unit, and the bytes after it.
     Unit(u16, &'t [u8]),
-    /// What stands in no string.
+    /// Bytes that no string has.
     Broken,
 }
 
-/// What stands at the front of a string's bytes, after its opening quote.
+/// What a string's bytes begin with, after its opening quote.
 #[tactic(auto, unfolding(crate::specs::Strings::string_step))]
 pub(crate) fn string_step(bytes: &[u8]) -> StringStep<'_>
     ensures step { step_view result ≡ string_step bytes.now }

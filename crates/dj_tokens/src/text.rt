@@ -1,6 +1,6 @@
 ghost use Rattle.std.specs.Prelude.{◌≡◌, ◌++◌, true, OnOk, IfOk};
-ghost use Rattle.dj_names.specs.ModifiedUtf8.{unit_text, units_text};
-ghost use Rattle.dj_tokens.specs.Words.{word_units};
+ghost use Rattle.dj_names.specs.trusted.ModifiedUtf8.{unit_text, units_text};
+ghost use Rattle.dj_tokens.specs.trusted.Words.{word_units};
 ghost use Rattle.dj_tokens.specs.Texts.{text_view, test_of, is_bare};
 ghost use Rattle.std.specs.List.{list_all};
 
@@ -24,7 +24,7 @@ impl Text<'_> {
     ghost use Rattle.std.specs.Prelude.{◌≡◌};
     ghost use Rattle.dj_tokens.specs.Texts.{text_view};
 
-    /// The bytes, lent.
+    /// The bytes, borrowed.
     pub fn as_slice(&self) -> &[u8]
         ensures { result.now ≡ text_view self.now }
     {
@@ -35,7 +35,7 @@ impl Text<'_> {
     }
 }
 
-/// What a name is to be, by its place.
+/// What a name has to be, by its place.
 #[derive(Clone, Copy)]
 pub enum NameKind {
     /// The name of a class or an interface.
@@ -54,7 +54,7 @@ pub enum NameKind {
     ClassOrArray,
 }
 
-/// Whether a text may stand where this is wanted.
+/// Whether a text is allowed where this is wanted.
 pub fn is_of_kind(kind: NameKind, text: &[u8]) -> bool
     ensures { result ≡ test_of kind text.now }
 {

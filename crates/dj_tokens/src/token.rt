@@ -1,5 +1,5 @@
 ghost use Rattle.std.specs.Prelude.{◌≡◌, true, is_some};
-ghost use Rattle.dj_tokens.specs.Words.{string_units};
+ghost use Rattle.dj_tokens.specs.trusted.Words.{string_units};
 
 /// A word, by its bytes.
 #[derive(Clone, Copy)]
@@ -14,7 +14,7 @@ pub struct Quoted<'t> {
     pub ghost closed: { is_some (string_units 0 bytes.now) ≡ true },
 }
 
-/// What stands in a line.
+/// What a line has.
 #[derive(Clone, Copy)]
 pub enum Token<'t> {
     /// A word.

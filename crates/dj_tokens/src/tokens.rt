@@ -1,7 +1,7 @@
 use crate::place::Place;
 use crate::token::{Placed, Token};
 
-/// The tokens that are left of a line that has words, with its end.
+/// The tokens of a line with words that are left, and its end.
 #[derive(Clone, Copy)]
 pub struct LineTokens<'t> {
     pub(crate) place: Place<'t>,
@@ -10,7 +10,7 @@ pub struct LineTokens<'t> {
 
 impl<'t> LineTokens<'t> {
     ghost use Rattle.std.specs.Prelude.{◌≡◌, ◌+◌, ◌^◌, ◌<◌, ◌∷◌, [], length, MatchOption};
-    ghost use Rattle.dj_tokens.specs.Words.{line_tokens};
+    ghost use Rattle.dj_tokens.specs.trusted.Words.{line_tokens};
     ghost use Rattle.dj_tokens.specs.Views.{placed_view, left_of};
 
     /// The first token of a line, and those after it.

@@ -7,12 +7,12 @@ use Rattle.dj_names.specs.declared.lists.NoMemory.{NoMemory}
 use Rattle.dj_names.specs.declared.run.Charge.{Charge}
 use Rattle.dj_names.specs.declared.run.Value.{Value}
 use Rattle.dj_edge.specs.declared.host.HostAnswer.{HostAnswer}
-use Rattle.dj_model.specs.Types.{Declared}
-use Rattle.dj_model.specs.Instructions.{Instruction}
-use Rattle.dj_model.specs.Program.{Program}
-use Rattle.dj_model.specs.State.{Terms, State, Frame, Flow, Goes, Part, Effect}
-use Rattle.dj_model.specs.Effects.{effect}
-use Rattle.dj_model.specs.Step.{settled, part_of, with_part, frame_with}
+use Rattle.dj_model.specs.trusted.Types.{Declared}
+use Rattle.dj_model.specs.trusted.Instructions.{Instruction}
+use Rattle.dj_model.specs.trusted.Program.{Program}
+use Rattle.dj_model.specs.trusted.State.{Terms, State, Frame, Flow, Goes, Part, Effect}
+use Rattle.dj_model.specs.trusted.Effects.{effect}
+use Rattle.dj_model.specs.trusted.Step.{settled, part_of, with_part, frame_with}
 use Rattle.dj_heap.specs.Heaps.{LimitedHeap}
 use Rattle.dj_stack.specs.Frames.{StackFrame, SameFrames, top_locals, top_number}
 use Rattle.dj_effects.specs.Does.{told_operands, way_view}
@@ -58,7 +58,7 @@ acted_some imaged i before after (acts.HeapFull used size) a some = as_many befo
 acted_some imaged i before after acts.Stuck a some = as_many before.frames after.frames a.frames some
 acted_some imaged i before after acts.Call a some = subst (λ (m : Machine). 0 < length m.frames) (sym a.1) some
 
--- it was done, where a flow is told
+-- it was done, where a flow is reported
 pub acts_of : (imaged : Imaged) (i : Instruction) (before after : Machine) (acted : Acted) (flow : Flow) → flow_told acted ≡ Some flow → IsActed imaged i before after acted → Acts imaged i before after acted
 acts_of imaged i before after (acts.Goes way) flow e a = a
 acts_of imaged i before after (acts.Catch exception) flow e a = a
@@ -78,7 +78,7 @@ is_store imaged st acts.Call flow e kept = absurd (none-some flow e)
 -- ---- what follows
 
 module _ (imaged : Imaged) (terms : Terms) (s : State) where
-  -- the operands that the effect tells, or those that the machine has
+  -- the operands of the effect, or those that the machine has
   abbrev Alike : Flow → Frame Declared → List Value → List (Frame Declared) → Type 0
   Alike flow g operands below = told_of (top_settled (program_of imaged) imaged.prefix flow terms (record s { frames = record g { operands = operands } ∷ below }))
       ≡ told_of (top_settled (program_of imaged) imaged.prefix flow terms (record s { frames = g ∷ below }))

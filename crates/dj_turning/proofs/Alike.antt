@@ -1,17 +1,17 @@
--- What is told after an effect doesn't depend on what it does away with: the operands of a frame that is left, and what stands in the state in place of the frames.
+-- What is reported after an effect doesn't depend on what it does away with: the operands of a frame that is left, and what stands in the state in place of the frames.
 use Rattle.std.proofs.Common.{◌≡◌, ℕ, ◌+◌, Bool, true, false, List, [], ◌∷◌, Option, Some, None, refl, sym, ◌∙◌, if◌then◌else◌}
 use Rattle.std.specs.Prelude.{⊤}
 use Rattle.dj_names.specs.declared.descriptor.Ty.{Ty}
 use Rattle.dj_names.specs.declared.run.Value.{Value}
 use Rattle.dj_names.specs.declared.run.Outcome.TheVariants as outcomes
-use Rattle.dj_names.specs.Heaps.{Object, object_size, with_new, next_number}
-use Rattle.dj_model.specs.Types.{Declared, Prefix}
-use Rattle.dj_model.specs.Program.{Program, code_of, is_initialiser}
-use Rattle.dj_model.specs.Linking.{member_class}
-use Rattle.dj_model.specs.State.{Terms, State, Frame, Flow, Way, Next, To, Raise, Back, Goes, Catch, Stop, Call, End}
-use Rattle.dj_model.specs.Arrays.{passes_limit}
-use Rattle.dj_model.specs.Performing.{class_at_number}
-use Rattle.dj_model.specs.Step.{Answer, Ended, ends_with, message_of, handler_of, at_handler, unwound, throw, throw_new, new_exception, new_stop, stop_from, throw_stop_or, settle}
+use Rattle.dj_names.specs.trusted.Heaps.{Object, object_size, with_new, next_number}
+use Rattle.dj_model.specs.trusted.Types.{Declared, Prefix}
+use Rattle.dj_model.specs.trusted.Program.{Program, code_of, is_initialiser}
+use Rattle.dj_model.specs.trusted.Linking.{member_class}
+use Rattle.dj_model.specs.trusted.State.{Terms, State, Frame, Flow, Way, Next, To, Raise, Back, Goes, Catch, Stop, Call, End}
+use Rattle.dj_model.specs.trusted.Arrays.{passes_limit}
+use Rattle.dj_model.specs.trusted.Performing.{class_at_number}
+use Rattle.dj_model.specs.trusted.Step.{Answer, Ended, ends_with, message_of, handler_of, at_handler, unwound, throw, throw_new, new_exception, new_stop, stop_from, throw_stop_or, settle}
 use Rattle.dj_settling.specs.Told.{told_of}
 use Rattle.dj_settling.specs.Settling.{top_settled}
 

@@ -3,18 +3,18 @@ use Rattle.std.proofs.Common.{◌≡◌, ◌<◌, ℕ, Bool, false, List, [], �
 use Rattle.std.specs.Prelude.{Result, Ok, Err, IfOk, IfSome}
 use Rattle.dj_names.specs.declared.descriptor.Ty.{Ty}
 use Rattle.dj_names.specs.declared.lists.NoMemory.{NoMemory}
-use Rattle.dj_names.specs.Types.{Name}
+use Rattle.dj_names.specs.trusted.Types.{Name}
 use Rattle.dj_names.specs.declared.native.NativeId.{NativeId}
 use Rattle.dj_names.specs.declared.run.Charge.{Charge}
 use Rattle.dj_names.specs.declared.run.Value.{Value}
 use Rattle.dj_edge.specs.declared.host.HostAnswer.{HostAnswer}
-use Rattle.dj_model.specs.Types.{Declared, Prefix}
-use Rattle.dj_model.specs.Program.{Program}
-use Rattle.dj_model.specs.Instructions.{Instruction}
-use Rattle.dj_model.specs.State.{Terms, State, Frame, Flow, Part, Effect}
-use Rattle.dj_model.specs.Effects.{effect}
-use Rattle.dj_model.specs.Performing.{native}
-use Rattle.dj_model.specs.Step.{settled, part_of}
+use Rattle.dj_model.specs.trusted.Types.{Declared, Prefix}
+use Rattle.dj_model.specs.trusted.Program.{Program}
+use Rattle.dj_model.specs.trusted.Instructions.{Instruction}
+use Rattle.dj_model.specs.trusted.State.{Terms, State, Frame, Flow, Part, Effect}
+use Rattle.dj_model.specs.trusted.Effects.{effect}
+use Rattle.dj_model.specs.trusted.Performing.{native}
+use Rattle.dj_model.specs.trusted.Step.{settled, part_of}
 use Rattle.dj_model.specs.Laws.{Grows}
 use Rattle.dj_model.proofs.Fits.{Fits}
 use Rattle.dj_model.proofs.EffectFits as effects

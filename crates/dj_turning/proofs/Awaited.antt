@@ -4,7 +4,7 @@ use Rattle.std.proofs.lemmas.Bool.{false≢true}
 use Rattle.dj_names.specs.declared.run.Value.{Value}
 use Rattle.dj_names.specs.declared.native.NativeId.{NativeId}
 use Rattle.dj_names.specs.declared.native.NativeId.TheVariants as natives
-use Rattle.dj_model.specs.Natives.{reference}
+use Rattle.dj_model.specs.trusted.Natives.{reference}
 use Rattle.dj_heap.specs.Heaps.{LimitedHeap}
 use Rattle.dj_stack.specs.Frames.{StackFrame, top_operands, top_room}
 use Rattle.dj_calls.specs.declared.answer.NativeAnswer.{NativeAnswer}

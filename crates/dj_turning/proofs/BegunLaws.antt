@@ -6,17 +6,18 @@ use Rattle.dj_names.specs.declared.descriptor.Ty.{Ty}
 use Rattle.dj_names.specs.declared.lists.NoMemory.{NoMemory}
 use Rattle.dj_names.specs.declared.run.Charge.{Charge}
 use Rattle.dj_edge.specs.declared.host.HostAnswer.{HostAnswer}
-use Rattle.dj_model.specs.Charging.{new_account}
-use Rattle.dj_model.specs.Instructions.{Instruction, calls}
+use Rattle.dj_model.specs.trusted.Charging.{new_account}
+use Rattle.dj_model.specs.trusted.Instructions.{Instruction}
+use Rattle.dj_model.specs.Instructions.{calls}
 use Rattle.dj_model.specs.Sound.{IsSound}
-use Rattle.dj_model.specs.State.{Account, Flow, Effect, Part}
+use Rattle.dj_model.specs.trusted.State.{Account, Flow, Effect, Part}
 use Rattle.dj_heap.specs.Heaps.{LimitedHeap}
 use Rattle.dj_stack.specs.Frames.{StackFrame}
 use Rattle.dj_effects.specs.declared.way.Way.TheVariants as ways
 use Rattle.dj_calls.specs.Known.{AreKnown}
 use Rattle.dj_types.specs.Typed.{types_of}
 use Rattle.dj_image.specs.Imaged.{Imaged, program_of, typed_of}
-use Rattle.dj_host.specs.Hosted.{given_since}
+use Rattle.dj_host.specs.trusted.Hosted.{given_since}
 use Rattle.dj_activations.specs.Activations.{AreActivations}
 use Rattle.dj_activations.specs.Instructions.{instruction_of_number}
 use Rattle.dj_activations.proofs.Standing.{same_stand}
@@ -37,7 +38,7 @@ use Rattle.dj_turning.specs.Begun.{Begins, IsBegun, IsFrugalBegun, IsLeft, with_
 use Rattle.dj_turning.specs.Running.{IsKept, IsRunning, Kept, Running, account_of, terms_of}
 use Rattle.dj_turning.specs.Doing.{ActedSettles, IsStill, IsTop, IsUsed, TurnsBy, stepping}
 use Rattle.dj_turning.specs.Frugal.{IsFrugalActed, IsFrugalRun, IsReadyFor}
-use Rattle.dj_turning.specs.Turning.{Turns}
+use Rattle.dj_turning.specs.Turning.{MakesStep}
 use Rattle.dj_turning.proofs.ActedLaws.{acted_then}
 use Rattle.dj_turning.proofs.HostLaws.{none_given}
 use Rattle.dj_turning.proofs.Performed.{none_then, still_of}
@@ -120,7 +121,7 @@ gone_settles imaged exceeded heap left new acts.Stuck some stand known gone = ab
 module _ (imaged : Imaged) (first : Running) (sound : IsSound (program_of imaged) imaged.prefix) (running : IsRunning imaged first) (method number : ℕ)
     (top : IsTop imaged first.parts.frames method number) (i : Instruction) (at : instruction_of_number imaged method number ≡ Some i) (unused : IsUsed imaged i None)
     (plain : IsFalse (calls i)) (heap : LimitedHeap) (frames : List StackFrame) where
-  went : Goes imaged i first.parts.frames frames first.parts.store.heap heap → AreKnown (types_of (typed_of imaged)) heap → Turns imaged first (with_heap first heap frames) [] settles.Went
+  went : Goes imaged i first.parts.frames frames first.parts.store.heap heap → AreKnown (types_of (typed_of imaged)) heap → MakesStep imaged first (with_heap first heap frames) [] settles.Went
   went goes known =
       turned_so imaged first (with_heap first heap frames) [] settles.Went sound running
       (left_steps imaged first running method number top i at unused goes.left heap goes.acted goes.does heap frames (Ok settles.Went)
@@ -215,16 +216,16 @@ left_then imaged first r acted after frames result running left =
 
 -- where the host isn't asked it gives nothing
 pub begun_went : (imaged : Imaged) (first r : Running) (begun : Begun) (given : List HostAnswer) → begun ≡ begins.Went → Begins imaged first r begun
-    → Turns imaged first r (given_since given given) settles.Went
+    → MakesStep imaged first r (given_since given given) settles.Went
 begun_went imaged first r begun given e begins =
-    subst (λ (gave : List HostAnswer). Turns imaged first r gave settles.Went) (sym (none_given given)) (subst (Begins imaged first r) e begins)
+    subst (λ (gave : List HostAnswer). MakesStep imaged first r gave settles.Went) (sym (none_given given)) (subst (Begins imaged first r) e begins)
 
 pub nothing_then : (imaged : Imaged) (kept : Kept) (first r new : Running) (gave : List HostAnswer) (result : Result Settled NoMemory) → IsKept imaged kept → IsRunning imaged first → r ≡ first
-    → IfOk result (TurnsBy imaged (stepping imaged) r new gave) → IfOk result (Turns imaged first new gave)
+    → IfOk result (TurnsBy imaged (stepping imaged) r new gave) → IfOk result (MakesStep imaged first new gave)
 nothing_then imaged kept first r new gave result is running same turns =
     turned imaged kept first new gave result is running (subst (λ (r : Running). IfOk result (TurnsBy imaged (stepping imaged) r new gave)) same turns)
 
 pub settled_then : (imaged : Imaged) (kept : Kept) (first new : Running) (given : List HostAnswer) (result : Result Settled NoMemory) → IsKept imaged kept → IsRunning imaged first
-    → IfOk result (TurnsBy imaged (stepping imaged) first new []) → IfOk result (Turns imaged first new (given_since given given))
+    → IfOk result (TurnsBy imaged (stepping imaged) first new []) → IfOk result (MakesStep imaged first new (given_since given given))
 settled_then imaged kept first new given result is running turns =
     turned imaged kept first new (given_since given given) result is running (none_then imaged (stepping imaged) first new given result turns)

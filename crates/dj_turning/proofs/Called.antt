@@ -11,23 +11,23 @@ use Rattle.dj_names.specs.declared.run.Outcome.TheVariants as outcomes
 use Rattle.dj_names.specs.declared.run.Raised.{Raised}
 use Rattle.dj_names.specs.declared.run.Value.{Value}
 use Rattle.dj_edge.specs.declared.host.HostAnswer.{HostAnswer}
-use Rattle.dj_names.specs.Types.{Name, parameters_of}
-use Rattle.dj_model.specs.Types.{Declared, Member, Prefix}
-use Rattle.dj_model.specs.Instructions.{Instruction, Invoke, Mode, Virtual, Special, Static, Interface}
-use Rattle.dj_model.specs.Program.{Program, Body, Method, Native, is_static, method_at}
-use Rattle.dj_model.specs.Kinds.{Signature, call_signature, signature_of, with_receiver}
-use Rattle.dj_model.specs.Members.{kinds_of}
+use Rattle.dj_names.specs.trusted.Types.{Name, parameters_of}
+use Rattle.dj_model.specs.trusted.Types.{Declared, Member, Prefix}
+use Rattle.dj_model.specs.trusted.Instructions.{Instruction, Invoke, Mode, Virtual, Special, Static, Interface}
+use Rattle.dj_model.specs.trusted.Program.{Program, Body, Method, Native, is_static, method_at}
+use Rattle.dj_model.specs.trusted.Kinds.{Signature, call_signature, signature_of, with_receiver}
+use Rattle.dj_model.specs.trusted.Members.{kinds_of}
 use Rattle.dj_model.specs.NativeKinds.{native_signature}
-use Rattle.dj_model.specs.Shape.{is_static_mode}
+use Rattle.dj_model.specs.trusted.Shape.{is_static_mode}
 use Rattle.dj_model.specs.Sound.{IsSound, IsSoundBody}
 use Rattle.dj_model.specs.Standing.{AsksNothing}
 use Rattle.dj_model.proofs.SoundFrames.{method_is}
-use Rattle.dj_model.specs.Linking.{declared_of}
-use Rattle.dj_model.specs.State.{Terms, State, Frame, Flow, Raise, Goes, Call, End, Part, Effect, goes}
-use Rattle.dj_model.specs.Effects.{effect}
-use Rattle.dj_model.specs.Step as model
-use Rattle.dj_model.specs.Step.{settle, settled, part_of}
-use Rattle.dj_model.specs.Performing.{native}
+use Rattle.dj_model.specs.trusted.Linking.{declared_of}
+use Rattle.dj_model.specs.trusted.State.{Terms, State, Frame, Flow, Raise, Goes, Call, End, Part, Effect, goes}
+use Rattle.dj_model.specs.trusted.Effects.{effect}
+use Rattle.dj_model.specs.trusted.Step as model
+use Rattle.dj_model.specs.trusted.Step.{settle, settled, part_of}
+use Rattle.dj_model.specs.trusted.Performing.{native}
 use Rattle.dj_heap.specs.Heaps.{LimitedHeap}
 use Rattle.dj_stack.specs.Frames.{StackFrame, top_method, top_operands}
 use Rattle.dj_calls.specs.Counting.{Counter}

@@ -5,8 +5,8 @@ use Rattle.std.specs.Option.{option_map}
 use Rattle.std.proofs.lemmas.Grind.{reverse_onto}
 use Rattle.std.proofs.lemmas.Option.{same_Some}
 use Rattle.dj_names.specs.declared.descriptor.Ty.{Ty}
-use Rattle.dj_names.specs.Heaps.{Object, Instance, Array, Text}
-use Rattle.dj_model.specs.Program.{Program, Code, code_of}
+use Rattle.dj_names.specs.trusted.Heaps.{Object, Instance, Array, Text}
+use Rattle.dj_model.specs.trusted.Program.{Program, Code, code_of}
 use Rattle.dj_model.specs.Sound.{IsProgram}
 use Rattle.dj_heap.specs.Heaps.{LimitedHeap, object_in}
 use Rattle.dj_heap.specs.Calls.{made_as}
@@ -14,7 +14,7 @@ use Rattle.dj_heap.specs.declared.object.Made.TheVariants as made
 use Rattle.dj_stack.specs.Frames.{StackFrame, frame_at, top_operands, top_room}
 use Rattle.dj_calls.specs.Known.{AreKnown}
 use Rattle.dj_calls.proofs.Performed.{known_at}
-use Rattle.dj_program.specs.Codes.{code_in}
+use Rattle.dj_program.specs.trusted.Codes.{code_in}
 use Rattle.dj_program.specs.Views.{parts_of}
 use Rattle.dj_program.specs.declared.code.MethodCode.{MethodCode}
 use Rattle.dj_types.specs.Typed.{types_of}

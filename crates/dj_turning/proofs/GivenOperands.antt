@@ -1,17 +1,17 @@
--- The operand of an instruction of a sound program that makes nothing is told, and is that of no method.
+-- The operand of an instruction of a sound program that makes nothing is given, and is that of no method.
 use Rattle.std.proofs.Common.{◌≡◌, ℕ, Bool, true, false, List, [], ◌∷◌, Option, Some, None, nat_eq, refl, sym, ap, subst, ◌∙◌, if◌then◌else◌, IsFalse}
 use Rattle.std.proofs.lemmas.Bool.{false≢true}
 use Rattle.std.proofs.lemmas.Option.{same_Some}
 use Rattle.dj_ops.specs.declared.instruction.Instr.{Instr}
 use Rattle.dj_ops.specs.declared.instruction.Instr.TheVariants as instrs
-use Rattle.dj_pool.specs.Pool.{Constant}
-use Rattle.dj_check.specs.Instructions.{index_of}
-use Rattle.dj_program.specs.Naming.{named_if}
-use Rattle.dj_model.specs.Types.{Prefix}
-use Rattle.dj_model.specs.Program.{Program}
-use Rattle.dj_model.specs.Instructions as model
-use Rattle.dj_model.specs.Instructions.{Instruction, Named, Nothing, AnInt, ALong, AText, AClass, AField, AMethod, AnInterfaceMethod, Another}
-use Rattle.dj_model.specs.Opcodes.{class_use, instruction_of, interface_call, literal, member}
+use Rattle.dj_pool.specs.trusted.Pool.{Constant}
+use Rattle.dj_check.specs.trusted.Instructions.{index_of}
+use Rattle.dj_program.specs.trusted.Naming.{named_if}
+use Rattle.dj_model.specs.trusted.Types.{Prefix}
+use Rattle.dj_model.specs.trusted.Program.{Program}
+use Rattle.dj_model.specs.trusted.Instructions as model
+use Rattle.dj_model.specs.trusted.Instructions.{Instruction, Named, Nothing, AnInt, ALong, AText, AClass, AField, AMethod, AnInterfaceMethod, Another}
+use Rattle.dj_model.specs.trusted.Opcodes.{class_use, instruction_of, interface_call, literal, member}
 use Rattle.dj_model.specs.Sound.{IsSound, is_linked}
 use Rattle.dj_image.specs.Codes.{IsOperandAt}
 use Rattle.dj_image.specs.Imaged.{Imaged, IsNumbered, program_of}

@@ -10,10 +10,10 @@ use Rattle.dj_names.specs.declared.run.Element.TheVariants as elements
 use Rattle.dj_names.specs.declared.run.Value.{Value}
 use Rattle.dj_names.specs.declared.native.NativeId.{NativeId}
 use Rattle.dj_names.specs.declared.native.NativeId.TheVariants as natives
-use Rattle.dj_names.specs.Heaps.{Object, Instance, Array, Text}
+use Rattle.dj_names.specs.trusted.Heaps.{Object, Instance, Array, Text}
 use Rattle.dj_edge.specs.declared.host.HostAnswer.{HostAnswer}
-use Rattle.dj_model.specs.Natives.{Question, asks, reference}
-use Rattle.dj_model.specs.State.{Flow}
+use Rattle.dj_model.specs.trusted.Natives.{Question, asks, reference}
+use Rattle.dj_model.specs.trusted.State.{Flow}
 use Rattle.dj_heap.specs.Heaps.{LimitedHeap, object_in}
 use Rattle.dj_heap.specs.Calls.{made_as}
 use Rattle.dj_heap.specs.declared.object.Made.TheVariants as made
@@ -21,7 +21,8 @@ use Rattle.dj_calls.specs.declared.answer.NativeAnswer.{NativeAnswer}
 use Rattle.dj_calls.specs.Counting.{Counter}
 use Rattle.dj_calls.specs.Calls.{Calls, Does, flow_told}
 use Rattle.dj_calls.specs.Known.{IsFitting, IsOfChars}
-use Rattle.dj_host.specs.Hosted.{AreOfKind, CallsHost, Takes, given_since, is_hosted, with_answers}
+use Rattle.dj_host.specs.trusted.Hosted.{given_since}
+use Rattle.dj_host.specs.Hosted.{AreOfKind, CallsHost, Takes, is_hosted, with_answers}
 use Rattle.dj_types.specs.Typed.{types_of}
 use Rattle.dj_image.specs.Imaged.{Imaged, program_of, typed_of}
 use Rattle.dj_turning.specs.Natives.{AnswersNative, IsQuiet}

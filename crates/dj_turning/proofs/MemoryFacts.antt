@@ -8,21 +8,21 @@ use Rattle.dj_names.specs.declared.run.Outcome.{Outcome}
 use Rattle.dj_names.specs.declared.run.Outcome.TheVariants as outcomes
 use Rattle.dj_names.specs.declared.run.Value.{Value}
 use Rattle.dj_names.specs.declared.run.Value.TheVariants as values
-use Rattle.dj_names.specs.Heaps.{Heap, Instance}
-use Rattle.dj_names.specs.Types.{class_type}
-use Rattle.dj_names.specs.Library.{int}
-use Rattle.dj_model.specs.Types.{Declared}
-use Rattle.dj_model.specs.Instructions.{AnInt, AText, Instruction, New, PushText, Throw}
-use Rattle.dj_model.specs.Opcodes.{instruction_of, simple}
-use Rattle.dj_model.specs.Program.{Program, Range, code_of, has_initialiser, initialiser_of}
-use Rattle.dj_model.specs.Linking.{most_classes, chain_of, interfaces_from, interfaces_above, is_subclass, is_subtype, field_order, resolve_field, field_count, place_of, static_place}
-use Rattle.dj_model.specs.Values.{on_values}
-use Rattle.dj_model.specs.State.{Frame, State, Terms, Uncounted, instruction_at}
-use Rattle.dj_model.specs.Charging.{new_account}
-use Rattle.dj_model.specs.Effects.{effect, used_class}
-use Rattle.dj_model.specs.Initialisation.{Ready, Waits, is_initialised, mark, with_constants, constants_of, initialise, new_frame}
-use Rattle.dj_model.specs.Step.{Ended, Went, part_of, prepared, settle, step, unwound}
-use Rattle.dj_model.specs.Rows.{a_type, a_with, c_type, catch, class, class_with, code, entry, field, field_with, initialiser_with, invokeinterface, lang_name, ldc, method, method_desc, method_with, newarray, op, throws_plainly, verify_with}
+use Rattle.dj_names.specs.trusted.Heaps.{Heap, Instance}
+use Rattle.dj_names.specs.trusted.Types.{class_type}
+use Rattle.dj_names.specs.trusted.Library.{int}
+use Rattle.dj_model.specs.trusted.Types.{Declared}
+use Rattle.dj_model.specs.trusted.Instructions.{AnInt, AText, Instruction, New, PushText, Throw}
+use Rattle.dj_model.specs.trusted.Opcodes.{instruction_of, simple}
+use Rattle.dj_model.specs.trusted.Program.{Program, Range, code_of, has_initialiser, initialiser_of}
+use Rattle.dj_model.specs.trusted.Linking.{most_classes, chain_of, interfaces_from, interfaces_above, is_subclass, is_subtype, field_order, resolve_field, field_count, place_of, static_place}
+use Rattle.dj_model.specs.trusted.Values.{on_values}
+use Rattle.dj_model.specs.trusted.State.{Frame, State, Terms, Uncounted, instruction_at}
+use Rattle.dj_model.specs.trusted.Charging.{new_account}
+use Rattle.dj_model.specs.trusted.Effects.{effect, used_class}
+use Rattle.dj_model.specs.trusted.Initialisation.{Ready, Waits, is_initialised, mark, with_constants, constants_of, initialise, new_frame}
+use Rattle.dj_model.specs.trusted.Step.{Ended, Went, part_of, prepared, settle, step, unwound}
+use Rattle.dj_model.specs.SmallRuns.{a_type, a_with, c_type, catch, class, class_with, code, entry, field, field_with, initialiser_with, invokeinterface, lang_name, ldc, method, method_desc, method_with, newarray, op, throws_plainly, verify_with}
 use Rattle.dj_turning.specs.Memory.{NeedsNoMemory, makes, raises}
 
 -- ---- which instructions make something
@@ -153,7 +153,7 @@ abbrev first_or : Frame Declared → List (Frame Declared) → Frame Declared
 first_or other [] = other
 first_or other (x ∷ frames) = x
 
--- the top frame and its instruction, of which the rest is told
+-- the top frame and its instruction are those that the rest is about
 same_top : {program : Program} {s : State} (top : Frame Declared) (below : List (Frame Declared)) → s.frames ≡ top ∷ below → (n : NeedsNoMemory program [] terms s) → n.top ≡ top
 same_top top below frames n = sym (ap (first_or top) (sym frames ∙ n.frames))
 

@@ -1,14 +1,14 @@
--- What is asked before the next instruction is done, and what is told where the host isn't asked.
+-- What is asked before the next instruction is done, and what is reported where the host isn't asked.
 use Rattle.std.proofs.Common.{◌≡◌, ◌<◌, ℕ, List, [], length, sym, ap, subst, ◌∙◌}
 use Rattle.std.specs.Prelude.{Result, IfOk}
 use Rattle.dj_names.specs.declared.lists.NoMemory.{NoMemory}
 use Rattle.dj_edge.specs.declared.host.HostAnswer.{HostAnswer}
-use Rattle.dj_model.specs.Types.{Declared}
-use Rattle.dj_model.specs.State.{State, Terms}
-use Rattle.dj_model.specs.Step.{Answer}
+use Rattle.dj_model.specs.trusted.Types.{Declared}
+use Rattle.dj_model.specs.trusted.State.{State, Terms}
+use Rattle.dj_model.specs.trusted.Step.{Answer}
 use Rattle.dj_stack.specs.Frames.{StackFrame, top_method}
 use Rattle.dj_linking.specs.Linked.{class_name}
-use Rattle.dj_host.specs.Hosted.{given_since}
+use Rattle.dj_host.specs.trusted.Hosted.{given_since}
 use Rattle.dj_types.specs.Members.{IsMethodThere}
 use Rattle.dj_types.specs.declared.types.MemberOf.{MemberOf}
 use Rattle.dj_image.specs.Imaged.{Imaged, program_of, typed_of}

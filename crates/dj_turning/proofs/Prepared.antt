@@ -3,20 +3,20 @@ use Rattle.std.proofs.Common.{◌≡◌, ◌<◌, ◌++◌, ℕ, Bool, true, fal
 use Rattle.std.specs.Prelude.{Result, Ok, Err, IfOk}
 use Rattle.dj_names.specs.declared.lists.NoMemory.{NoMemory}
 use Rattle.dj_names.specs.declared.run.Outcome.TheVariants as outcomes
-use Rattle.dj_names.specs.Types.{Name}
+use Rattle.dj_names.specs.trusted.Types.{Name}
 use Rattle.dj_edge.specs.declared.host.HostAnswer.{HostAnswer}
-use Rattle.dj_model.specs.Types.{Declared, Prefix}
-use Rattle.dj_model.specs.Instructions.{Instruction}
-use Rattle.dj_model.specs.Program.{Program}
-use Rattle.dj_model.specs.Linking.{chain}
-use Rattle.dj_model.specs.State.{Terms, Uncounted, State, Frame, instruction_at}
-use Rattle.dj_model.specs.Charging.{new_account}
-use Rattle.dj_model.specs.Effects.{used_class}
-use Rattle.dj_model.specs.Initialisation.{Initialised, Ready, Waits, Fails, most_frames, mark_all, not_initialised, then_ready, constants_of, initialiser_frames, with_frames, initialise}
-use Rattle.dj_model.specs.Step.{prepared, done, act, step_of, step}
+use Rattle.dj_model.specs.trusted.Types.{Declared, Prefix}
+use Rattle.dj_model.specs.trusted.Instructions.{Instruction}
+use Rattle.dj_model.specs.trusted.Program.{Program}
+use Rattle.dj_model.specs.trusted.Linking.{chain}
+use Rattle.dj_model.specs.trusted.State.{Terms, Uncounted, State, Frame, instruction_at}
+use Rattle.dj_model.specs.trusted.Charging.{new_account}
+use Rattle.dj_model.specs.trusted.Effects.{used_class}
+use Rattle.dj_model.specs.trusted.Initialisation.{Initialised, Ready, Waits, Fails, most_frames, mark_all, not_initialised, then_ready, constants_of, initialiser_frames, with_frames, initialise}
+use Rattle.dj_model.specs.trusted.Step.{prepared, done, act, step_of, step}
 use Rattle.dj_model.specs.Standing.{AreStanding}
-use Rattle.dj_model.specs.Runs as runs
-use Rattle.dj_model.specs.Runs.{empty_heap}
+use Rattle.dj_model.specs.trusted.Runs as runs
+use Rattle.dj_model.specs.trusted.Runs.{empty_heap}
 use Rattle.dj_model.specs.Laws.{Grows}
 use Rattle.dj_model.proofs.Frames.{KeepsMore, all_constants_keep}
 use Rattle.dj_model.proofs.Growth.{grows_same}
@@ -41,7 +41,7 @@ use Rattle.dj_turning.specs.Doing.{IsStill, IsTop, IsUsed, PreparesNext, TurnsBy
 use Rattle.dj_turning.proofs.Stops.{stop_kept}
 use Rattle.dj_turning.proofs.Tops.{next_is, top_stands}
 
--- ---- what the initialisation of a class tells
+-- ---- what the initialisation of a class reports
 
 abbrev pub with_run_parts : Running → Parts → Running
 with_run_parts r after = record r { parts = after }

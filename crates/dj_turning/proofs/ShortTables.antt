@@ -1,4 +1,4 @@
--- What holds of the code of class files, as the image tells the bodies of its methods.
+-- What holds of the code of class files, as the image reports the bodies of its methods.
 use Rattle.std.proofs.Common.{◌≡◌, ◌<◌, ◌^◌, ℕ, true, nat_le, List, length, map, Option, Some, None, refl, sym, ap, subst, ◌∙◌, inl, inr, Bor, arith, ◌+◌, ◌≤◌}
 use Rattle.std.specs.Prelude.{slice_get}
 use Rattle.std.proofs.lemmas.Bool.{cases_lt}
@@ -8,10 +8,10 @@ use Rattle.std.proofs.lemmas.Option.{same_Some, slice_get_within}
 use Rattle.dj_names.specs.declared.native.NativeId.{NativeId}
 use Rattle.dj_ops.specs.declared.instruction.Instr.{Instr}
 use Rattle.dj_ops.specs.declared.instruction.Instr.TheVariants as instrs
-use Rattle.dj_model.specs.Program.{Abstract, Code, Body, Native, Runs}
-use Rattle.dj_model.specs.Linking.{FoundMethod}
-use Rattle.dj_program.specs.Codes.{code_in, range_in}
-use Rattle.dj_program.specs.Naming.{instruction_in}
+use Rattle.dj_model.specs.trusted.Program.{Abstract, Code, Body, Native, Runs}
+use Rattle.dj_model.specs.trusted.Linking.{FoundMethod}
+use Rattle.dj_program.specs.trusted.Codes.{code_in, range_in}
+use Rattle.dj_program.specs.trusted.Naming.{instruction_in}
 use Rattle.dj_program.specs.Views.{parts_of}
 use Rattle.dj_program.specs.declared.code.MethodCode.{MethodCode}
 use Rattle.dj_types.specs.Members.{all_methods}
@@ -21,7 +21,7 @@ use Rattle.dj_image.specs.declared.image.Body.TheVariants as variants
 use Rattle.dj_unwinding.specs.Short.{AreShort}
 use Rattle.dj_turning.specs.Short.{AreBounded, IsBounded, LoadByKnown, is_known_load}
 
--- the body that is told is that of each method that stands there
+-- the body that is reported is that of each method that stands there
 runs_there : (imaged : Imaged) (method : ℕ) (found other : FoundMethod) (code : Code) → slice_get (all_methods (program_of imaged)) method ≡ Some other
     → slice_get (all_methods (program_of imaged)) method ≡ Some found → found.method.body ≡ Runs code → other.method.body ≡ Runs code
 runs_there imaged method found other code other_there there runs = ap (λ (f : FoundMethod). f.method.body) (same_Some other found (sym other_there ∙ there)) ∙ runs

@@ -7,20 +7,22 @@ use Rattle.dj_names.specs.declared.descriptor.Kind.{Kind}
 use Rattle.dj_names.specs.declared.descriptor.Ty.{Ty}
 use Rattle.dj_names.specs.declared.run.Outcome.TheVariants as outcomes
 use Rattle.dj_names.specs.declared.run.Value.{Value}
-use Rattle.dj_names.specs.Heaps.{Object, class_of, object_map}
-use Rattle.dj_names.specs.Types.{Name}
-use Rattle.dj_names.specs.Values.{value_kind}
+use Rattle.dj_names.specs.trusted.Heaps.{Object, class_of}
+use Rattle.dj_names.specs.Heaps.{object_map}
+use Rattle.dj_names.specs.trusted.Types.{Name}
+use Rattle.dj_names.specs.trusted.Values.{value_kind}
 use Rattle.dj_edge.specs.declared.host.HostAnswer.{HostAnswer}
-use Rattle.dj_model.specs.Types.{Declared}
-use Rattle.dj_model.specs.Instructions.{Instruction, calls}
-use Rattle.dj_model.specs.Program.{Program, is_initialiser}
-use Rattle.dj_model.specs.State as model
-use Rattle.dj_model.specs.State.{Terms, Uncounted, State, Account, Frame, Part, Flow, Goes, Catch, End, Effect}
-use Rattle.dj_model.specs.Charging.{new_account}
-use Rattle.dj_model.specs.Effects as effects
-use Rattle.dj_model.specs.Kinds.{call_signature}
-use Rattle.dj_model.specs.Performing.{class_in}
-use Rattle.dj_model.specs.Step.{Went, frame_with, part_of, settle, settled, with_part}
+use Rattle.dj_model.specs.trusted.Types.{Declared}
+use Rattle.dj_model.specs.trusted.Instructions.{Instruction}
+use Rattle.dj_model.specs.Instructions.{calls}
+use Rattle.dj_model.specs.trusted.Program.{Program, is_initialiser}
+use Rattle.dj_model.specs.trusted.State as model
+use Rattle.dj_model.specs.trusted.State.{Terms, Uncounted, State, Account, Frame, Part, Flow, Goes, Catch, End, Effect}
+use Rattle.dj_model.specs.trusted.Charging.{new_account}
+use Rattle.dj_model.specs.trusted.Effects as effects
+use Rattle.dj_model.specs.trusted.Kinds.{call_signature}
+use Rattle.dj_model.specs.trusted.Performing.{class_in}
+use Rattle.dj_model.specs.trusted.Step.{Went, frame_with, part_of, settle, settled, with_part}
 use Rattle.dj_model.specs.Sound.{IsSound}
 use Rattle.dj_model.specs.Standing.{AreCallers, AreStanding, IsAt, IsCaller, IsSoundFlow, IsWaiting, result_of}
 use Rattle.dj_natives.specs.Numbered as numbered

@@ -1,5 +1,5 @@
 -- How a run goes on after an instruction of a sound program: an object that is thrown is of a class; the numbers at which the run goes on are those of instructions; and what a step that
--- needs no memory tells of the effect.
+-- needs no memory says of the effect.
 use Rattle.std.proofs.Common.{◌≡◌, ℕ, zero, suc, ◌+◌, ◌<◌, Bool, true, false, ◌||◌, ◌&&◌, List, [], ◌∷◌, ◌++◌, length, Option, Some, None, nat_eq, nat_lt, refl, sym, ap, subst, ◌∙◌, inl, inr, arith, IsTrue, IsFalse, if◌then◌else◌, ℤ}
 use Rattle.std.specs.Prelude.{⊤, IfSome, Result, Ok, Err, codes}
 use Rattle.std.specs.Option.{option_map}
@@ -18,25 +18,25 @@ use Rattle.dj_names.specs.declared.run.Raised.{Raised}
 use Rattle.dj_names.specs.declared.run.Raised.TheVariants as raises
 use Rattle.dj_names.specs.declared.run.Value.{Value}
 use Rattle.dj_names.specs.declared.run.Value.TheVariants as values
-use Rattle.dj_names.specs.Heaps.{Heap, Object, object_size}
-use Rattle.dj_names.specs.Library.{stop_class}
-use Rattle.dj_names.specs.Types.{Name, class_type, field_kind, parameters_of, same_name, same_of}
+use Rattle.dj_names.specs.trusted.Heaps.{Heap, Object, object_size}
+use Rattle.dj_names.specs.trusted.Library.{stop_class}
+use Rattle.dj_names.specs.trusted.Types.{Name, class_type, field_kind, parameters_of, same_name, same_of}
 use Rattle.dj_edge.specs.declared.host.HostAnswer.{HostAnswer}
-use Rattle.dj_model.specs.Types.{Declared, Member, Prefix, is_stop, throwable_name}
-use Rattle.dj_model.specs.Instructions.{Mode, Virtual, Special, Static, Interface, Instruction, Nop, Push, PushText, Load, Store, Increment, LoadElement, StoreElement, Move, Compute, Convert, Branch, Goto, Switch, Return, GetStatic, PutStatic, GetField, PutField, Invoke, New, NewArray, ArrayLength, Throw, CheckCast, InstanceOf, Monitor, Other, ends, targets}
-use Rattle.dj_model.specs.Arrays.{OnHeap, make, passes_limit}
-use Rattle.dj_model.specs.Numbers.{is_of_kind}
-use Rattle.dj_model.specs.Program.{Program, Body, Abstract, Native, Runs}
-use Rattle.dj_model.specs.Linking.{FoundField, FoundMethod, is_below, is_subtype, place_of, resolve_field, resolve_method, select, special_method, takes_arrays}
-use Rattle.dj_model.specs.State.{Terms, Counting, Uncounted, Metered, Accounted, State, Frame, Part, Way, Next, Raise, Flow, Goes, Catch, Stop, Call, End, Effect, goes}
-use Rattle.dj_model.specs.Values.{Values}
-use Rattle.dj_model.specs.Charging.{Charged, Fine, Over, charge_one}
-use Rattle.dj_model.specs.Natives.{Answer, Returns, Raises, MakesText, KeepsText, MakesChars, SetsFields, SetsElements, Adds, Rethrows, Question, asks, answered, answer, host_answer}
-use Rattle.dj_model.specs.Performing.{class_at_number, is_instance, seen, Counted, Within, Halts, ended_by, thrown_by, counted, Making, Made, NotMade, making, making_then, text_object, chars_object, set_elements, raises_after, returns_made, keeps_made, goes_on, perform, with_answer, host_asked, native_asked, native}
-use Rattle.dj_model.specs.Members.{Arguments, Holder, NullHolder, NoHolder, Holds, Kept, are_instances, arguments_of, asked_class, broken, call, call_with, check_cast, get_field, get_from, get_static, holder_at, instance_of, invoke, kinds_of, push_kept, put_field, put_in, put_static, received, run_body, run_method, throw_top, with_literal}
-use Rattle.dj_model.specs.Effects.{effect, flow_of, heap_effect, new_object, values_effect}
-use Rattle.dj_model.specs.Initialisation.{Initialised}
-use Rattle.dj_model.specs.Step.{Went, act, done, part_of, settled, step, step_of}
+use Rattle.dj_model.specs.trusted.Types.{Declared, Member, Prefix, is_stop, throwable_name}
+use Rattle.dj_model.specs.trusted.Instructions.{Mode, Virtual, Special, Static, Interface, Instruction, Nop, Push, PushText, Load, Store, Increment, LoadElement, StoreElement, Move, Compute, Convert, Branch, Goto, Switch, Return, GetStatic, PutStatic, GetField, PutField, Invoke, New, NewArray, ArrayLength, Throw, CheckCast, InstanceOf, Monitor, Other, ends, targets}
+use Rattle.dj_model.specs.trusted.Arrays.{OnHeap, make, passes_limit}
+use Rattle.dj_model.specs.trusted.Numbers.{is_of_kind}
+use Rattle.dj_model.specs.trusted.Program.{Program, Body, Abstract, Native, Runs}
+use Rattle.dj_model.specs.trusted.Linking.{FoundField, FoundMethod, is_below, is_subtype, place_of, resolve_field, resolve_method, select, special_method, takes_arrays}
+use Rattle.dj_model.specs.trusted.State.{Terms, Counting, Uncounted, Metered, Accounted, State, Frame, Part, Way, Next, Raise, Flow, Goes, Catch, Stop, Call, End, Effect, goes}
+use Rattle.dj_model.specs.trusted.Values.{Values}
+use Rattle.dj_model.specs.trusted.Charging.{Charged, Fine, Over, charge_one}
+use Rattle.dj_model.specs.trusted.Natives.{Answer, Returns, Raises, MakesText, KeepsText, MakesChars, SetsFields, SetsElements, Adds, Rethrows, Question, asks, answered, answer, host_answer}
+use Rattle.dj_model.specs.trusted.Performing.{class_at_number, is_instance, seen, Counted, Within, Halts, ended_by, thrown_by, counted, Making, Made, NotMade, making, making_then, text_object, chars_object, set_elements, raises_after, returns_made, keeps_made, goes_on, perform, with_answer, host_asked, native_asked, native}
+use Rattle.dj_model.specs.trusted.Members.{Arguments, Holder, NullHolder, NoHolder, Holds, Kept, are_instances, arguments_of, asked_class, broken, call, call_with, check_cast, get_field, get_from, get_static, holder_at, instance_of, invoke, kinds_of, push_kept, put_field, put_in, put_static, received, run_body, run_method, throw_top, with_literal}
+use Rattle.dj_model.specs.trusted.Effects.{effect, flow_of, heap_effect, new_object, values_effect}
+use Rattle.dj_model.specs.trusted.Initialisation.{Initialised}
+use Rattle.dj_model.specs.trusted.Step.{Went, act, done, part_of, settled, step, step_of}
 use Rattle.dj_model.specs.Sound.{IsSound}
 use Rattle.dj_model.specs.Standing.{IsAmong, IsAt}
 use Rattle.dj_model.proofs.Flows.{either_way}

@@ -7,18 +7,19 @@ use Rattle.dj_names.specs.declared.descriptor.Desc.{Desc}
 use Rattle.dj_names.specs.declared.descriptor.Kind.{Kind}
 use Rattle.dj_names.specs.declared.descriptor.Kind.TheVariants as kinds
 use Rattle.dj_names.specs.declared.run.Value.{Value}
-use Rattle.dj_names.specs.Values.{value_kind}
-use Rattle.dj_names.specs.Types.{Name, field_kind}
-use Rattle.dj_model.specs.Types.{Declared}
-use Rattle.dj_model.specs.Instructions.{Instruction, Nop, Push, PushText, Load, Store, Increment, LoadElement, StoreElement, Move, Compute, Convert, Branch, Goto, Switch, Return, GetStatic, PutStatic, GetField, PutField, Invoke, New, NewArray, ArrayLength, Throw, CheckCast, InstanceOf, Monitor, Other, calls, ends, targets}
-use Rattle.dj_model.specs.Arrays.{access_kind}
-use Rattle.dj_model.specs.Numbers.{is_wide, left_kind, right_kind, given_kind, taken_kind, converted_kind, tested_kinds}
-use Rattle.dj_model.specs.Values.{last_slot, moved, stored}
-use Rattle.dj_model.specs.Program.{Program, Code, code_of, is_static}
-use Rattle.dj_model.specs.State.{Terms, Frame, Part, Effect, Next, To, Raise, Back, Flow, Goes, Catch, Stop, Call, End, instruction_in, instruction_at}
-use Rattle.dj_model.specs.Kinds.{Signature, Kinds, call_signature, kind_slots, depth, signature_of}
-use Rattle.dj_model.specs.Effects as effects
-use Rattle.dj_model.specs.Shape.{after, call_kinds, counts, get_kind, is_static_mode, leaving, put_kind, result_list, store_kind, taken, with_result}
+use Rattle.dj_names.specs.trusted.Values.{value_kind}
+use Rattle.dj_names.specs.trusted.Types.{Name, field_kind}
+use Rattle.dj_model.specs.trusted.Types.{Declared}
+use Rattle.dj_model.specs.trusted.Instructions.{Instruction, Nop, Push, PushText, Load, Store, Increment, LoadElement, StoreElement, Move, Compute, Convert, Branch, Goto, Switch, Return, GetStatic, PutStatic, GetField, PutField, Invoke, New, NewArray, ArrayLength, Throw, CheckCast, InstanceOf, Monitor, Other, ends, targets}
+use Rattle.dj_model.specs.Instructions.{calls}
+use Rattle.dj_model.specs.trusted.Arrays.{access_kind}
+use Rattle.dj_model.specs.trusted.Numbers.{is_wide, left_kind, right_kind, given_kind, taken_kind, converted_kind, tested_kinds}
+use Rattle.dj_model.specs.trusted.Values.{last_slot, moved, stored}
+use Rattle.dj_model.specs.trusted.Program.{Program, Code, code_of, is_static}
+use Rattle.dj_model.specs.trusted.State.{Terms, Frame, Part, Effect, Next, To, Raise, Back, Flow, Goes, Catch, Stop, Call, End, instruction_in, instruction_at}
+use Rattle.dj_model.specs.trusted.Kinds.{Signature, Kinds, call_signature, kind_slots, depth, signature_of}
+use Rattle.dj_model.specs.trusted.Effects as effects
+use Rattle.dj_model.specs.trusted.Shape.{after, call_kinds, counts, get_kind, is_static_mode, leaving, put_kind, result_list, store_kind, taken, with_result}
 use Rattle.dj_model.specs.Sound.{IsSound, is_linked}
 use Rattle.dj_model.specs.Standing.{AreStanding, HasKinds, HasSoundEffect, IsAmong, IsAt, IsSoundFlow, IsStarved, LocalsHave, result_of}
 use Rattle.dj_model.proofs.MappedNames.{either}
@@ -105,7 +106,7 @@ module _ (code : Code) (k : Kinds) where
   after_fits signature Monitor left e = gives_fits (kinds.Ref ∷ []) None left e
   after_fits signature (Other op named) left e = absurd cc
 
--- ---- so many operands have room
+-- ---- this many operands have room
 
 one_slot : (kind : Kind) → 1 ≤ kind_slots kind
 one_slot kind = elim (either (is_wide kind)) [ inl e ↦ rw e (omega arith) | inr e ↦ rw e (omega arith) ]

@@ -3,12 +3,12 @@ use Rattle.std.proofs.Common.{◌≡◌, ◌<◌, ◌+◌, ◌^◌, ℕ, zero, s
 use Rattle.std.specs.List.{AllByRecursion}
 use Rattle.std.proofs.lemmas.Bool.{false≢true}
 use Rattle.std.proofs.lemmas.Grind.{reverse_onto}
-use Rattle.dj_names.specs.Types.{Name}
-use Rattle.dj_model.specs.Types.{Declared, Prefix}
-use Rattle.dj_model.specs.Program.{Program}
-use Rattle.dj_model.specs.Linking.{chain, chain_of, most_classes}
-use Rattle.dj_model.specs.State.{Frame, State, Terms}
-use Rattle.dj_model.specs.Initialisation.{Initialised, Ready, Waits, Fails, constants_of, initialise, initialiser_frames, is_initialised, mark, mark_all, most_frames, not_initialised, then_ready, with_frames}
+use Rattle.dj_names.specs.trusted.Types.{Name}
+use Rattle.dj_model.specs.trusted.Types.{Declared, Prefix}
+use Rattle.dj_model.specs.trusted.Program.{Program}
+use Rattle.dj_model.specs.trusted.Linking.{chain, chain_of, most_classes}
+use Rattle.dj_model.specs.trusted.State.{Frame, State, Terms}
+use Rattle.dj_model.specs.trusted.Initialisation.{Initialised, Ready, Waits, Fails, constants_of, initialise, initialiser_frames, is_initialised, mark, mark_all, most_frames, not_initialised, then_ready, with_frames}
 use Rattle.dj_names.specs.declared.run.Outcome.TheVariants as outcomes
 use Rattle.dj_model.proofs.Frames.{KeepsMore, all_constants_keep, marked}
 use Rattle.dj_model.proofs.MappedNames.{either}

@@ -3,21 +3,22 @@ use Rattle.std.proofs.Common.{◌≡◌, ◌<◌, ℕ, Bool, true, false, List, 
 use Rattle.std.specs.Prelude.{slice_get}
 use Rattle.std.proofs.lemmas.Bool.{false≢true}
 use Rattle.std.proofs.lemmas.Option.{none-some, same_Some}
-use Rattle.dj_names.specs.Types.{Name}
+use Rattle.dj_names.specs.trusted.Types.{Name}
 use Rattle.dj_edge.specs.declared.host.HostAnswer.{HostAnswer}
-use Rattle.dj_model.specs.Types.{Declared, Member}
-use Rattle.dj_model.specs.Instructions as model
-use Rattle.dj_model.specs.Instructions.{Instruction, Invoke, Mode, calls}
-use Rattle.dj_model.specs.Program.{Code, Program, Runs}
-use Rattle.dj_model.specs.State.{Effect, Frame, State, Terms, Part, Next, To, Raise, Back, Flow, Goes, Catch, Stop, Call, End, instruction_at}
-use Rattle.dj_model.specs.Effects as effects
-use Rattle.dj_model.specs.Effects.{used_class}
-use Rattle.dj_model.specs.Initialisation.{Ready, initialise, is_initialised, not_initialised}
-use Rattle.dj_model.specs.Linking.{FoundMethod, option_list}
-use Rattle.dj_model.specs.Runs.{empty_heap}
+use Rattle.dj_model.specs.trusted.Types.{Declared, Member}
+use Rattle.dj_model.specs.trusted.Instructions as model
+use Rattle.dj_model.specs.trusted.Instructions.{Instruction, Invoke, Mode}
+use Rattle.dj_model.specs.Instructions.{calls}
+use Rattle.dj_model.specs.trusted.Program.{Code, Program, Runs}
+use Rattle.dj_model.specs.trusted.State.{Effect, Frame, State, Terms, Part, Next, To, Raise, Back, Flow, Goes, Catch, Stop, Call, End, instruction_at}
+use Rattle.dj_model.specs.trusted.Effects as effects
+use Rattle.dj_model.specs.trusted.Effects.{used_class}
+use Rattle.dj_model.specs.trusted.Initialisation.{Ready, initialise, is_initialised, not_initialised}
+use Rattle.dj_model.specs.trusted.Linking.{FoundMethod, option_list}
+use Rattle.dj_model.specs.trusted.Runs.{empty_heap}
 use Rattle.dj_model.specs.Sound.{IsProgram, IsSound}
 use Rattle.dj_model.specs.Standing.{AreStanding}
-use Rattle.dj_model.specs.Step.{Went, part_of, prepared, settled}
+use Rattle.dj_model.specs.trusted.Step.{Went, part_of, prepared, settled}
 use Rattle.dj_heap.specs.Heaps.{LimitedHeap}
 use Rattle.dj_stack.specs.Frames.{StackFrame, top_method, top_operands, top_room}
 use Rattle.dj_calls.specs.Calls.{counting_of}

@@ -1,9 +1,9 @@
 -- The first object of a class stays the first one, as heaps only grow.
 use Rattle.std.proofs.Common.{◌≡◌, ℕ, ◌+◌, Bool, true, false, List, [], ◌∷◌, ◌++◌, map, Option, Some, None, refl, sym, ap, ◌∙◌, if◌then◌else◌}
 use Rattle.dj_names.specs.declared.descriptor.Ty.{Ty}
-use Rattle.dj_names.specs.Heaps.{Object, Instance, Array, Text, Heap, class_of}
-use Rattle.dj_model.specs.Types.{Prefix, is_stop}
-use Rattle.dj_model.specs.Step.{stop_from}
+use Rattle.dj_names.specs.trusted.Heaps.{Object, Instance, Array, Text, Heap, class_of}
+use Rattle.dj_model.specs.trusted.Types.{Prefix, is_stop}
+use Rattle.dj_model.specs.trusted.Step.{stop_from}
 use Rattle.dj_model.specs.Laws.{Grows, blank}
 use Rattle.dj_heap.specs.Heaps.{LimitedHeap}
 use Rattle.dj_calls.specs.Calls.{typed_heap}

@@ -1,9 +1,9 @@
 -- What is made once of an image.
 use Rattle.std.proofs.Common.{◌≡◌, ◌∙◌, ℕ, Option, Some, refl, ap, subst}
 use Rattle.std.specs.Prelude.{slice_get, IfSome}
-use Rattle.dj_names.specs.Types.{Name, class_type}
-use Rattle.dj_model.specs.Types.{throwable_name}
-use Rattle.dj_model.specs.Program.{Program}
+use Rattle.dj_names.specs.trusted.Types.{Name, class_type}
+use Rattle.dj_model.specs.trusted.Types.{throwable_name}
+use Rattle.dj_model.specs.trusted.Program.{Program}
 use Rattle.dj_model.specs.Sound.{IsSound}
 use Rattle.dj_classes.specs.Tables.{class_number}
 use Rattle.dj_linking.specs.Linked.{Linked, prefix_of}

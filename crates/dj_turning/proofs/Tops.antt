@@ -1,7 +1,7 @@
 -- The top frame of frames that stand.
 use Rattle.std.proofs.Common.{◌≡◌, ◌<◌, ℕ, List, [], ◌∷◌, length, Option, Some, refl, sym, ap, subst, ◌∙◌, arith}
-use Rattle.dj_model.specs.Program.{Program, Code, code_of}
-use Rattle.dj_model.specs.State.{instruction_in}
+use Rattle.dj_model.specs.trusted.Program.{Program, Code, code_of}
+use Rattle.dj_model.specs.trusted.State.{instruction_in}
 use Rattle.dj_model.specs.Standing.{AreStanding}
 use Rattle.dj_model.proofs.SoundFrames.{code_is}
 use Rattle.dj_stack.specs.Frames.{StackFrame, top_method, top_number}

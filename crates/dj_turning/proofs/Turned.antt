@@ -5,14 +5,14 @@ use Rattle.dj_names.specs.declared.lists.NoMemory.{NoMemory}
 use Rattle.dj_names.specs.declared.native.NativeId.{NativeId}
 use Rattle.dj_names.specs.declared.run.Value.{Value}
 use Rattle.dj_edge.specs.declared.host.HostAnswer.{HostAnswer}
-use Rattle.dj_model.specs.Types.{Declared, Prefix}
-use Rattle.dj_model.specs.Instructions.{Instruction}
-use Rattle.dj_model.specs.Natives.{Question, asks}
-use Rattle.dj_model.specs.Performing.{native, native_asked, host_asked, with_answer}
-use Rattle.dj_model.specs.Program.{Program}
-use Rattle.dj_model.specs.State.{Terms, State, Frame, Part, Effect}
-use Rattle.dj_model.specs.Initialisation.{Initialised}
-use Rattle.dj_model.specs.Step.{Answer, Went, Ended, IllFormed, act, done, part_of, settled, step, step_of}
+use Rattle.dj_model.specs.trusted.Types.{Declared, Prefix}
+use Rattle.dj_model.specs.trusted.Instructions.{Instruction}
+use Rattle.dj_model.specs.trusted.Natives.{Question, asks}
+use Rattle.dj_model.specs.trusted.Performing.{native, native_asked, host_asked, with_answer}
+use Rattle.dj_model.specs.trusted.Program.{Program}
+use Rattle.dj_model.specs.trusted.State.{Terms, State, Frame, Part, Effect}
+use Rattle.dj_model.specs.trusted.Initialisation.{Initialised}
+use Rattle.dj_model.specs.trusted.Step.{Answer, Went, Ended, IllFormed, act, done, part_of, settled, step, step_of}
 use Rattle.dj_model.specs.Sound.{IsSound}
 use Rattle.dj_model.specs.Standing.{AreStanding, AnswerStands, IsStarvedAt, IsUnanswered}
 use Rattle.dj_model.specs.Laws.{AnswerGrows}
@@ -25,7 +25,7 @@ use Rattle.dj_settling.specs.declared.settled.Settled.TheVariants as settles
 use Rattle.dj_settling.specs.Told.{On, told_of}
 use Rattle.dj_settling.specs.Settling.{IsStop}
 use Rattle.dj_turning.specs.Running.{IsKept, IsRunning, Kept, Running, state_of, terms_of}
-use Rattle.dj_turning.specs.Turning.{Turns}
+use Rattle.dj_turning.specs.Turning.{MakesStep}
 use Rattle.dj_turning.specs.Doing.{TurnsBy, stepping}
 use Rattle.dj_turning.proofs.Stops.{stop_kept}
 
@@ -97,7 +97,7 @@ module _ (imaged : Imaged) (old new : Running) (gave : List HostAnswer) (sound :
   }
 
 pub turned_so : (imaged : Imaged) (old new : Running) (gave : List HostAnswer) (settled : Settled) → IsSound (program_of imaged) imaged.prefix → IsRunning imaged old
-    → TurnsBy imaged (stepping imaged) old new gave settled → Turns imaged old new gave settled
+    → TurnsBy imaged (stepping imaged) old new gave settled → MakesStep imaged old new gave settled
 turned_so imaged old new gave settled sound running turns = record {
   tells = turns.tells;
   limit = turns.limit;
@@ -106,6 +106,6 @@ turned_so imaged old new gave settled sound running turns = record {
 }
 
 pub turned : (imaged : Imaged) (kept : Kept) (old new : Running) (gave : List HostAnswer) (result : Result Settled NoMemory) → IsKept imaged kept → IsRunning imaged old
-    → IfOk result (TurnsBy imaged (stepping imaged) old new gave) → IfOk result (Turns imaged old new gave)
+    → IfOk result (TurnsBy imaged (stepping imaged) old new gave) → IfOk result (MakesStep imaged old new gave)
 turned imaged kept old new gave (Err e) is running turns = tt
 turned imaged kept old new gave (Ok settled) is running turns = turned_so imaged old new gave settled is.sound running turns

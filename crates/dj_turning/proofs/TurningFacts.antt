@@ -1,15 +1,15 @@
--- What the parts of a step tell, by plain values.
+-- What the parts of a step say, by plain values.
 use Rattle.std.proofs.Common.{◌≡◌, ℕ, [], ◌∷◌, Option, Some, None, refl, arith}
 use Rattle.dj_names.specs.declared.native.NativeId.TheVariants as natives
 use Rattle.dj_names.specs.declared.run.Charge.{Charge}
 use Rattle.dj_names.specs.declared.run.Value.TheVariants as values
-use Rattle.dj_model.specs.Instructions.{Nop}
-use Rattle.dj_model.specs.State.{Terms, Uncounted, State}
-use Rattle.dj_model.specs.Charging.{new_account}
-use Rattle.dj_model.specs.Effects.{used_class}
-use Rattle.dj_model.specs.Natives.{Nanos, Word}
-use Rattle.dj_model.specs.Step.{IllFormed}
-use Rattle.dj_model.specs.Runs.{empty_heap}
+use Rattle.dj_model.specs.trusted.Instructions.{Nop}
+use Rattle.dj_model.specs.trusted.State.{Terms, Uncounted, State}
+use Rattle.dj_model.specs.trusted.Charging.{new_account}
+use Rattle.dj_model.specs.trusted.Effects.{used_class}
+use Rattle.dj_model.specs.trusted.Natives.{Nanos, Word}
+use Rattle.dj_model.specs.trusted.Step.{IllFormed}
+use Rattle.dj_model.specs.trusted.Runs.{empty_heap}
 use Rattle.dj_heap.specs.Heaps.{LimitedHeap}
 use Rattle.dj_calls.specs.Counting.{Counter}
 use Rattle.dj_image.specs.Imaged.{Imaged}
@@ -35,7 +35,7 @@ no_step = refl
 no_top : (method number : ℕ) → IsTop image [] method number → ⊥
 no_top method number top = let some = top.some in absurd (omega (arith, some))
 
--- nop uses no class, and isn't told to use one
+-- nop uses no class, and isn't reported to use one
 none_used : IsUsed image Nop None
 unfolding used_class
 none_used = refl

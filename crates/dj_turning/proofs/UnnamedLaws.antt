@@ -1,10 +1,11 @@
 -- An instruction that names nothing uses no class and calls nothing.
 use Rattle.std.proofs.Common.{◌≡◌, ℕ, Some, None, refl, ap, ◌∙◌, IsFalse}
 use Rattle.dj_ops.specs.declared.instruction.Instr.{Instr}
-use Rattle.dj_program.specs.Naming.{named_if}
-use Rattle.dj_model.specs.Instructions.{Named, calls}
-use Rattle.dj_model.specs.Opcodes.{instruction_of}
-use Rattle.dj_model.specs.Effects.{used_class}
+use Rattle.dj_program.specs.trusted.Naming.{named_if}
+use Rattle.dj_model.specs.trusted.Instructions.{Named}
+use Rattle.dj_model.specs.Instructions.{calls}
+use Rattle.dj_model.specs.trusted.Opcodes.{instruction_of}
+use Rattle.dj_model.specs.trusted.Effects.{used_class}
 use Rattle.dj_effects.specs.Actions.{action_view}
 use Rattle.dj_effects.specs.declared.actions.PlainAction.{PlainAction}
 use Rattle.dj_effects.specs.declared.actions.PlainAction.TheVariants as actions

@@ -8,16 +8,16 @@ use Rattle.dj_names.specs.declared.descriptor.Base.{Base}
 use Rattle.dj_names.specs.declared.descriptor.Ty.{Ty}
 use Rattle.dj_names.specs.declared.run.Element.{Element}
 use Rattle.dj_names.specs.declared.lists.NoMemory.{NoMemory}
-use Rattle.dj_names.specs.Types.{Name, base_array}
+use Rattle.dj_names.specs.trusted.Types.{Name, base_array}
 use Rattle.dj_ops.specs.declared.instruction.Instr.{Instr}
 use Rattle.dj_ops.specs.declared.instruction.Instr.TheVariants as instrs
-use Rattle.dj_model.specs.Types.{Member}
-use Rattle.dj_model.specs.Instructions as model
-use Rattle.dj_model.specs.Instructions.{Instruction, Named, Nothing, AField}
-use Rattle.dj_model.specs.Opcodes.{Row, row_does, constant_rows, store_rows, stack_rows, number_rows, bit_rows, last_rows, rows_of, simple, local_rows, operand_does, jump_rows, array_rows, new_array, instruction_of}
-use Rattle.dj_model.specs.Program.{Program, Class}
-use Rattle.dj_model.specs.Linking.{FoundField, FoundMethod, member_class, resolve_field, resolve_method}
-use Rattle.dj_model.specs.Effects.{field_class, method_class, used_class}
+use Rattle.dj_model.specs.trusted.Types.{Member}
+use Rattle.dj_model.specs.trusted.Instructions as model
+use Rattle.dj_model.specs.trusted.Instructions.{Instruction, Named, Nothing, AField}
+use Rattle.dj_model.specs.trusted.Opcodes.{Row, row_does, constant_rows, store_rows, stack_rows, number_rows, bit_rows, last_rows, rows_of, simple, local_rows, operand_does, jump_rows, array_rows, new_array, instruction_of}
+use Rattle.dj_model.specs.trusted.Program.{Program, Class}
+use Rattle.dj_model.specs.trusted.Linking.{FoundField, FoundMethod, member_class, resolve_field, resolve_method}
+use Rattle.dj_model.specs.trusted.Effects.{field_class, method_class, used_class}
 use Rattle.dj_model.specs.Sound.{IsSound, is_linked}
 use Rattle.dj_effects.specs.Actions.{is_other}
 use Rattle.dj_classes.specs.Tables.{name_at, name_of}

@@ -1,7 +1,7 @@
 -- A step of which a part was done at once.
 use Rattle.std.specs.Prelude.{◌≡◌, ℕ, ⊤, [], List, Some, None}
-use Rattle.dj_model.specs.Instructions.{Instruction}
-use Rattle.dj_model.specs.State.{Flow}
+use Rattle.dj_model.specs.trusted.Instructions.{Instruction}
+use Rattle.dj_model.specs.trusted.State.{Flow}
 use Rattle.dj_heap.specs.Heaps.{LimitedHeap}
 use Rattle.dj_stack.specs.Frames.{StackFrame}
 use Rattle.dj_calls.specs.Known.{AreKnown}
@@ -17,7 +17,7 @@ use Rattle.dj_acting.specs.Acting.{ActsOnHeap, flow_told}
 use Rattle.dj_settling.specs.declared.settled.Settled.TheVariants as settles
 use Rattle.dj_turning.specs.Running.{Running, IsRunning}
 use Rattle.dj_turning.specs.Doing.{IsTop, IsUsed}
-use Rattle.dj_turning.specs.Turning.{Turns}
+use Rattle.dj_turning.specs.Turning.{MakesStep}
 use Rattle.dj_turning.specs.Frugal.{IsFrugalRun}
 
 -- the run with another heap and other frames
@@ -43,7 +43,7 @@ pub record IsLeft (imaged : Imaged) (old new : Running) (acted : Acted) : Type 0
 
 -- what was done of the step
 abbrev pub Begins : Imaged → Running → Running → Begun → Type 0
-Begins imaged old new begins.Went = Turns imaged old new [] settles.Went
+Begins imaged old new begins.Went = MakesStep imaged old new [] settles.Went
 Begins imaged old new begins.Nothing = new ≡ old
 Begins imaged old new (begins.Left acted) = IsLeft imaged old new acted
 

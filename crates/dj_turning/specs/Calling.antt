@@ -1,7 +1,7 @@
--- The code's own: a call whose method was chosen.
+-- Used by the code alone: a call whose method was chosen.
 use Rattle.std.specs.Prelude.{◌≡◌, ◌<◌, List, length, Some}
-use Rattle.dj_model.specs.Types.{Member}
-use Rattle.dj_model.specs.Instructions.{Mode}
+use Rattle.dj_model.specs.trusted.Types.{Member}
+use Rattle.dj_model.specs.trusted.Instructions.{Mode}
 use Rattle.dj_stack.specs.Frames.{StackFrame, top_method}
 use Rattle.dj_image.specs.Imaged.{Imaged, program_of}
 use Rattle.dj_activations.specs.Activations.{declared_at}

@@ -1,12 +1,12 @@
--- What the parts of a step tell.
+-- What the parts of a step answer.
 use Rattle.std.specs.Prelude.{◌≡◌, ℕ, ◌<◌, ⊤, List, [], ◌∷◌, ◌++◌, length, Option, Some, None}
 use Rattle.dj_names.specs.declared.run.Charge.{Charge}
 use Rattle.dj_edge.specs.declared.host.HostAnswer.{HostAnswer}
-use Rattle.dj_model.specs.Types.{Declared}
-use Rattle.dj_model.specs.Instructions.{Instruction}
-use Rattle.dj_model.specs.State.{Terms, Frame, State, Flow, instruction_at}
-use Rattle.dj_model.specs.Effects.{effect, used_class}
-use Rattle.dj_model.specs.Step.{Answer, IllFormed, part_of, settled, prepared, step}
+use Rattle.dj_model.specs.trusted.Types.{Declared}
+use Rattle.dj_model.specs.trusted.Instructions.{Instruction}
+use Rattle.dj_model.specs.trusted.State.{Terms, Frame, State, Flow, instruction_at}
+use Rattle.dj_model.specs.trusted.Effects.{effect, used_class}
+use Rattle.dj_model.specs.trusted.Step.{Answer, IllFormed, part_of, settled, prepared, step}
 use Rattle.dj_heap.specs.Heaps.{LimitedHeap}
 use Rattle.dj_stack.specs.Frames.{StackFrame, top_method, top_number}
 use Rattle.dj_calls.specs.Calls.{counting_of}
@@ -50,7 +50,7 @@ abbrev pub doing_some : Imaged → Terms → State → Option Instruction → An
 doing_some imaged terms s None = IllFormed
 doing_some imaged terms s (Some i) = doing imaged i terms s
 
--- the same of it, where its class is initialised
+-- the same for it, where its class is initialised
 abbrev pub doing_next : Imaged → Terms → State → Answer
 doing_next imaged terms s = doing_some imaged terms s (next_of imaged s.frames)
 
@@ -71,9 +71,9 @@ pub record IsTop (imaged : Imaged) (frames : List StackFrame) (method number : �
   pub there : method < length (all_methods (program_of imaged))
   pub stands : HasInstruction imaged method number
 
--- ---- what is told
+-- ---- what is answered
 
--- what the model answers is told, where what the host gave stands before the rest of its answers, whatever these are; and what holds of the run then
+-- the model answers this, where what the host gave comes first among its answers, whatever the others are; and this holds of the run then
 pub record TurnsBy (imaged : Imaged) (answer : Terms → State → Answer) (old new : Running) (gave : List HostAnswer) (settled : Settled) : Type 0 where
   pub tells : (rest : List HostAnswer) → told_of (answer (terms_of old) (state_of imaged (gave ++ rest) old)) ≡ settled_told settled (state_of imaged rest new)
   pub limit : new.parts.store.heap.limit ≡ old.parts.store.heap.limit
@@ -97,9 +97,9 @@ pub record PreparesNext (imaged : Imaged) (old new : Running) (result : Prepared
   pub counter : new.counter ≡ old.counter
   pub stop : new.stop ≡ old.stop
 
--- ---- the code's own: what follows an instruction that was done
+-- ---- used by the code alone: what follows an instruction that was done
 
--- nothing is told of one that wasn't
+-- what follows an instruction's flow; without a flow nothing does
 abbrev pub FlowSettles : Imaged → Option Charge → Option Flow → LimitedHeap → LimitedHeap → List StackFrame → List StackFrame → Settled → Type 0
 FlowSettles imaged exceeded None before after old new result = ⊥
 FlowSettles imaged exceeded (Some flow) before after old new result =

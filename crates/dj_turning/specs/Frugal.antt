@@ -14,7 +14,7 @@ use Rattle.dj_turning.specs.Running.{Running, state_of, terms_of}
 abbrev pub IsFrugalRun : Imaged → Running → Type 0
 IsFrugalRun imaged r = NeedsNoMemory (program_of imaged) imaged.prefix (terms_of r) (state_of imaged [] r)
 
--- ---- the code's own
+-- ---- used by the code alone
 
 -- a caller has room for what is returned to it, and what is thrown is an object of a class
 abbrev pub IsReadyFor : Imaged → LimitedHeap → List StackFrame → Acted → Type 0

@@ -1,12 +1,12 @@
 -- Steps that need no memory.
 use Rattle.std.specs.Prelude.{◌≡◌, Bool, true, false, List, ◌∷◌, Option, Some, None, IsFalse}
-use Rattle.dj_model.specs.Types.{Prefix, Declared}
-use Rattle.dj_model.specs.Program.{Program}
-use Rattle.dj_model.specs.Instructions.{Instruction, PushText, Invoke, New, NewArray}
-use Rattle.dj_model.specs.State.{Terms, Frame, State, instruction_at, Raise, Flow, Goes, Effect}
-use Rattle.dj_model.specs.Effects.{effect, used_class}
-use Rattle.dj_model.specs.Initialisation.{Ready}
-use Rattle.dj_model.specs.Step.{Went, part_of, prepared, step}
+use Rattle.dj_model.specs.trusted.Types.{Prefix, Declared}
+use Rattle.dj_model.specs.trusted.Program.{Program}
+use Rattle.dj_model.specs.trusted.Instructions.{Instruction, PushText, Invoke, New, NewArray}
+use Rattle.dj_model.specs.trusted.State.{Terms, Frame, State, instruction_at, Raise, Flow, Goes, Effect}
+use Rattle.dj_model.specs.trusted.Effects.{effect, used_class}
+use Rattle.dj_model.specs.trusted.Initialisation.{Ready}
+use Rattle.dj_model.specs.trusted.Step.{Went, part_of, prepared, step}
 
 -- the instruction makes an object, loads a text or calls a method
 abbrev pub makes : Instruction → Bool

@@ -1,18 +1,18 @@
--- What a call of a native method tells, whoever answers it.
+-- What a call of a native method answers, whether the host answers it or not.
 use Rattle.std.specs.Prelude.{◌≡◌, ℕ, ◌≤◌, List, ◌++◌, length, map, take, drop, reverse, Option, Some, None}
 use Rattle.dj_names.specs.declared.descriptor.Ty.{Ty}
 use Rattle.dj_names.specs.declared.run.Charge.{Charge}
 use Rattle.dj_names.specs.declared.run.Value.{Value}
 use Rattle.dj_names.specs.declared.native.NativeId.{NativeId}
-use Rattle.dj_names.specs.Values.{value_kind}
+use Rattle.dj_names.specs.trusted.Values.{value_kind}
 use Rattle.dj_edge.specs.declared.host.HostAnswer.{HostAnswer}
-use Rattle.dj_model.specs.Types.{Prefix}
-use Rattle.dj_model.specs.Instructions.{Instruction}
-use Rattle.dj_model.specs.Program.{Program}
-use Rattle.dj_model.specs.State.{Terms, Part, Flow}
-use Rattle.dj_model.specs.Effects.{effect}
-use Rattle.dj_model.specs.Natives.{asks}
-use Rattle.dj_model.specs.Performing.{native}
+use Rattle.dj_model.specs.trusted.Types.{Prefix}
+use Rattle.dj_model.specs.trusted.Instructions.{Instruction}
+use Rattle.dj_model.specs.trusted.Program.{Program}
+use Rattle.dj_model.specs.trusted.State.{Terms, Part, Flow}
+use Rattle.dj_model.specs.trusted.Effects.{effect}
+use Rattle.dj_model.specs.trusted.Natives.{asks}
+use Rattle.dj_model.specs.trusted.Performing.{native}
 use Rattle.dj_model.specs.NativeKinds.{native_signature}
 use Rattle.dj_heap.specs.Heaps.{LimitedHeap}
 use Rattle.dj_stack.specs.Frames.{StackFrame, top_method, top_operands}
@@ -32,7 +32,7 @@ use Rattle.dj_settling.specs.Settling.{IsExpected, Settles, native_settled}
 abbrev pub arguments_in : List StackFrame → ℕ → List Value
 arguments_in frames count = reverse (take count (top_operands frames))
 
--- so many upper operands are of the kinds that the method takes
+-- this many upper operands are of the kinds that the method takes
 pub record AreGiven (frames : List StackFrame) (id : NativeId) (count : ℕ) : Type 0 where
   pub within : count ≤ length (top_operands frames)
   pub kinds : map value_kind (arguments_in frames count) ≡ (native_signature id).parameters

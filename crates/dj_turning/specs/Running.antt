@@ -1,13 +1,13 @@
 -- What a run over an image keeps, and what holds of it.
 use Rattle.std.specs.Prelude.{◌≡◌, ℕ, ⊤, List, [], ◌∷◌, Option, Some, None, slice_get}
-use Rattle.dj_names.specs.Types.{class_type}
+use Rattle.dj_names.specs.trusted.Types.{class_type}
 use Rattle.dj_edge.specs.declared.host.HostAnswer.{HostAnswer}
-use Rattle.dj_model.specs.Types.{Prefix, throwable_name}
+use Rattle.dj_model.specs.trusted.Types.{Prefix, throwable_name}
 use Rattle.dj_model.specs.Sound.{IsSound}
 use Rattle.dj_model.specs.Standing.{AreStanding}
-use Rattle.dj_model.specs.State.{State, Account, Terms}
-use Rattle.dj_model.specs.Charging.{new_account}
-use Rattle.dj_model.specs.Runs.{empty_heap}
+use Rattle.dj_model.specs.trusted.State.{State, Account, Terms}
+use Rattle.dj_model.specs.trusted.Charging.{new_account}
+use Rattle.dj_model.specs.trusted.Runs.{empty_heap}
 use Rattle.dj_calls.specs.Counting.{Counter}
 use Rattle.dj_calls.specs.Calls.{counting_of}
 use Rattle.dj_calls.specs.Known.{AreKnown}

@@ -1,9 +1,9 @@
--- What holds of the code of class files, and isn't told of that of an image.
+-- What holds of the code of class files, and isn't known of that of an image.
 use Rattle.std.specs.Prelude.{◌≡◌, ℕ, ◌≤◌, Bool, true, List, Some, nat_le, slice_get}
 use Rattle.dj_ops.specs.declared.instruction.Instr.{Instr}
 use Rattle.dj_ops.specs.declared.instruction.Instr.TheVariants as instrs
-use Rattle.dj_model.specs.Program.{Code, Runs}
-use Rattle.dj_model.specs.Linking.{FoundMethod}
+use Rattle.dj_model.specs.trusted.Program.{Code, Runs}
+use Rattle.dj_model.specs.trusted.Linking.{FoundMethod}
 use Rattle.dj_types.specs.Members.{all_methods}
 use Rattle.dj_image.specs.Imaged.{Imaged, program_of}
 use Rattle.dj_unwinding.specs.Short.{IsShort}
@@ -20,7 +20,7 @@ IsBounded imaged method = (found : FoundMethod) (code : Code) → slice_get (all
 abbrev pub AreBounded : Imaged → Type 0
 AreBounded imaged = (method : ℕ) → IsBounded imaged method
 
--- ---- the code's own
+-- ---- used by the code alone
 
 abbrev pub is_known_load : Instr → Bool
 is_known_load (instrs.Literal op index) = nat_le op 20

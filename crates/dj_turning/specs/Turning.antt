@@ -1,7 +1,7 @@
 -- A step of a run over an image.
 use Rattle.std.specs.Prelude.{◌≡◌, List, ◌++◌, Some}
 use Rattle.dj_edge.specs.declared.host.HostAnswer.{HostAnswer}
-use Rattle.dj_model.specs.Step.{step}
+use Rattle.dj_model.specs.trusted.Step.{step}
 use Rattle.dj_calls.specs.Calls.{counting_of}
 use Rattle.dj_image.specs.Imaged.{Imaged, program_of}
 use Rattle.dj_settling.specs.declared.settled.Settled.{Settled}
@@ -10,8 +10,8 @@ use Rattle.dj_settling.specs.Told.{told_of}
 use Rattle.dj_settling.specs.Settling.{settled_told}
 use Rattle.dj_turning.specs.Running.{Running, IsRunning, state_of, terms_of}
 
--- the model's step is told, where what the host gave stands before the rest of its answers, whatever these are; and a run that goes on is one still
-pub record Turns (imaged : Imaged) (old new : Running) (gave : List HostAnswer) (settled : Settled) : Type 0 where
+-- the step is the model's, where what the host gave comes first among the model's answers, whatever the others are; and a run that goes on is still one
+pub record MakesStep (imaged : Imaged) (old new : Running) (gave : List HostAnswer) (settled : Settled) : Type 0 where
   pub tells : (rest : List HostAnswer)
       → told_of (step (program_of imaged) imaged.prefix (terms_of old) (state_of imaged (gave ++ rest) old)) ≡ settled_told settled (state_of imaged rest new)
   pub limit : new.parts.store.heap.limit ≡ old.parts.store.heap.limit

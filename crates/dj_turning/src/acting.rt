@@ -1,5 +1,5 @@
 ghost use Rattle.std.specs.Prelude.{◌≡◌, ◌<◌, [], Some, length, IfErr, IfOk};
-ghost use Rattle.dj_model.specs.Instructions.{Instruction};
+ghost use Rattle.dj_model.specs.trusted.Instructions.{Instruction};
 ghost use Rattle.dj_model.specs.Sound.{IsSound};
 ghost use Rattle.dj_calls.specs.Known.{AreKnown};
 ghost use Rattle.dj_types.specs.Typed.{types_of};

@@ -1,10 +1,11 @@
 ghost use Rattle.std.specs.Prelude.{◌≡◌, ◌++◌, [], Some, None, true, false, map, IfOk};
-ghost use Rattle.dj_names.specs.Values.{value_kind};
+ghost use Rattle.dj_names.specs.trusted.Values.{value_kind};
 ghost use Rattle.dj_model.specs.NativeKinds.{native_signature};
 ghost use Rattle.dj_heap.specs.Heaps.{object_in};
 ghost use Rattle.dj_calls.specs.Calls.{Calls};
 ghost use Rattle.dj_calls.specs.Known.{AreArguments, AreKnown, IsFitting, IsOfChars};
-ghost use Rattle.dj_host.specs.Hosted.{given_since, is_hosted};
+ghost use Rattle.dj_host.specs.trusted.Hosted.{given_since};
+ghost use Rattle.dj_host.specs.Hosted.{is_hosted};
 ghost use Rattle.dj_types.specs.Typed.{types_of};
 ghost use Rattle.dj_image.specs.Imaged.{program_of, typed_of};
 ghost use Rattle.dj_turning.specs.Natives.{AnswersNative, IsQuiet};

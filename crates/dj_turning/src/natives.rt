@@ -1,8 +1,8 @@
 ghost use Rattle.std.specs.Prelude.{◌≡◌, ◌<◌, ◌++◌, true, length, IfOk};
-ghost use Rattle.dj_model.specs.Instructions.{Instruction};
+ghost use Rattle.dj_model.specs.trusted.Instructions.{Instruction};
 ghost use Rattle.dj_model.specs.Sound.{IsSound};
 ghost use Rattle.dj_calls.specs.Known.{AreKnown};
-ghost use Rattle.dj_host.specs.Hosted.{given_since};
+ghost use Rattle.dj_host.specs.trusted.Hosted.{given_since};
 ghost use Rattle.dj_types.specs.Typed.{types_of};
 ghost use Rattle.dj_image.specs.Imaged.{program_of, typed_of};
 ghost use Rattle.dj_activations.specs.Activations.{AreActivations};
@@ -24,7 +24,7 @@ use dj_settling::{Settled, settle_native};
 use dj_stack::Frames;
 use std::alloc::Global;
 
-/// A native method is called on so many operands, which are taken, and what follows is settled.
+/// A native method is called on this many operands, which are taken, and what follows is settled.
 pub(crate) fn call_method<H: Host>(
     alloc: Global,
     image: &Image,

@@ -1,4 +1,4 @@
-// What holds of the code of class files, and isn't told of that of an image: its instructions and rows have numbers of 32 bits, and each literal is loaded
+// What holds of the code of class files, and isn't known of that of an image: its instructions and rows have numbers of 32 bits, and each literal is loaded
 // by one of the three opcodes that do.
 ghost use Rattle.std.specs.Prelude.{◌≡◌, ◌<◌, ◌^◌, true, length, IfOk};
 ghost use Rattle.dj_types.specs.Members.{all_methods};

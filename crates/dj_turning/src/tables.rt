@@ -1,6 +1,6 @@
 ghost use Rattle.std.specs.Prelude.{◌≡◌, Some, IfOk, IfSome, slice_get};
-ghost use Rattle.dj_names.specs.Types.{class_type};
-ghost use Rattle.dj_model.specs.Types as named;
+ghost use Rattle.dj_names.specs.trusted.Types.{class_type};
+ghost use Rattle.dj_model.specs.trusted.Types as named;
 ghost use Rattle.dj_model.specs.Sound.{IsSound};
 ghost use Rattle.dj_linking.specs.Linked.{prefix_of};
 ghost use Rattle.dj_types.specs.Typed.{types_of};
@@ -43,8 +43,8 @@ impl Model for Tables {
 }
 
 impl Tables {
-    /// What a run needs of an image beside its readers. It isn't told of an image without a class that the machine throws, or without Throwable, and
-    /// none with a library lacks one; nor of one with code that no class file has.
+    /// What a run needs of an image beside its readers. It isn't made for an image without a class that the machine throws, or without Throwable, and
+    /// none with a library lacks one; nor for one with code that no class file has.
     pub fn of(alloc: Global, image: &Image) -> Result<Tables, NoMemory>
         requires { IsSound (program_of image.now) image.now.prefix }
         ensures { IfOk result (IsKept image.now) }
@@ -99,10 +99,7 @@ fn tables_of(alloc: Global, image: &Image) -> Result<Tables, NoMemory>
 fn natives_of(alloc: Global, image: &Image) -> Result<Natives, NoMemory>
     ensures { IfOk result (AreNatives image.now) }
 {
-    match Natives::of(alloc, image) {
-        Ok(natives) => Ok(natives),
-        Err(_) => Err(NoMemory::Memory),
-    }
+    Natives::of(alloc, image).or(Err(NoMemory::Memory))
 }
 
 // The class Throwable.

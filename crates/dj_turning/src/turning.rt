@@ -1,6 +1,6 @@
 ghost use Rattle.std.specs.Prelude.{◌≡◌, ◌++◌, [], IfErr, IfOk};
 ghost use Rattle.dj_model.specs.Standing.{AsksNothing};
-ghost use Rattle.dj_host.specs.Hosted.{given_since};
+ghost use Rattle.dj_host.specs.trusted.Hosted.{given_since};
 ghost use Rattle.dj_image.specs.Imaged.{program_of};
 ghost use Rattle.dj_turning.specs.Memory.{NeedsNoMemory};
 ghost use Rattle.dj_turning.specs.Running.{IsKept, IsRunning, state_of, terms_of};

@@ -1,15 +1,15 @@
-// A step in two parts: the first tells little and needs no memory, so that an instruction that names nothing is done at once.
+// A step in two parts: the first finds out little and needs no memory, so that an instruction that names nothing is done at once.
 ghost use Rattle.std.specs.Prelude.{◌≡◌, ◌++◌, [], IfErr, IfOk};
 ghost use Rattle.dj_model.specs.Sound.{IsSound};
 ghost use Rattle.dj_model.specs.Standing.{AsksNothing};
 ghost use Rattle.dj_image.specs.Imaged.{program_of};
-ghost use Rattle.dj_host.specs.Hosted.{given_since};
+ghost use Rattle.dj_host.specs.trusted.Hosted.{given_since};
 ghost use Rattle.dj_acting.specs.declared.begun.Begun.TheVariants as begins;
 ghost use Rattle.dj_turning.specs.Begun.{Begins, IsBegun, IsFrugalBegun, IsLeft};
 ghost use Rattle.dj_turning.specs.Frugal.{IsFrugalRun};
 ghost use Rattle.dj_turning.specs.Running.{IsKept, IsRunning, Running};
 ghost use Rattle.dj_turning.specs.Doing.{TurnsBy, stepping};
-ghost use Rattle.dj_turning.specs.Turning.{Turns};
+ghost use Rattle.dj_turning.specs.Turning.{MakesStep};
 
 use crate::acting::settle_acted;
 use crate::counting::exceeded;
@@ -54,7 +54,7 @@ pub fn end_turn<H: Host>(
 ) -> Result<Settled, NoMemory>
     requires kept { IsKept image.now tables.now }
     requires begun { IsBegun image.now run.old begun }
-    ensures turns { (first : Running) → IsRunning image.now first → Begins image.now first run.old begun → IfOk result (Turns image.now first run.new (given_since (H.given host.old) (H.given host.new))) }
+    ensures turns { (first : Running) → IsRunning image.now first → Begins image.now first run.old begun → IfOk result (MakesStep image.now first run.new (given_since (H.given host.old) (H.given host.new))) }
     ensures gave { H.given host.new ≡ H.given host.old ++ given_since (H.given host.old) (H.given host.new) }
     ensures quiet { AsksNothing (program_of image.now) → H.given host.new ≡ H.given host.old }
     ensures frugal { IsFrugalBegun image.now run.old begun → IfErr result (λ _. ⊥) }

@@ -1,9 +1,9 @@
 ghost use Rattle.std.specs.Prelude.{◌≡◌, ◌<◌, Some, length, true, IfErr, IfOk, IsFalse};
-ghost use Rattle.dj_model.specs.Types.{Member};
-ghost use Rattle.dj_model.specs.Instructions as model;
-ghost use Rattle.dj_model.specs.Instructions.{Instruction, Invoke, Named};
-ghost use Rattle.dj_model.specs.Linking.{FoundMethod, resolve_method};
-ghost use Rattle.dj_model.specs.Opcodes.{instruction_of};
+ghost use Rattle.dj_model.specs.trusted.Types.{Member};
+ghost use Rattle.dj_model.specs.trusted.Instructions as model;
+ghost use Rattle.dj_model.specs.trusted.Instructions.{Instruction, Invoke, Named};
+ghost use Rattle.dj_model.specs.trusted.Linking.{FoundMethod, resolve_method};
+ghost use Rattle.dj_model.specs.trusted.Opcodes.{instruction_of};
 ghost use Rattle.dj_model.specs.Sound.{IsSound};
 ghost use Rattle.dj_types.specs.Members.{all_fields, all_methods};
 ghost use Rattle.dj_image.specs.Imaged.{program_of};

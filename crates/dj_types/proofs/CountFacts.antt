@@ -1,14 +1,15 @@
 -- Members counted by classes, their classes and places by numbers, by plain values: of A with two methods and two fields, and of B below it with one of each.
 use Rattle.std.proofs.Common.{◌≡◌, ℕ, zero, suc, ◌+◌, ◌<◌, ◌≤◌, true, false, List, [], ◌∷◌, map, length, codes, refl, sym, ap, ◌∙◌, subst, arith, Some, None}
-use Rattle.std.specs.Prelude.{◌-◌, get_or, sum, take}
+use Rattle.std.specs.Prelude.{◌-◌, get_or, slice_get, sum, take}
+use Rattle.std.specs.Option.{option_map}
 use Rattle.std.proofs.lemmas.Bool.{true≢false}
 use Rattle.std.proofs.lemmas.Option.{none-some, same_Some}
-use Rattle.dj_names.specs.Types.{Name}
-use Rattle.dj_names.specs.Library.{int, long}
+use Rattle.dj_names.specs.trusted.Types.{Name}
+use Rattle.dj_names.specs.trusted.Library.{int, long}
 use Rattle.dj_names.specs.declared.native.NativeId.TheVariants as natives
-use Rattle.dj_model.specs.Program.{Program, Class, Field, Method, Abstract, Native}
-use Rattle.dj_model.specs.Linking.{most_classes, FoundMethod, FoundField}
-use Rattle.dj_model.specs.Rows.{class_with, field_with, method_with, code}
+use Rattle.dj_model.specs.trusted.Program.{Program, Class, Field, Method, Abstract, Native}
+use Rattle.dj_model.specs.trusted.Linking.{most_classes, FoundMethod, FoundField, place_of}
+use Rattle.dj_model.specs.SmallRuns.{class_with, field_with, method_with, code}
 use Rattle.dj_classes.specs.declared.place.Place.{Place}
 use Rattle.dj_linking.specs.Numbers.{numbers_up}
 use Rattle.dj_types.specs.declared.heights.Height.{Height}
@@ -16,7 +17,7 @@ use Rattle.dj_types.specs.declared.members.Members.{Members}
 use Rattle.dj_types.specs.declared.members.Starts.{Starts}
 use Rattle.dj_types.specs.Typed.{Typed, begins_array, ArePlain}
 use Rattle.dj_types.specs.Members.{all_methods, all_fields, methods_in, fields_in, field_number, found_method_number, found_field_number, method_of_class, field_of_class, IsMethodPlace, IsFieldPlace, native_at}
-use Rattle.dj_types.specs.Numbered.{counts_of, AreStarts, AreCounted, IsBegun, IsStartOf, AreMemberClasses, fields_of_numbers, fields_up, AreSums, IsHeight, height_at, AddsTo, AreHeights, AreMembers}
+use Rattle.dj_types.specs.Numbered.{counts_of, AreStarts, AreCounted, IsBegun, IsStartOf, AreMemberClasses, fields_of_numbers, fields_up, AreSums, IsHeight, height_at, AddsTo, AreHeights, AreMembers, AreObjectPlaces}
 
 -- ---- a program
 
@@ -334,3 +335,19 @@ plain (suc (suc k)) name at = absurd (none-some name at)
 
 bracket_in_name : ArePlain (a_class ∷ record b_class { name = codes "[I" } ∷ []) → ⊥
 bracket_in_name plain = true≢false (plain 1 (codes "[I") refl)
+
+-- ---- places in objects
+
+object_places_of_none : AreObjectPlaces [] []
+unfolding all_fields
+object_places_of_none = record { long = refl; each = λ k lt. absurd (omega (arith, lt)) }
+
+-- a place isn't one more than the model's
+one_place_more : (n : ℕ) → Some n ≡ option_map (place_of program) (slice_get (all_fields program) 0) → AreObjectPlaces program ((n + 1) ∷ 1 ∷ 1 ∷ []) → ⊥
+unfolding all_fields
+one_place_more n is are = let e : n + 1 ≡ n = same_Some (n + 1) n (are.each 0 (omega arith) ∙ sym is) in omega (arith, e)
+
+-- and each field has a place
+object_place_left_out : AreObjectPlaces program (0 ∷ 1 ∷ []) → ⊥
+unfolding all_fields
+object_place_left_out are = let e : 2 ≡ 3 = are.long in omega (arith, e)

@@ -7,16 +7,18 @@ use Rattle.std.proofs.lemmas.Bool.{false≢true, eq-eqb}
 use Rattle.std.proofs.lemmas.Option.{none-some, same_Some}
 use Rattle.dj_names.specs.declared.descriptor.Base.TheVariants as bases
 use Rattle.dj_names.specs.declared.descriptor.Ty.{Ty}
-use Rattle.dj_names.specs.Types.{Name, same_name, class_type, base_type, base_array, array_type, sandbox_prefix}
-use Rattle.dj_names.specs.Library.{int, object_class}
-use Rattle.dj_names.specs.DescReading.{dims_read, name_read, class_read, of_read, type_read, params_read, field_read, return_read, method_read, desc_read}
-use Rattle.dj_names.specs.NameReading.{reads_class_name}
-use Rattle.dj_model.specs.Program.{Program, Class, Method}
-use Rattle.dj_model.specs.Linking.{most_classes, chain_of, interfaces_from, interfaces_above, is_subclass, is_subtype, field_order, resolve_method, resolve_field, select, field_count, FoundMethod, FoundField}
-use Rattle.dj_model.specs.Rows.{class_with, field_with, method_with, code}
-use Rattle.dj_declared.specs.Files.{desc_in}
+use Rattle.dj_names.specs.trusted.Types.{Name, same_name, class_type, base_type, base_array, array_type}
+use Rattle.dj_names.specs.Types.{sandbox_prefix}
+use Rattle.dj_names.specs.trusted.Library.{int, object_class}
+use Rattle.dj_names.specs.trusted.DescReading.{dims_read, name_read, class_read, of_read, type_read, params_read, field_read, return_read, method_read, desc_read}
+use Rattle.dj_names.specs.trusted.NameReading.{reads_class_name}
+use Rattle.dj_model.specs.trusted.Program.{Program, Class, Method}
+use Rattle.dj_model.specs.trusted.Linking.{most_classes, chain_of, interfaces_from, interfaces_above, is_subclass, is_subtype, field_order, resolve_method, resolve_field, select, field_count, FoundMethod, FoundField}
+use Rattle.dj_model.specs.SmallRuns.{class_with, field_with, method_with, code}
+use Rattle.dj_declared.specs.trusted.Files.{desc_in}
 use Rattle.dj_classes.specs.Tables.{name_at}
 use Rattle.dj_types.specs.declared.types.MemberOf.{MemberOf}
+use Rattle.dj_types.specs.Own.{array_at}
 use Rattle.dj_types.specs.Typed.{Typed, texts_of, place_of_text, text_number, text_of_type, type_number, type_at, flags_at, super_at, interfaces_at, has_references, component_at, is_subtype_at, string_at, chars_at, stop_at, is_array_of, AreArrays}
 use Rattle.dj_types.specs.Members.{all_methods, all_fields, methods_before, fields_before, field_count_at, resolved_method, resolved_field, selected, method_number, IsNthMethod, IsNthField, IsMethodThere, IsFieldThere}
 
@@ -93,7 +95,7 @@ type_numbers : map (type_number typed) (class_type (codes "B") ∷ array_of (cod
     ≡ Some 1 ∷ Some 8 ∷ None ∷ Some 5 ∷ None ∷ None ∷ []
 type_numbers = refl
 
--- ---- what is told of a number
+-- ---- what is known of a number
 
 -- of an array, and past the last number, there are no flags
 flags : map (flags_at typed) (0 ∷ 2 ∷ 6 ∷ 9 ∷ 12 ∷ []) ≡ 33 ∷ 1537 ∷ 0 ∷ 0 ∷ 0 ∷ []
@@ -123,6 +125,11 @@ references = refl
 -- none of String and of the object that stops a run in this program
 library_numbers : string_at typed ∷ chars_at typed ∷ stop_at typed ∷ [] ≡ None ∷ Some 5 ∷ None ∷ []
 library_numbers = refl
+
+-- arrays of booleans, shorts, floats and doubles have no numbers in it
+array_numbers : map (array_at typed) (bases.Boolean ∷ bases.Byte ∷ bases.Char ∷ bases.Short ∷ bases.Int ∷ bases.Long ∷ bases.Float ∷ bases.Double ∷ [])
+    ≡ None ∷ Some 4 ∷ Some 5 ∷ None ∷ Some 6 ∷ Some 7 ∷ None ∷ None ∷ []
+array_numbers = refl
 
 abbrev rewritten : Typed
 rewritten = record {
@@ -203,7 +210,7 @@ none_of_missing arrays = false≢true arrays.each
 none_too_deep : AreArrays program (record { dims = 256; of = int.of } ∷ []) → ⊥
 none_too_deep arrays = false≢true arrays.each
 
--- each one is told once, in order
+-- each one is listed once, in order
 not_twice : AreArrays program (base_array bases.Int ∷ base_array bases.Int ∷ []) → ⊥
 not_twice arrays = false≢true arrays.rise
 
@@ -288,7 +295,7 @@ none_of_name = refl
 none_of_class : method_number twice (record { class = codes "C"; method = runs 9 (codes "m") }) ≡ None
 none_of_class = refl
 
--- ---- what is told of a member
+-- ---- what is known of a member
 
 method_told : (told : MemberOf) → told.class ≡ 1 → told.flags ≡ 17 → told.name.now ≡ codes "m" → told.desc.now ≡ codes "()V" → IsMethodThere typed 2 told
 unfolding all_methods

@@ -4,8 +4,8 @@ use Rattle.std.specs.Prelude.{slice_get}
 use Rattle.std.proofs.lemmas.Bool.{cases_lt}
 use Rattle.std.proofs.lemmas.List.{length_push, length-set, length-replicate, get_or-replicate, get_or-set_same, get_or-set_other}
 use Rattle.std.proofs.lemmas.Option.{none-some, same_Some}
-use Rattle.dj_model.specs.Program.{Program}
-use Rattle.dj_model.specs.Linking.{most_classes, own_field_count}
+use Rattle.dj_model.specs.trusted.Program.{Program}
+use Rattle.dj_model.specs.trusted.Linking.{most_classes, own_field_count}
 use Rattle.dj_classes.specs.Tables.{super_number}
 use Rattle.dj_linking.specs.Numbers.{numbers_up}
 use Rattle.dj_linking.proofs.Levels.{most_is}
@@ -85,7 +85,7 @@ height_sum program class height is =
     let levels : (most_classes - height.levels) + height.levels ≡ most_classes = omega (arith, few, most) in
     sym (is.same (most_classes - height.levels)) ∙ ap (λ (n : ℕ). fields_of_numbers program (numbers_up n program (Some class))) levels
 
--- those of so many classes
+-- those of this many classes
 pub record AreSummed (program : Program) (count : ℕ) (sums : List ℕ) : Type 0 where
   pub long : length sums ≡ count
   pub each : (k : ℕ) → k < count → get_or sums k 0 ≡ fields_up program k

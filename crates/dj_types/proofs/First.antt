@@ -6,15 +6,16 @@ use Rattle.std.specs.List.{flat_map}
 use Rattle.std.proofs.lemmas.List.{length-map, length-append}
 use Rattle.std.proofs.lemmas.Option.{none-some, same_Some, slice_get-map}
 use Rattle.dj_names.specs.declared.descriptor.Desc.{Desc}
-use Rattle.dj_names.specs.Descriptors.{Describes}
-use Rattle.dj_names.specs.Types.{Name, same_name, same_desc}
-use Rattle.dj_model.specs.Program.{Program, Class, Method, Field, fields_of, is_named}
-use Rattle.dj_model.specs.Linking.{FoundMethod, FoundField}
-use Rattle.dj_declared.specs.Files.{desc_in}
-use Rattle.dj_declared.specs.Members.{IsDescriptor, method_name, field_name, method_place, field_place}
+use Rattle.dj_names.specs.trusted.Descriptors.{Describes}
+use Rattle.dj_names.specs.trusted.Types.{Name, same_name, same_desc}
+use Rattle.dj_model.specs.trusted.Program.{Program, Class, Method, Field, fields_of, is_named}
+use Rattle.dj_model.specs.trusted.Linking.{FoundMethod, FoundField}
+use Rattle.dj_declared.specs.trusted.Files.{desc_in}
+use Rattle.dj_declared.specs.Members.{IsDescriptor, field_name, method_place, field_place}
 use Rattle.dj_declared.proofs.DescTests.{desc_in_is, is_descriptor, same_name_itself, same_desc_itself}
 use Rattle.dj_classes.specs.Tables.{name_of, class_number, methods_of, methods_at, fields_at, method_there, field_there}
 use Rattle.dj_classes.specs.declared.place.Place.{Place}
+use Rattle.dj_directory.specs.Calls.{IsFirstLike}
 use Rattle.dj_linking.proofs.Resolution.{DoNamesDiffer}
 use Rattle.dj_types.specs.Members.{all_methods, all_fields, methods_in, fields_in, methods_before, fields_before, method_number, field_number, found_method_number, found_field_number}
 use Rattle.dj_types.specs.Named.{IsNamedMethod, IsNamedField}
@@ -100,14 +101,14 @@ same_step false (Some n) p e = ap Some (let same : suc n ≡ n + 1 = omega arith
 named_itself : (name : Name) (desc : Desc) → is_named name desc name desc ≡ true
 named_itself name desc = ap (λ (b : Bool). b && same_desc desc desc) (same_name_itself name name refl) ∙ same_desc_itself desc
 
--- what is told of the first one: its place in its class, and its number
+-- what is known of the first one: its place in its class, and its number
 pub record HasFirst (count before : ℕ) (place number : Option ℕ) : Type 0 where
   pub first : ℕ
   pub within : first < count
   pub is : place ≡ Some first
   pub numbered : number ≡ Some (before + first)
 
--- what a linker tells of a member is that member
+-- what a linker answers for a member is that member
 pub told_is : {A : Type 0} (told : Option (Option A)) (found : Option A) → told ≡ option_map Some found → option_and_then (λ x. x) told ≡ found
 told_is told None e = ap (option_and_then (λ x. x)) e
 told_is told (Some x) e = ap (option_and_then (λ x. x)) e
@@ -155,45 +156,7 @@ method_of_class program k member c m differ at is =
           ∙ first_of_class methods_in (is_method found) c.name (λ d other. methods_of_other found d.name other d.methods) program k first.0 c (differ k c.name (ap (option_map name_of) at)) at first.1;
     }
 
--- what is told of the first method of its class with the name and the descriptor of the one at a place
-first_method : (program : Program) (place : Place) (name desc : Name) → DoNamesDiffer program → place.class < length program → place.member < length (methods_at program place.class)
-    → Some name ≡ option_map method_name (slice_get (methods_at program place.class) place.member)
-    → IfSome (slice_get (methods_at program place.class) place.member) (λ m. Describes desc m.desc)
-    → HasFirst (length (methods_at program place.class)) (methods_before program place.class) (method_place (methods_at program place.class) name (desc_in desc)) (found_method_number program (method_there program place))
-first_method program place name desc differ lt within named described =
-    let class : (c : Class) × (slice_get program place.class ≡ Some c) = some_there program place.class lt in
-    let c : Class = class.0 in
-    let methods : methods_at program place.class ≡ c.methods = ap methods_of class.1 in
-    let method : (m : Method) × (slice_get c.methods place.member ≡ Some m) = some_there c.methods place.member (subst (λ (ms : List Method). place.member < length ms) methods within) in
-    let m : Method = method.0 in
-    let there : slice_get (methods_at program place.class) place.member ≡ Some m = ap (λ (ms : List Method). slice_get ms place.member) methods ∙ method.1 in
-    let name_is : name ≡ m.name = same_Some name m.name (named ∙ ap (option_map method_name) there) in
-    let desc_is : desc_in desc ≡ m.desc = desc_in_is desc m.desc (subst (λ (o : Option Method). IfSome o (λ x. Describes desc x.desc)) there described) in
-    let found_is : method_there program place ≡ Some (record { class = c.name; method = m }) = rw (class.1, method.1) refl in
-    let told = method_of_class program place.class place.member c m differ class.1 method.1 in
-    let inside = told.within in
-    let long = ap (λ (ms : List Method). length ms) methods in
-    record {
-      first = told.first;
-      within = omega (arith, inside, long);
-      is = ap (λ (ms : List Method). method_place ms name (desc_in desc)) methods ∙ ap (λ (n : Name). method_place c.methods n (desc_in desc)) name_is ∙ ap (method_place c.methods m.name) desc_is ∙ told.is;
-      numbered = ap (found_method_number program) found_is ∙ told.numbered;
-    }
-
--- and so where they are those of a table
-pub first_method_told : (table program : Program) (place : Place) (name desc : Name) (told : Option ℕ) → table ≡ program → DoNamesDiffer table → place.class < length program → place.member < length (methods_at program place.class)
-    → Some name ≡ option_map method_name (slice_get (methods_at table place.class) place.member)
-    → IfSome (slice_get (methods_at table place.class) place.member) (λ m. Describes desc m.desc)
-    → told ≡ method_place (methods_at table place.class) name (desc_in desc)
-    → HasFirst (length (methods_at program place.class)) (methods_before program place.class) told (found_method_number program (method_there program place))
-first_method_told table program place name desc told same differ lt within named described is =
-    let first : HasFirst (length (methods_at table place.class)) (methods_before table place.class) told (found_method_number table (method_there table place)) =
-    subst (λ (o : Option ℕ). HasFirst (length (methods_at table place.class)) (methods_before table place.class) o (found_method_number table (method_there table place))) (sym is)
-    (first_method table place name desc differ (subst (λ (p : Program). place.class < length p) (sym same) lt) (subst (λ (p : Program). place.member < length (methods_at p place.class)) (sym same) within) named described)
-    in
-    subst (λ (p : Program). HasFirst (length (methods_at p place.class)) (methods_before p place.class) told (found_method_number p (method_there p place))) same first
-
--- the same of the one at a place that has this name and this descriptor
+-- what is known of the first method of its class with the name and the descriptor of the one at a place
 pub first_method_named : (table program : Program) (place : Place) (name : Name) (desc : Desc) (told : Option ℕ) → table ≡ program → DoNamesDiffer program → place.class < length program → place.member < length (methods_at program place.class)
     → IsNamedMethod name desc (method_there program place) → told ≡ method_place (methods_at table place.class) name desc
     → HasFirst (length (methods_at program place.class)) (methods_before program place.class) told (found_method_number program (method_there program place))
@@ -216,10 +179,18 @@ first_method_named table program place name desc told same differ lt within name
       numbered = ap (found_method_number program) found_is ∙ first.numbered;
     }
 
-pub method_described : (methods : List Method) (member : ℕ) (desc : Name) → member < length methods → IfSome (slice_get methods member) (λ m. Describes desc m.desc) → IsDescriptor desc
-method_described methods member desc lt told =
-    let method : (m : Method) × (slice_get methods member ≡ Some m) = some_there methods member lt in
-    is_descriptor desc method.0.desc (subst (λ (o : Option Method). IfSome o (λ m. Describes desc m.desc)) method.1 told)
+-- the same where it is that of a table for calls
+pub first_method_like : (program : Program) (place : Place) (first : ℕ) → DoNamesDiffer program → place.class < length program → place.member < length (methods_at program place.class) → IsFirstLike program place.class place.member first
+    → HasFirst (length (methods_at program place.class)) (methods_before program place.class) (Some first) (found_method_number program (method_there program place))
+first_method_like program place first differ lt within like =
+    let class : (c : Class) × (slice_get program place.class ≡ Some c) = some_there program place.class lt in
+    let c : Class = class.0 in
+    let methods : methods_at program place.class ≡ c.methods = ap methods_of class.1 in
+    let method : (m : Method) × (slice_get c.methods place.member ≡ Some m) = some_there c.methods place.member (subst (λ (ms : List Method). place.member < length ms) methods within) in
+    let m : Method = method.0 in
+    let found_is : method_there program place ≡ Some (record { class = c.name; method = m }) = rw (class.1, method.1) refl in
+    first_method_named program program place m.name m.desc (Some first) refl differ lt within (subst (λ (o : Option FoundMethod). IsNamedMethod m.name m.desc o) (sym found_is) (refl, refl))
+    (sym (like m (ap (λ (ms : List Method). slice_get ms place.member) methods ∙ method.1)))
 
 -- ---- fields
 
@@ -264,7 +235,7 @@ field_of_class program k member c g differ at is =
           ∙ first_of_class fields_in (is_field found) c.name (λ d other. fields_of_other found d.name other d.fields) program k first.0 c (differ k c.name (ap (option_map name_of) at)) at first.1;
     }
 
--- what is told of the first field of its class with the name and the descriptor of the one at a place
+-- what is known of the first field of its class with the name and the descriptor of the one at a place
 first_field : (program : Program) (place : Place) (name desc : Name) → DoNamesDiffer program → place.class < length program → place.member < length (fields_at program place.class)
     → Some name ≡ option_map field_name (slice_get (fields_at program place.class) place.member)
     → IfSome (slice_get (fields_at program place.class) place.member) (λ g. Describes desc g.desc)
@@ -302,7 +273,7 @@ first_field_told table program place name desc told same differ lt within named 
     in
     subst (λ (p : Program). HasFirst (length (fields_at p place.class)) (fields_before p place.class) told (found_field_number p (field_there p place))) same first
 
--- the same of the one at a place that has this name and this descriptor
+-- the same for the one at a place that has this name and this descriptor
 pub first_field_named : (table program : Program) (place : Place) (name : Name) (desc : Desc) (told : Option ℕ) → table ≡ program → DoNamesDiffer program → place.class < length program → place.member < length (fields_at program place.class)
     → IsNamedField name desc (field_there program place) → told ≡ field_place (fields_at table place.class) name desc
     → HasFirst (length (fields_at program place.class)) (fields_before program place.class) told (found_field_number program (field_there program place))

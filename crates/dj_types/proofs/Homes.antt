@@ -7,11 +7,11 @@ use Rattle.std.proofs.lemmas.Bool.{and_parts}
 use Rattle.std.proofs.lemmas.Bool.Decides.{nat_tests}
 use Rattle.std.proofs.lemmas.Option.{none-some}
 use Rattle.dj_names.specs.declared.descriptor.Ty.{Ty}
-use Rattle.dj_names.specs.Types.{Name}
-use Rattle.dj_model.specs.Types.{Prefix, object_name}
-use Rattle.dj_model.specs.Program.{Program, Class, class_at, flags_of, is_interface}
-use Rattle.dj_model.specs.Linking.{FoundMethod, most_classes, chain, interfaces_above, first_method, first_field, field_order, any_method, is_plain, method_chain, or_else, member_class, class_or_object, resolve_method, resolve_field, select, special_method}
-use Rattle.dj_declared.specs.Files.{desc_in}
+use Rattle.dj_names.specs.trusted.Types.{Name}
+use Rattle.dj_model.specs.trusted.Types.{Prefix, object_name}
+use Rattle.dj_model.specs.trusted.Program.{Program, Class, class_at, flags_of, is_interface}
+use Rattle.dj_model.specs.trusted.Linking.{FoundMethod, most_classes, chain, interfaces_above, first_method, first_field, field_order, any_method, is_plain, method_chain, or_else, member_class, class_or_object, resolve_method, resolve_field, select, special_method}
+use Rattle.dj_declared.specs.trusted.Files.{desc_in}
 use Rattle.dj_classes.specs.Tables.{class_number, class_numbers}
 use Rattle.dj_classes.proofs.Numbered.{name_at-number}
 use Rattle.dj_linking.specs.Linked.{class_name, resolved_method, resolved_field}

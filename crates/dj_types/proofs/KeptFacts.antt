@@ -9,12 +9,12 @@ use Rattle.dj_names.specs.declared.descriptor.Base.TheVariants as bases
 use Rattle.dj_names.specs.declared.descriptor.Of.{Of}
 use Rattle.dj_names.specs.declared.descriptor.Of.TheVariants as ofs
 use Rattle.dj_names.specs.declared.descriptor.Ty.{Ty}
-use Rattle.dj_names.specs.Descriptors.{type_text}
-use Rattle.dj_names.specs.Library.{int}
-use Rattle.dj_names.specs.Types.{Name, class_type, base_array, array_type}
-use Rattle.dj_model.specs.Program.{Program, Class}
-use Rattle.dj_model.specs.Linking.{most_classes, chain_of, field_count}
-use Rattle.dj_model.specs.Rows.{class_with, field_with}
+use Rattle.dj_names.specs.trusted.Descriptors.{type_text}
+use Rattle.dj_names.specs.trusted.Library.{int}
+use Rattle.dj_names.specs.trusted.Types.{Name, class_type, base_array, array_type}
+use Rattle.dj_model.specs.trusted.Program.{Program, Class}
+use Rattle.dj_model.specs.trusted.Linking.{most_classes, chain_of, field_count}
+use Rattle.dj_model.specs.SmallRuns.{class_with, field_with}
 use Rattle.dj_types.specs.declared.arrays.Arrays.{Arrays}
 use Rattle.dj_types.specs.declared.members.Members.{Members}
 use Rattle.dj_types.specs.declared.shapes.Element.{Element}
@@ -22,11 +22,11 @@ use Rattle.dj_types.specs.declared.shapes.Element.TheVariants as elements
 use Rattle.dj_types.specs.declared.shapes.Shape.{Shape}
 use Rattle.dj_directory.specs.declared.calls.CallTable.{CallTable}
 use Rattle.dj_directory.specs.Calls.{IsCallTable}
-use Rattle.dj_types.specs.Kept.{DoTextsRise, number_among, component_text, number_if, component_in, whole_text, all_bases, base_place, whole_place, wholes_of, text_in, AreKept, IsTyped}
+use Rattle.dj_types.specs.Kept.{DoTextsRise, number_among, component_text, number_if, component_in, wholes_of, text_in, AreKept, IsTyped}
 use Rattle.dj_types.specs.declared.own.OwnClasses.{OwnClasses}
 use Rattle.dj_types.specs.Own.{AreOwn}
-use Rattle.dj_types.specs.Members.{field_count_at}
-use Rattle.dj_types.specs.Numbered.{AreMembers}
+use Rattle.dj_types.specs.Members.{all_fields, field_count_at}
+use Rattle.dj_types.specs.Numbered.{AreMembers, AreObjectPlaces}
 use Rattle.dj_types.specs.Shapes.{element_of, shape_type, IsElement, AreElements, element_in, shape_in}
 use Rattle.dj_types.specs.Typed.{Typed, ArePlain, begins_array}
 use Rattle.dj_types.proofs.Facts.{other_name, other_number}
@@ -248,25 +248,37 @@ plain (suc (suc zero)) name at = ap begins_array (sym (same_Some (codes "I") nam
 plain (suc (suc (suc zero))) name at = ap begins_array (sym (same_Some (codes "java/lang/Object") name at))
 plain (suc (suc (suc (suc k)))) name at = absurd (none-some name at)
 
-module _ (k : Arrays) (m : Members) (c : CallTable) (o : OwnClasses) where
-  all_kept : AreKept program types k → AreMembers program m → IsCallTable program c → AreOwn (record { program = program; prefix = []; arrays = types }) o → IsTyped program [] types k m c o
-  all_kept kept members calls own = record { plain = plain; arrays_are = kept; members_are = members; calls_are = calls; own_are = own }
+module _ (k : Arrays) (m : Members) (c : CallTable) (o : OwnClasses) (ps : List ℕ) where
+  all_kept : AreKept program types k → AreMembers program m → IsCallTable program c → AreOwn (record { program = program; prefix = []; arrays = types }) o → AreObjectPlaces program ps → IsTyped program [] types k m c o ps
+  all_kept kept members calls own places = record { plain = plain; arrays_are = kept; members_are = members; calls_are = calls; own_are = own; places_are = places }
 
-  bracket_in_name : IsTyped (record a_class { name = codes "[I" } ∷ []) [] [] k m c o → ⊥
+  bracket_in_name : IsTyped (record a_class { name = codes "[I" } ∷ []) [] [] k m c o ps → ⊥
   bracket_in_name told = true≢false (told.plain 0 (codes "[I") refl)
 
-  arrays_of_none : k.components.items ≡ [] → IsTyped program [] types k m c o → ⊥
+  arrays_of_none : k.components.items ≡ [] → IsTyped program [] types k m c o ps → ⊥
   arrays_of_none is told = let e : 0 ≡ 3 = ap length (sym is ∙ told.arrays_are.components) in omega (arith, e)
 
-  members_of_none : m.field_sums.items ≡ [] → IsTyped program [] types k m c o → ⊥
+  members_of_none : m.field_sums.items ≡ [] → IsTyped program [] types k m c o ps → ⊥
   members_of_none is told = let e : 0 ≡ 4 = sym (ap length is) ∙ told.members_are.sums.long in omega (arith, e)
 
-  -- there is no String, no array of chars and no object that stops a run
-  string_of_none : o.string ≡ Some 0 → IsTyped program [] types k m c o → ⊥
+  -- there is no String, no array of chars or bytes and no object that stops a run
+  string_of_none : o.string ≡ Some 0 → IsTyped program [] types k m c o ps → ⊥
   string_of_none is told = let e : Some 0 ≡ None = sym is ∙ told.own_are.string in absurd cc
 
-  chars_of_none : o.chars ≡ Some 0 → IsTyped program [] types k m c o → ⊥
-  chars_of_none is told = let e : Some 0 ≡ None = sym is ∙ told.own_are.chars in absurd cc
+  chars_of_none : o.chars ≡ Some 0 → IsTyped program [] types k m c o ps → ⊥
+  chars_of_none is told = none-some 0 (sym (told.own_are.array bases.Char) ∙ is)
 
-  stop_of_none : o.stop ≡ Some 0 → IsTyped program [] types k m c o → ⊥
+  bytes_of_none : o.bytes ≡ Some 4 → IsTyped program [] types k m c o ps → ⊥
+  bytes_of_none is told = none-some 4 (sym (told.own_are.array bases.Byte) ∙ is)
+
+  -- those of ints are there
+  ints_left_out : o.ints ≡ None → IsTyped program [] types k m c o ps → ⊥
+  ints_left_out is told = none-some 4 (sym is ∙ told.own_are.array bases.Int)
+
+  stop_of_none : o.stop ≡ Some 0 → IsTyped program [] types k m c o ps → ⊥
   stop_of_none is told = let e : Some 0 ≡ None = sym is ∙ told.own_are.stop in absurd cc
+
+  -- the classes have five fields
+  places_of_one : ps ≡ 0 ∷ [] → IsTyped program [] types k m c o ps → ⊥
+  unfolding all_fields
+  places_of_one is told = let e : 1 ≡ 5 = sym (ap length is) ∙ told.places_are.long in omega (arith, e)

@@ -3,8 +3,8 @@ use Rattle.std.proofs.Common.{◌≡◌, ℕ, suc, ◌+◌, ◌<◌, Bool, true,
 use Rattle.std.specs.Prelude.{Some, None, if◌then◌else◌}
 use Rattle.std.specs.Option.{option_map}
 use Rattle.std.proofs.lemmas.Option.{none-some, same_Some}
-use Rattle.dj_names.specs.Types.{Name, same_name}
-use Rattle.dj_model.specs.Program.{Program}
+use Rattle.dj_names.specs.trusted.Types.{Name, same_name}
+use Rattle.dj_model.specs.trusted.Program.{Program}
 use Rattle.dj_classes.specs.Tables.{class_number}
 use Rattle.dj_types.specs.Typed.{place_of_text}
 use Rattle.dj_types.specs.Kept.{number_among}
@@ -18,7 +18,7 @@ number_of_class (c ∷ program) texts text k e = by (same_name c.name text) (cla
   by false None later f = absurd (none-some k f)
   by false (Some j) later f = ap (option_map suc) (later j refl) ∙ f
 
--- so many places later
+-- this many places later
 abbrev later_by : ℕ → Option ℕ → Option ℕ
 later_by n place = option_map (λ (k : ℕ). n + k) place
 
@@ -45,7 +45,7 @@ number_of_text program texts text k e is = number_of_array program texts text e 
 pub number_of_none : (program : Program) (texts : List Name) (text : Name) → class_number program text ≡ None → place_of_text texts text ≡ None → number_among program texts text ≡ None
 number_of_none program texts text e is = number_of_array program texts text e ∙ ap (later_by (length program)) is
 
--- ---- where a text is told its place is within
+-- ---- where a text has a place it is within
 
 pub place_within : (texts : List Name) (text : Name) (k : ℕ) → place_of_text texts text ≡ Some k → k < length texts
 place_within [] text k e = absurd (none-some k e)

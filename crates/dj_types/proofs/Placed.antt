@@ -1,19 +1,20 @@
 -- Methods and fields by their numbers and by their places.
-use Rattle.std.proofs.Common.{◌≡◌, ℕ, ◌+◌, ◌^◌, ◌<◌, List, take, length, sum, get_or, Option, Some, None, refl, sym, ap, ◌∙◌, subst, arith}
+use Rattle.std.proofs.Common.{◌≡◌, ℕ, ◌+◌, ◌^◌, ◌<◌, List, [], ◌∷◌, ◌++◌, take, length, sum, get_or, Option, Some, None, refl, sym, ap, ◌∙◌, subst, arith, inl, inr}
 use Rattle.std.specs.Prelude.{slice_get, option_and_then}
 use Rattle.std.specs.List.{flat_map}
 use Rattle.std.specs.Option.{option_map}
-use Rattle.std.proofs.lemmas.List.{length-map, get_or_read}
+use Rattle.std.proofs.lemmas.Bool.{cases_lt}
+use Rattle.std.proofs.lemmas.List.{length-map, length_push, get_or_append_left, get_or_push, get_or_read}
 use Rattle.std.proofs.lemmas.Option.{none-some, same_Some, slice_get-map, slice_get_within}
-use Rattle.dj_model.specs.Program.{Program, Class, Method, Field, fields_of}
-use Rattle.dj_model.specs.Linking.{FoundMethod, FoundField}
+use Rattle.dj_model.specs.trusted.Program.{Program, Class, Method, Field, fields_of}
+use Rattle.dj_model.specs.trusted.Linking.{FoundMethod, FoundField, place_of}
 use Rattle.dj_classes.specs.Tables.{methods_of, methods_at, fields_at, method_of_class, field_of_class, method_there, field_there}
 use Rattle.dj_classes.specs.declared.place.Place.{Place}
 use Rattle.dj_types.specs.Members.{all_methods, all_fields, methods_in, fields_in, methods_before, fields_before}
-use Rattle.dj_types.specs.Numbered.{counts_of, AreStarts, IsStartOf}
+use Rattle.dj_types.specs.Numbered.{counts_of, AreObjectPlaces, AreStarts, IsStartOf}
 use Rattle.dj_types.proofs.Starts.{some_there, placed, IsPlaced, all_count, before_count, member_of_number, number_within, count_at, counts_length}
 
--- what is told of a place and of the number there
+-- what is known of a place and of the number there
 pub record IsNumbered {F : Type 0} (all : List F) (before start member : ℕ) (found : Option F) : Type 0 where
   pub fits : start + member < 2 ^ 32
   pub is : slice_get all (start + member) ≡ found
@@ -149,21 +150,21 @@ place_of_field program starts number place are lt at =
       counted = omega (arith, start, before, reached);
     }
 
--- what is told where the start was read
+-- what is known where the start was read
 pub method_id_told : (program : Program) (starts : List ℕ) (place : Place) (start : ℕ) → AreStarts (counts_of methods_in program) starts → length (all_methods program) < 2 ^ 32 → place.class < length program → place.member < length (methods_at program place.class)
     → start ≡ get_or starts place.class start → IsNumbered (all_methods program) (methods_before program place.class) start place.member (method_there program place)
 method_id_told program starts place start are few there within read =
     subst (λ (n : ℕ). IsNumbered (all_methods program) (methods_before program place.class) n place.member (method_there program place))
     (sym (get_or_read starts place.class start (method_starts_within program starts place.class are there) read 0)) (numbered_method program starts place are few there within)
 
--- what is told where the start was read
+-- what is known where the start was read
 pub field_id_told : (program : Program) (starts : List ℕ) (place : Place) (start : ℕ) → AreStarts (counts_of fields_in program) starts → length (all_fields program) < 2 ^ 32 → place.class < length program → place.member < length (fields_at program place.class)
     → start ≡ get_or starts place.class start → IsNumbered (all_fields program) (fields_before program place.class) start place.member (field_there program place)
 field_id_told program starts place start are few there within read =
     subst (λ (n : ℕ). IsNumbered (all_fields program) (fields_before program place.class) n place.member (field_there program place))
     (sym (get_or_read starts place.class start (field_starts_within program starts place.class are there) read 0)) (numbered_field program starts place are few there within)
 
--- a place that was told is that of a method
+-- a place that was found is that of a method
 pub method_bounds : (program : Program) (place : Place) (found : Option FoundMethod) → Some (method_there program place) ≡ option_map Some found → (place.class < length program) × (place.member < length (methods_at program place.class))
 method_bounds program place None told = absurd (none-some (method_there program place) (sym told))
 method_bounds program place (Some found) told = class_by (slice_get program place.class) refl (same_Some (method_there program place) (Some found) told) where
@@ -176,7 +177,7 @@ method_bounds program place (Some found) told = class_by (slice_get program plac
   class_by (Some c) at is =
       (slice_get_within program place.class c at, subst (λ (o : Option Class). place.member < length (methods_of o)) (sym at) (member_by c (slice_get c.methods place.member) refl is))
 
--- a place that was told is that of a field
+-- a place that was found is that of a field
 pub field_bounds : (program : Program) (place : Place) (found : Option FoundField) → Some (field_there program place) ≡ option_map Some found → (place.class < length program) × (place.member < length (fields_at program place.class))
 field_bounds program place None told = absurd (none-some (field_there program place) (sym told))
 field_bounds program place (Some found) told = class_by (slice_get program place.class) refl (same_Some (field_there program place) (Some found) told) where
@@ -188,3 +189,31 @@ field_bounds program place (Some found) told = class_by (slice_get program place
   class_by None at is = absurd (none-some found is)
   class_by (Some c) at is =
       (slice_get_within program place.class c at, subst (λ (o : Option Class). place.member < length (fields_of o)) (sym at) (member_by c (slice_get c.fields place.member) refl is))
+
+-- ---- places of fields in objects
+
+-- those of the fields so far
+pub record ArePlacesSoFar (program : Program) (count : ℕ) (places : List ℕ) : Type 0 where
+  pub long : length places ≡ count
+  pub each : (k : ℕ) → k < count → Some (get_or places k 0) ≡ option_map (place_of program) (slice_get (all_fields program) k)
+
+pub no_places : (program : Program) (none : List ℕ) → none ≡ [] → ArePlacesSoFar program 0 none
+no_places program none empty = record { long = ap length empty; each = λ k lt. absurd (omega (arith, lt)) }
+
+pub one_place : (program : Program) (count place : ℕ) (own more : List ℕ) → ArePlacesSoFar program count own → Some place ≡ option_map (place_of program) (slice_get (all_fields program) count) → more ≡ own ++ place ∷ []
+    → ArePlacesSoFar program (count + 1) more
+one_place program count place own more are here is = record {
+  long = (let long = are.long in let pushed = ap length is ∙ length_push own place in omega (arith, long, pushed));
+  each = λ k lt. elim (cases_lt k count) [
+    | inl before ↦
+        (let long = are.long in
+        ap Some (ap (λ (xs : List ℕ). get_or xs k 0) is ∙ get_or_append_left own (place ∷ []) 0 k (omega (arith, before, long))) ∙ are.each k before)
+    | inr after ↦
+        (let same : count ≡ k = omega (arith, after, lt) in
+        subst (λ (n : ℕ). Some (get_or more n 0) ≡ option_map (place_of program) (slice_get (all_fields program) n)) same
+        (ap Some (ap (λ (xs : List ℕ). get_or xs count 0) is ∙ get_or_push own place 0 count are.long) ∙ here))
+  ];
+}
+
+pub all_places : (program : Program) (count : ℕ) (places : List ℕ) → ArePlacesSoFar program count places → count ≡ length (all_fields program) → AreObjectPlaces program places
+all_places program count places are all = record { long = are.long ∙ all; each = λ k lt. are.each k (omega (arith, lt, all)) }

@@ -4,11 +4,11 @@ use Rattle.std.specs.Option.{option_map}
 use Rattle.std.proofs.lemmas.Bool.{and_parts}
 use Rattle.std.proofs.lemmas.Option.{none-some, same_Some}
 use Rattle.dj_names.specs.declared.descriptor.Desc.{Desc}
-use Rattle.dj_names.specs.Types.{Name, same_name, same_desc}
-use Rattle.dj_model.specs.Program.{Program, Class, Field, class_at, field_in, field_of, is_named}
-use Rattle.dj_model.specs.Linking.{FoundMethod, FoundField, field_or, first_field, most_classes, field_order, member_class, resolve_field}
+use Rattle.dj_names.specs.trusted.Types.{Name, same_name, same_desc}
+use Rattle.dj_model.specs.trusted.Program.{Program, Class, Field, class_at, field_in, field_of, is_named}
+use Rattle.dj_model.specs.trusted.Linking.{FoundMethod, FoundField, field_or, first_field, most_classes, field_order, member_class, resolve_field}
 use Rattle.dj_model.proofs.SoundLinks.{resolved_there, there_name}
-use Rattle.dj_declared.specs.Files.{desc_in}
+use Rattle.dj_declared.specs.trusted.Files.{desc_in}
 use Rattle.dj_declared.proofs.DescTests.{same_name_is, same_desc_is}
 use Rattle.dj_classes.specs.Tables.{method_there, field_there}
 use Rattle.dj_classes.specs.declared.place.Place.{Place}
@@ -22,7 +22,7 @@ method_named linked class name desc = by (resolved_method linked class name desc
   by None is = tt
   by (Some found) is = there_name linked.program name (desc_in desc) found (resolved_there linked.program linked.prefix (member_of linked.program class name desc) found is)
 
--- the method at a place that was told
+-- the method at a place that was found
 pub method_named_at : (linked : Linked) (class : ℕ) (name : Name) (desc : List ℕ) (place : Place) → Some (method_there linked.program place) ≡ option_map Some (resolved_method linked class name desc)
     → IsNamedMethod name (desc_in desc) (method_there linked.program place)
 method_named_at linked class name desc place told =
@@ -60,7 +60,7 @@ field_named linked class name desc = by (resolved_field linked class name desc) 
   by None is = tt
   by (Some found) is = first_field_named linked.program name (desc_in desc) (field_order most_classes linked.program (member_class linked.prefix (member_of linked.program class name desc).class)) found is
 
--- the field at a place that was told
+-- the field at a place that was found
 pub field_named_at : (linked : Linked) (class : ℕ) (name : Name) (desc : List ℕ) (place : Place) → Some (field_there linked.program place) ≡ option_map Some (resolved_field linked class name desc)
     → IsNamedField name (desc_in desc) (field_there linked.program place)
 field_named_at linked class name desc place told =

@@ -10,9 +10,9 @@ use Rattle.std.specs.List.Sorted.{IsStrictlySortedBy}
 use Rattle.std.proofs.lemmas.Bool.{and_parts}
 use Rattle.std.proofs.lemmas.Cmp.{nat_list_cmp_total}
 use Rattle.dj_names.specs.declared.descriptor.Ty.{Ty}
-use Rattle.dj_names.specs.Types.{Name}
-use Rattle.dj_names.specs.Descriptors.{type_text}
-use Rattle.dj_model.specs.Libraries.{is_name_before}
+use Rattle.dj_names.specs.trusted.Types.{Name}
+use Rattle.dj_names.specs.trusted.Descriptors.{type_text}
+use Rattle.dj_model.specs.trusted.Libraries.{is_name_before}
 use Rattle.dj_classes.proofs.Orders.{is_name_before-cmp}
 use Rattle.dj_types.specs.Typed.{arrays_rise}
 use Rattle.dj_types.specs.Kept.{DoTextsRise}

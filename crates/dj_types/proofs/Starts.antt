@@ -1,4 +1,4 @@
--- Numbers of members: so many stand before each class.
+-- Numbers of members: this many stand before each class.
 use Rattle.std.proofs.Common.{◌≡◌, ℕ, zero, suc, ◌+◌, ◌-◌, ◌<◌, ◌≤◌, List, [], ◌∷◌, ◌++◌, length, take, sum, get_or, Some, refl, sym, ap, ◌∙◌, subst, arith, inl, inr}
 use Rattle.std.specs.Prelude.{slice_get}
 use Rattle.std.specs.List.{flat_map}
@@ -6,7 +6,7 @@ use Rattle.std.proofs.lemmas.Bool.{cases_lt}
 use Rattle.std.proofs.lemmas.List.{length_push, length-append, take_all}
 use Rattle.std.proofs.lemmas.List.Sums.{sum_by-cons, sum_by_more}
 use Rattle.std.proofs.lemmas.Option.{none-some, same_Some}
-use Rattle.dj_model.specs.Program.{Program, Class}
+use Rattle.dj_model.specs.trusted.Program.{Program, Class}
 use Rattle.dj_classes.specs.declared.place.Place.{Place}
 use Rattle.dj_types.specs.declared.members.Starts.{Starts}
 use Rattle.dj_types.specs.Numbered.{counts_of, AreStarts, AreCounted, AreMemberClasses, IsBegun, IsStartOf}
@@ -21,7 +21,7 @@ sum_more xs k lt = sum_by_more (λ (y : ℕ). y) xs k 0 lt
 
 -- ---- starts
 
--- so many classes were counted
+-- this many classes were counted
 pub record IsSummed (counts : List ℕ) (k : ℕ) (starts : List ℕ) (start : ℕ) : Type 0 where
   pub long : length starts ≡ k
   pub total : start ≡ sum (take k counts)
@@ -204,7 +204,7 @@ module _ {F : Type 0} (items : Class → List F) where
       let g = sum_cons (length (items x)) (take k (counts program)) in
       omega (arith, later, f, g)
 
-  -- a class has as many as it is told
+  -- the count given for a class is its own
   pub count_there : (program : Program) (k count : ℕ) → k < length program → ((c : Class) → slice_get program k ≡ Some c → count ≡ length (items c)) → count ≡ get_or (counts program) k 0
   count_there program k count lt told =
       let class : (c : Class) × (slice_get program k ≡ Some c) = some_there program k lt in

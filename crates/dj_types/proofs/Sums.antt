@@ -6,9 +6,9 @@ use Rattle.std.proofs.lemmas.Bool.{cases_lt}
 use Rattle.std.proofs.lemmas.List.{get_or_read, get_or_past}
 use Rattle.std.proofs.lemmas.Option.{slice_get_past}
 use Rattle.dj_names.specs.declared.descriptor.Desc.{Desc}
-use Rattle.dj_names.specs.Types.{Name}
-use Rattle.dj_model.specs.Program.{Program, Class, Field, class_at, fields_of, is_named, is_static}
-use Rattle.dj_model.specs.Linking.{FoundField, chain, superclasses, count_fields, fields_before, own_field_count, fields_in, field_count, own_place, place_of}
+use Rattle.dj_names.specs.trusted.Types.{Name}
+use Rattle.dj_model.specs.trusted.Program.{Program, Class, Field, class_at, fields_of, is_named, is_static}
+use Rattle.dj_model.specs.trusted.Linking.{FoundField, chain, superclasses, count_fields, fields_before, own_field_count, fields_in, field_count, own_place, place_of}
 use Rattle.dj_classes.specs.Tables.{class_numbers, name_of, name_at, super_number, fields_at, field_there}
 use Rattle.dj_classes.specs.declared.place.Place.{Place}
 use Rattle.dj_classes.proofs.Numbered.{class_at-at}
@@ -62,7 +62,7 @@ before_le name desc (f ∷ fields) = by (is_named name desc f.name f.desc) (not 
   by false true m n le = omega (arith, le)
   by false false m n le = omega (arith, le)
 
--- what is told of the place of a field
+-- what is known of the place of a field
 pub record IsFieldPlace (program : Program) (found : Option FoundField) (sum own before : ℕ) : Type 0 where
   pub within : own ≤ sum
   pub fits : (sum - own) + before ≤ sum

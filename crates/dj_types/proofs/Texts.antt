@@ -15,7 +15,7 @@ use Rattle.std.proofs.lemmas.List.{length-map}
 use Rattle.std.proofs.lemmas.List.Sorted.{searchable_from_sorted}
 use Rattle.std.proofs.lemmas.Map.Keys.{Less-from_sorted}
 use Rattle.std.proofs.lemmas.Option.{slice_get-get_or, slice_get_within, get_or_from_slice_get, same_Some, none-some}
-use Rattle.dj_names.specs.Types.{Name, same_name}
+use Rattle.dj_names.specs.trusted.Types.{Name, same_name}
 use Rattle.dj_classes.proofs.Orders.{same_name-refl, names_from_same, names_from_cmp, cmp_itself, not_same_if_less}
 use Rattle.dj_types.specs.Typed.{place_of_text}
 use Rattle.dj_types.specs.Kept.{DoTextsRise}

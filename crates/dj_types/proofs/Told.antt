@@ -1,6 +1,6 @@
--- What is told of a class or an array by its number.
-use Rattle.std.proofs.Common.{◌≡◌, ℕ, zero, suc, ◌+◌, ◌-◌, ◌<◌, ◌≤◌, ◌&&◌, Bool, true, false, List, [], ◌∷◌, ◌++◌, map, length, get_or, refl, sym, ap, ◌∙◌, subst, arith, Option}
-use Rattle.std.specs.Prelude.{Some, None, if◌then◌else◌, slice_get, unwrap_or, nat_le, IsTrue}
+-- What is known of a class or an array by its number.
+use Rattle.std.proofs.Common.{◌≡◌, ℕ, zero, suc, ◌+◌, ◌-◌, ◌<◌, ◌≤◌, Bool, true, false, List, [], ◌∷◌, ◌++◌, map, length, get_or, refl, sym, ap, ◌∙◌, subst, arith, Option}
+use Rattle.std.specs.Prelude.{Some, None, if◌then◌else◌, slice_get, unwrap_or, IsTrue}
 use Rattle.std.specs.List.{list_all}
 use Rattle.std.proofs.lemmas.Bool.{and_parts, false≢true}
 use Rattle.std.proofs.lemmas.List.{length-map, length-append}
@@ -8,15 +8,15 @@ use Rattle.std.proofs.lemmas.Option.{none-some, same_Some}
 use Rattle.dj_names.specs.declared.descriptor.Of.{Of}
 use Rattle.dj_names.specs.declared.descriptor.Of.TheVariants as ofs
 use Rattle.dj_names.specs.declared.descriptor.Ty.{Ty}
-use Rattle.dj_names.specs.Types.{Name, class_type, component_type}
-use Rattle.dj_names.specs.Descriptors.{type_text}
-use Rattle.dj_model.specs.Program.{Program, Class}
+use Rattle.dj_names.specs.trusted.Types.{Name, class_type, component_type}
+use Rattle.dj_names.specs.trusted.Descriptors.{type_text}
+use Rattle.dj_model.specs.trusted.Program.{Program, Class}
 use Rattle.dj_classes.specs.Tables.{name_of, class_number}
 use Rattle.dj_classes.proofs.Numbered.{name_at-number, class_number-within}
 use Rattle.dj_linking.specs.Linked.{class_name}
 use Rattle.dj_types.specs.declared.shapes.Element.TheVariants as elements
 use Rattle.dj_types.specs.declared.shapes.Shape.{Shape}
-use Rattle.dj_types.specs.Typed.{Typed, AreArrays, types_of, type_at, type_number, has_references, text_of_type, component_at, is_known_of, is_array_of}
+use Rattle.dj_types.specs.Typed.{Typed, types_of, type_at, type_number, has_references, text_of_type, component_at, is_known_of, is_array_of}
 use Rattle.dj_types.specs.Shapes.{element_of, element_in, shape_type, IsElement, AreElements}
 use Rattle.dj_types.specs.Kept.{component_in, number_if}
 

@@ -8,10 +8,10 @@ use Rattle.dj_names.specs.declared.descriptor.Base.TheVariants as bases
 use Rattle.dj_names.specs.declared.descriptor.Of.{Of}
 use Rattle.dj_names.specs.declared.descriptor.Of.TheVariants as ofs
 use Rattle.dj_names.specs.declared.descriptor.Ty.{Ty}
-use Rattle.dj_names.specs.Types.{Name, component_type}
-use Rattle.dj_names.specs.Descriptors.{type_text}
-use Rattle.dj_model.specs.Types.{Prefix}
-use Rattle.dj_model.specs.Program.{Program, Class}
+use Rattle.dj_names.specs.trusted.Types.{Name, component_type}
+use Rattle.dj_names.specs.trusted.Descriptors.{type_text}
+use Rattle.dj_model.specs.trusted.Types.{Prefix}
+use Rattle.dj_model.specs.trusted.Program.{Program, Class}
 use Rattle.dj_classes.specs.Tables.{name_of}
 use Rattle.dj_directory.specs.declared.calls.CallTable.{CallTable}
 use Rattle.dj_directory.specs.Calls.{IsCallTable}
@@ -22,7 +22,7 @@ use Rattle.dj_types.specs.declared.shapes.Element.{Element}
 use Rattle.dj_types.specs.declared.shapes.Element.TheVariants as elements
 use Rattle.dj_types.specs.declared.shapes.Shape.{Shape}
 use Rattle.dj_types.specs.Shapes.{AreElements, shape_type}
-use Rattle.dj_types.specs.Numbered.{AreMembers}
+use Rattle.dj_types.specs.Numbered.{AreMembers, AreObjectPlaces}
 use Rattle.dj_types.specs.declared.own.OwnClasses.{OwnClasses}
 use Rattle.dj_types.specs.Own.{AreOwn}
 
@@ -98,9 +98,10 @@ pub record AreKept (program : Program) (types : List Ty) (arrays : Arrays) : Typ
   pub components : arrays.components.items ≡ map (component_in program (map type_text types)) types
 
 -- what is kept beside the classes and the types of the arrays
-pub record IsTyped (program : Program) (prefix : Prefix) (types : List Ty) (arrays : Arrays) (members : Members) (calls : CallTable) (own : OwnClasses) : Type 0 where
+pub record IsTyped (program : Program) (prefix : Prefix) (types : List Ty) (arrays : Arrays) (members : Members) (calls : CallTable) (own : OwnClasses) (places : List ℕ) : Type 0 where
   pub plain : ArePlain program
   pub arrays_are : AreKept program types arrays
   pub members_are : AreMembers program members
   pub calls_are : IsCallTable program calls
   pub own_are : AreOwn (record { program = program; prefix = prefix; arrays = types }) own
+  pub places_are : AreObjectPlaces program places

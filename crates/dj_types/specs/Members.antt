@@ -2,13 +2,13 @@
 use Rattle.std.specs.Prelude.{◌≡◌, ℕ, suc, ◌+◌, ◌<◌, ◌&&◌, List, [], ◌∷◌, map, take, length, Option, Some, None, nat_lt, if◌then◌else◌, slice_get, option_and_then, unwrap_or}
 use Rattle.std.specs.Option.{option_map}
 use Rattle.std.specs.List.{flat_map}
-use Rattle.dj_names.specs.Types.{Name, same_name}
+use Rattle.dj_names.specs.trusted.Types.{Name, same_name}
 use Rattle.dj_names.specs.declared.native.NativeId.{NativeId}
-use Rattle.dj_names.specs.Descriptors.{Describes}
-use Rattle.dj_model.specs.Types.{Member}
-use Rattle.dj_model.specs.Program.{Program, Class, is_named}
-use Rattle.dj_model.specs.Linking.{FoundMethod, FoundField, resolve_method, resolve_field, select, special_method, field_count}
-use Rattle.dj_declared.specs.Files.{desc_in}
+use Rattle.dj_names.specs.trusted.Descriptors.{Describes}
+use Rattle.dj_model.specs.trusted.Types.{Member}
+use Rattle.dj_model.specs.trusted.Program.{Program, Class, is_named}
+use Rattle.dj_model.specs.trusted.Linking.{FoundMethod, FoundField, resolve_method, resolve_field, select, special_method, field_count}
+use Rattle.dj_declared.specs.trusted.Files.{desc_in}
 use Rattle.dj_declared.specs.Members.{method_native}
 use Rattle.dj_classes.specs.Tables.{methods_at, fields_at, name_at}
 use Rattle.dj_classes.specs.declared.place.Place.{Place}
@@ -91,7 +91,7 @@ methods_before program class = length (all_methods (take class program))
 abbrev pub fields_before : Program → ℕ → ℕ
 fields_before program class = length (all_fields (take class program))
 
--- the number of the method at a place of a class: so many stand in the classes before it
+-- the number of the method at a place of a class: this many stand in the classes before it
 abbrev pub IsNthMethod : Typed → ℕ → ℕ → Option ℕ → Type 0
 IsNthMethod typed class at number =
     number ≡ (if nat_lt at (length (methods_at typed.program class)) then Some (methods_before typed.program class + at) else None)
@@ -100,7 +100,7 @@ abbrev pub IsNthField : Typed → ℕ → ℕ → Option ℕ → Type 0
 IsNthField typed class at number =
     number ≡ (if nat_lt at (length (fields_at typed.program class)) then Some (fields_before typed.program class + at) else None)
 
--- what is told of the method of a number
+-- what is answered for the method of a number
 pub record IsMethodThere (typed : Typed) (number : ℕ) (told : MemberOf) : Type 0 where
   pub found : FoundMethod
   pub there : slice_get (all_methods typed.program) number ≡ Some found
@@ -119,7 +119,7 @@ pub record IsFieldThere (typed : Typed) (number : ℕ) (told : MemberOf) : Type 
 
 -- ---- places
 
--- the method of a number stands at a place: so many methods stand in the classes before it
+-- the method of a number stands at a place: this many methods stand in the classes before it
 pub record IsMethodPlace (typed : Typed) (number : ℕ) (place : Place) : Type 0 where
   pub within : place.member < length (methods_at typed.program place.class)
   pub is : number ≡ methods_before typed.program place.class + place.member

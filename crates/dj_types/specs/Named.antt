@@ -2,9 +2,9 @@
 use Rattle.std.specs.Prelude.{◌≡◌, ⊤, Option, Some, None, IfSome}
 use Rattle.std.specs.Borrow.{Bor}
 use Rattle.dj_names.specs.declared.descriptor.Desc.{Desc}
-use Rattle.dj_names.specs.Types.{Name}
-use Rattle.dj_model.specs.Program.{Program}
-use Rattle.dj_model.specs.Linking.{FoundMethod, FoundField}
+use Rattle.dj_names.specs.trusted.Types.{Name}
+use Rattle.dj_model.specs.trusted.Program.{Program}
+use Rattle.dj_model.specs.trusted.Linking.{FoundMethod, FoundField}
 use Rattle.dj_declared.specs.Members.{IsDescriptor}
 use Rattle.dj_directory.specs.Numberings.{Numbering}
 use Rattle.dj_linking.specs.Numbered.{AreNumbersOf}

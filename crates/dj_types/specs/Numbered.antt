@@ -1,7 +1,8 @@
 -- What is kept of fields and methods: how many stand in the classes before each class, the class of each, and how many instance fields each class has.
 use Rattle.std.specs.Prelude.{◌≡◌, ℕ, ◌+◌, ◌-◌, ◌^◌, ◌<◌, ◌≤◌, List, [], ◌∷◌, map, take, length, sum, get_or, Option, Some, None, slice_get}
-use Rattle.dj_model.specs.Program.{Program, Class}
-use Rattle.dj_model.specs.Linking.{most_classes, own_field_count}
+use Rattle.std.specs.Option.{option_map}
+use Rattle.dj_model.specs.trusted.Program.{Program, Class}
+use Rattle.dj_model.specs.trusted.Linking.{most_classes, own_field_count, place_of}
 use Rattle.dj_classes.specs.declared.place.Place.{Place}
 use Rattle.dj_linking.specs.Numbers.{numbers_up}
 use Rattle.dj_types.specs.declared.members.Members.{Members}
@@ -56,7 +57,7 @@ pub record AreSums (program : Program) (sums : List ℕ) : Type 0 where
   pub long : length sums ≡ length program
   pub each : (k : ℕ) → k < length program → get_or sums k 0 ≡ fields_up program k
 
--- so many levels above, and more, have so many instance fields
+-- this many levels above, and more, have this many instance fields
 pub record IsHeight (program : Program) (class : Option ℕ) (height : Height) : Type 0 where
   pub same : (n : ℕ) → fields_of_numbers program (numbers_up (n + height.levels) program class) ≡ height.fields
   pub few : height.levels < 2 ^ 32
@@ -66,7 +67,7 @@ abbrev pub height_at : List (Option Height) → Option ℕ → Option Height
 height_at heights None = Some (record { fields = 0; levels = 0 })
 height_at heights (Some k) = get_or heights k None
 
--- so many instance fields more, and a level
+-- this many instance fields more, and a level
 pub record AddsTo (above : Height) (fields : ℕ) (height : Height) : Type 0 where
   pub fields_are : height.fields ≡ above.fields + fields
   pub levels_are : height.levels ≡ above.levels + 1
@@ -76,6 +77,11 @@ pub record AddsTo (above : Height) (fields : ℕ) (height : Height) : Type 0 whe
 pub record AreHeights (program : Program) (heights : List (Option Height)) : Type 0 where
   pub long : length heights ≡ length program
   pub each : (k : ℕ) (height : Height) → get_or heights k None ≡ Some height → IsHeight program (Some k) height
+
+-- by the numbers of fields, their places among the instance fields of objects
+pub record AreObjectPlaces (program : Program) (places : List ℕ) : Type 0 where
+  pub long : length places ≡ length (all_fields program)
+  pub each : (k : ℕ) → k < length (all_fields program) → Some (get_or places k 0) ≡ option_map (place_of program) (slice_get (all_fields program) k)
 
 -- ---- all of it
 

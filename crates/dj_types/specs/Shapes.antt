@@ -1,10 +1,10 @@
--- Types in which classes are told by their numbers.
+-- Types that name classes by their numbers.
 use Rattle.std.specs.Prelude.{◌<◌, List, length, unwrap_or}
 use Rattle.std.specs.List.{AllByRecursion}
 use Rattle.dj_names.specs.declared.descriptor.Of.{Of}
 use Rattle.dj_names.specs.declared.descriptor.Of.TheVariants as ofs
 use Rattle.dj_names.specs.declared.descriptor.Ty.{Ty}
-use Rattle.dj_model.specs.Program.{Program}
+use Rattle.dj_model.specs.trusted.Program.{Program}
 use Rattle.dj_classes.specs.Tables.{class_number}
 use Rattle.dj_linking.specs.Linked.{class_name}
 use Rattle.dj_types.specs.declared.shapes.Element.{Element}

@@ -6,13 +6,13 @@ use Rattle.dj_names.specs.declared.descriptor.Base.TheVariants as bases
 use Rattle.dj_names.specs.declared.descriptor.Ty.{Ty}
 use Rattle.dj_names.specs.declared.descriptor.Of.{Of}
 use Rattle.dj_names.specs.declared.descriptor.Of.TheVariants as ofs
-use Rattle.dj_names.specs.Types.{Name, same_name, class_type, base_array, component_type}
-use Rattle.dj_names.specs.Descriptors.{type_text}
-use Rattle.dj_names.specs.Library.{stop_class}
-use Rattle.dj_model.specs.Types.{Prefix, string_name}
-use Rattle.dj_model.specs.Program.{Program, flags_of, interfaces_of, superclass_of}
-use Rattle.dj_model.specs.Linking.{is_subtype}
-use Rattle.dj_model.specs.Libraries.{is_name_before}
+use Rattle.dj_names.specs.trusted.Types.{Name, same_name, class_type, base_array, component_type}
+use Rattle.dj_names.specs.trusted.Descriptors.{type_text}
+use Rattle.dj_names.specs.trusted.Library.{stop_class}
+use Rattle.dj_model.specs.trusted.Types.{Prefix, string_name}
+use Rattle.dj_model.specs.trusted.Program.{Program, flags_of, interfaces_of, superclass_of}
+use Rattle.dj_model.specs.trusted.Linking.{is_subtype}
+use Rattle.dj_model.specs.trusted.Libraries.{is_name_before}
 use Rattle.dj_classes.specs.Tables.{name_of, name_at, class_number, class_numbers}
 
 pub record Typed : Type 0 where
@@ -54,7 +54,7 @@ type_number typed ty = text_number typed (text_of_type ty)
 abbrev pub type_at : Typed → ℕ → Ty
 type_at typed class = unwrap_or (slice_get (types_of typed) class) (class_type [])
 
--- ---- what is told of a number
+-- ---- what is answered for a number
 
 -- of an array there are no flags
 abbrev pub flags_at : Typed → ℕ → ℕ

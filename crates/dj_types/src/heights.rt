@@ -1,5 +1,5 @@
 ghost use Rattle.std.specs.Prelude.{◌≡◌, ◌+◌, ◌<◌, All, None, Some, IfOk, IfSome, OnOk, get_or, length, replicate, slice_get};
-ghost use Rattle.dj_model.specs.Linking.{own_field_count};
+ghost use Rattle.dj_model.specs.trusted.Linking.{own_field_count};
 ghost use Rattle.dj_types.specs.Numbered.{AddsTo, AreHeights, AreSums, height_at};
 
 use crate::error::TypesError;
@@ -25,7 +25,7 @@ fn own_fields(table: &ClassTable, class: u32) -> Option<u32>
         .checked_add(u32::from(table.unnamed_fields(class)))
 }
 
-// A class with so many instance fields of its own below another one.
+// A class with this many instance fields of its own below another one.
 fn height_below(above: Height, fields: u32) -> Option<Height>
     ensures { IfSome result (λ height. AddsTo above fields height) }
 {

@@ -7,6 +7,7 @@ mod heights;
 mod members;
 mod named;
 mod own;
+mod places;
 mod shapes;
 mod types;
 

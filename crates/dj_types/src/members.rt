@@ -33,7 +33,7 @@ pub struct Starts {
     pub total: u32,
 }
 
-// So many more.
+// This many more.
 fn sum_of(start: u32, count: usize) -> Result<u32, TypesError>
     ensures { IfOk result (λ sum. sum ≡ start + count) }
 {

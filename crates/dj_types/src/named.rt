@@ -1,6 +1,6 @@
 //! Members by their names and descriptors, with the numbers of these in a directory.
 ghost use Rattle.std.specs.Prelude.{◌≡◌, ◌<◌, length};
-ghost use Rattle.dj_declared.specs.Files.{desc_in};
+ghost use Rattle.dj_declared.specs.trusted.Files.{desc_in};
 ghost use Rattle.dj_declared.specs.Members.{method_place, field_place};
 ghost use Rattle.dj_classes.specs.Tables.{methods_at, fields_at};
 ghost use Rattle.dj_types.specs.Named.{IsNumberedBy};

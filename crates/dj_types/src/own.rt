@@ -1,24 +1,32 @@
 ghost use Rattle.std.specs.Prelude.{◌≡◌, ◌++◌};
+ghost use Rattle.dj_names.specs.trusted.Types.{base_array};
 ghost use Rattle.dj_names.specs.Types.{sandbox_prefix};
-ghost use Rattle.dj_names.specs.Values.{raised_class};
-ghost use Rattle.dj_model.specs.Types.{string_name};
+ghost use Rattle.dj_names.specs.trusted.Values.{raised_class};
+ghost use Rattle.dj_model.specs.trusted.Types.{string_name};
 ghost use Rattle.dj_classes.specs.Tables.{class_number};
 ghost use Rattle.dj_linking.specs.Linked.{prefix_of};
 ghost use Rattle.dj_types.specs.Kept.{AreKept, types_kept};
-ghost use Rattle.dj_types.specs.Own.{AreOwn, raised_in};
-ghost use Rattle.dj_types.specs.Typed.{stop_under, text_number};
+ghost use Rattle.dj_types.specs.Own.{AreOwn, array_at, array_in, raised_in};
+ghost use Rattle.dj_types.specs.Typed.{stop_under, text_number, text_of_type};
 
 use crate::arrays::{Arrays, number_in};
 use dj_linking::{BaseNames, Linker};
-use dj_names::Raised;
+use dj_names::{Base, Raised};
 
 /// The numbers of the classes that a machine asks for by name, looked up once: a step of a run may ask them.
 #[derive(Clone, Copy, Debug)]
 pub struct OwnClasses {
     /// The class String.
     pub string: Option<u32>,
-    /// The arrays of chars.
+    /// The arrays of base types.
+    pub booleans: Option<u32>,
+    pub bytes: Option<u32>,
     pub chars: Option<u32>,
+    pub shorts: Option<u32>,
+    pub ints: Option<u32>,
+    pub longs: Option<u32>,
+    pub floats: Option<u32>,
+    pub doubles: Option<u32>,
     /// The class of the object that stops a run.
     pub stop: Option<u32>,
     /// The classes of the exceptions of instructions' own.
@@ -104,6 +112,30 @@ fn number_of(linker: &Linker, kept: &Arrays, name: &[u8]) -> Option<u32>
     number_in(linker.classes(), &kept.wholes, &kept.shapes, name)
 }
 
+// The descriptor of the arrays of a base type.
+fn array_text(base: Base) -> &'static [u8]
+    ensures { result.now ≡ text_of_type (base_array base) }
+{
+    match base {
+        Base::Boolean => b"[Z",
+        Base::Byte => b"[B",
+        Base::Char => b"[C",
+        Base::Short => b"[S",
+        Base::Int => b"[I",
+        Base::Long => b"[J",
+        Base::Float => b"[F",
+        Base::Double => b"[D",
+    }
+}
+
+// The arrays of a base type.
+fn array_number(linker: &Linker, kept: &Arrays, base: Base) -> Option<u32>
+    requires { AreKept linker.now.program (types_kept linker.now.program kept.now) kept.now }
+    ensures { result ≡ array_at (record { program = linker.now.program; prefix = linker.now.prefix; arrays = types_kept linker.now.program kept.now }) base }
+{
+    number_of(linker, kept, array_text(base))
+}
+
 // The class of an exception of an instruction's own.
 fn raised_number(linker: &Linker, kept: &Arrays, raised: Raised) -> Option<u32>
     requires { AreKept linker.now.program (types_kept linker.now.program kept.now) kept.now }
@@ -121,7 +153,14 @@ impl OwnClasses {
     {
         OwnClasses {
             string: string_in(linker),
-            chars: number_of(linker, kept, b"[C"),
+            booleans: array_number(linker, kept, Base::Boolean),
+            bytes: array_number(linker, kept, Base::Byte),
+            chars: array_number(linker, kept, Base::Char),
+            shorts: array_number(linker, kept, Base::Short),
+            ints: array_number(linker, kept, Base::Int),
+            longs: array_number(linker, kept, Base::Long),
+            floats: array_number(linker, kept, Base::Float),
+            doubles: array_number(linker, kept, Base::Double),
             stop: stop_in(linker),
             arithmetic: raised_number(linker, kept, Raised::Arithmetic),
             array_index_out_of_bounds: raised_number(linker, kept, Raised::ArrayIndexOutOfBounds),
@@ -130,6 +169,22 @@ impl OwnClasses {
             negative_array_size: raised_number(linker, kept, Raised::NegativeArraySize),
             null_pointer: raised_number(linker, kept, Raised::NullPointer),
             string_index_out_of_bounds: raised_number(linker, kept, Raised::StringIndexOutOfBounds),
+        }
+    }
+
+    /// The arrays of a base type.
+    pub fn array(&self, base: Base) -> Option<u32>
+        ensures { result ≡ array_in self.now base }
+    {
+        match base {
+            Base::Boolean => self.booleans,
+            Base::Byte => self.bytes,
+            Base::Char => self.chars,
+            Base::Short => self.shorts,
+            Base::Int => self.ints,
+            Base::Long => self.longs,
+            Base::Float => self.floats,
+            Base::Double => self.doubles,
         }
     }
 

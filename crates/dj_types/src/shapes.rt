@@ -1,5 +1,5 @@
 ghost use Rattle.std.specs.Prelude.{◌≡◌, IsTrue};
-ghost use Rattle.dj_model.specs.Linking.{array_supertypes, is_among, is_below, is_subtype, takes_arrays};
+ghost use Rattle.dj_model.specs.trusted.Linking.{array_supertypes, is_among, is_below, is_subtype, takes_arrays};
 ghost use Rattle.dj_linking.specs.Linked.{prefix_of};
 ghost use Rattle.dj_types.specs.Typed.{is_known_of};
 ghost use Rattle.dj_types.specs.Shapes.{IsElement, element_in, element_of, shape_in, shape_type};
@@ -16,7 +16,7 @@ pub enum Element {
     Class(u32),
 }
 
-/// A type: an element under so many dimensions.
+/// A type: an element under this many dimensions.
 #[derive(Clone, Copy, Debug, PartialEq, Eq)]
 pub struct Shape {
     pub dims: u8,
@@ -90,7 +90,7 @@ fn is_below(linker: &Linker, a: Element, b: Element) -> bool
 }
 
 /// Whether a type is a subtype of another (JVMS 4.10.1.2).
-#[tactic(auto, unfolding(dj_model::specs::Linking::is_subtype))]
+#[tactic(auto, unfolding(dj_model::specs::trusted::Linking::is_subtype))]
 pub fn is_subtype(linker: &Linker, a: Shape, b: Shape) -> bool
     requires first { IsElement linker.now.program a.of }
     requires second { IsElement linker.now.program b.of }

@@ -1,11 +1,11 @@
 ghost use Rattle.std.specs.Prelude.{◌≡◌, ◌+◌, ◌^◌, ◌<◌, length, map, Some, None, IfOk, IfSome, slice_get};
 ghost use Rattle.std.specs.Option.{option_map};
-ghost use Rattle.dj_model.specs.Linking.{member_class, place_of};
-ghost use Rattle.dj_declared.specs.Files.{desc_in};
+ghost use Rattle.dj_model.specs.trusted.Linking.{member_class, place_of};
+ghost use Rattle.dj_declared.specs.trusted.Files.{desc_in};
 ghost use Rattle.dj_declared.specs.Members.{IsDescriptor};
 ghost use Rattle.dj_classes.specs.Tables.{class_number, methods_at, fields_at, method_there, field_there};
 ghost use Rattle.dj_types.specs.Typed.{texts_of, types_of, type_at, text_number, flags_at, super_at, interfaces_at, component_at, is_subtype_at, string_at, chars_at, stop_at, ArePlain, AreArrays};
-ghost use Rattle.dj_types.specs.Own.{raised_at};
+ghost use Rattle.dj_types.specs.Own.{array_at, raised_at};
 ghost use Rattle.dj_types.specs.Shapes.{IsElement, AreElements, shape_type};
 ghost use Rattle.dj_types.specs.Named.{IsDirectoryOf, IsNumbered, IsNumberedBy, IsNamedMethod, IsNamedField};
 ghost use Rattle.dj_types.specs.Members.{all_methods, all_fields, field_count_at, resolved_method, resolved_field, selected, special_of, found_method_number, found_field_number, IsMethodThere, IsFieldThere, IsNthMethod, IsNthField, IsMethodPlace, IsFieldPlace, native_at, number_of_method, number_of_field, methods_before, fields_before};
@@ -15,11 +15,12 @@ use crate::error::TypesError;
 use crate::members::{Members, count_at, is_descriptor, place_at};
 use crate::named::{MemberName, field_in, method_in};
 use crate::own::OwnClasses;
+use crate::places::object_places;
 use crate::shapes::{Element, Shape, is_subtype};
 use dj_classes::Place;
 use dj_directory::{CallTable, Directory};
 use dj_linking::{Linker, resolve_field_of, resolve_method_of};
-use dj_names::{NativeId, Raised};
+use dj_names::{Base, NativeId, Raised};
 use std::alloc::Global;
 use std::marker::Model;
 
@@ -55,6 +56,8 @@ pub struct Types {
     members: Members,
     calls: CallTable,
     own: OwnClasses,
+    // By the number of a field, its place among the instance fields of an object.
+    places: Vec<u32>,
 }
 
 impl Model for Types {
@@ -66,7 +69,7 @@ impl Model for Types {
 
     ghost view = { λ types. record { program = types.linker.program; prefix = types.linker.prefix; arrays = types_kept types.linker.program types.kept } };
 
-    ghost invariant = { λ types. IsTyped types.linker.program types.linker.prefix (types_kept types.linker.program types.kept) types.kept types.members types.calls types.own };
+    ghost invariant = { λ types. IsTyped types.linker.program types.linker.prefix (types_kept types.linker.program types.kept) types.kept types.members types.calls types.own types.places.items };
 }
 
 impl Types {
@@ -84,12 +87,14 @@ impl Types {
         let members = Members::of(alloc, linker.classes())?;
         let calls = CallTable::of(alloc, linker.classes())?;
         let own = OwnClasses::of(&linker, &kept);
+        let places = object_places(alloc, linker.classes(), &members)?;
         Ok(Types {
             linker,
             kept,
             members,
             calls,
             own,
+            places,
         })
     }
 
@@ -231,6 +236,13 @@ impl Types {
         self.own.chars
     }
 
+    /// The arrays of a base type.
+    pub fn array_of(&self, base: Base) -> Option<u32>
+        ensures { result ≡ array_at self.now base }
+    {
+        self.own.array(base)
+    }
+
     /// The class of the object that stops a run, where it is there.
     pub fn stop(&self) -> Option<u32>
         ensures { result ≡ stop_at self.now }
@@ -293,18 +305,13 @@ impl Types {
         requires within { place.member < length (methods_at self.now.program place.class) }
         ensures { Some result.number ≡ found_method_number self.now.program (method_there self.now.program place) }
     {
-        let Place { class, member } = place;
         let table = self.linker.classes();
         table.names_differ();
-        let name = table.method_name(class, member);
-        let desc = table.method_desc(class, member);
-        match table.method_named(class, name, desc) {
-            Some(first) => self.method_id(Place {
-                class,
-                member: first,
-            }),
-            None => unreachable!(),
-        }
+        let member = self.calls.first_like(table, place.class, place.member);
+        self.method_id(Place {
+            class: place.class,
+            member,
+        })
     }
 
     // The number of the first method of its class that has the name and the descriptor of the one at a place, by the numbers of these.
@@ -492,11 +499,7 @@ impl Types {
         requires { field.number < length (all_fields self.now.program) }
         ensures { Some result ≡ option_map (place_of self.now.program) (slice_get (all_fields self.now.program) field.number) }
     {
-        let Place { class, member } = self.field_place(field);
-        let table = self.linker.classes();
-        table.names_differ();
-        let others = self.members.field_sums[class as usize] - table.instance_fields(class);
-        others + table.instance_fields_before(class, member)
+        self.places[field.number as usize]
     }
 
     /// The method to which a name and a descriptor resolve in a class or an array (JVMS 5.4.3.3 and 5.4.3.4).

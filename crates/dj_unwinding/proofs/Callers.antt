@@ -1,12 +1,12 @@
--- Where frames stand as shape tells, a caller has room for what is returned to it.
+-- Where frames have the kinds that shape says, a caller has room for what is returned to it.
 use Rattle.std.proofs.Common.{◌≡◌, false, List, [], ◌∷◌, Option, Some, None, sym, subst, ◌∙◌, inl, inr}
 use Rattle.std.specs.Option.{option_map}
 use Rattle.std.proofs.lemmas.Bool.{false≢true}
 use Rattle.dj_names.specs.declared.descriptor.Kind.{Kind}
 use Rattle.dj_names.specs.declared.run.Value.{Value}
-use Rattle.dj_names.specs.Values.{value_kind}
-use Rattle.dj_model.specs.Program.{is_initialiser}
-use Rattle.dj_model.specs.Kinds.{call_signature}
+use Rattle.dj_names.specs.trusted.Values.{value_kind}
+use Rattle.dj_model.specs.trusted.Program.{is_initialiser}
+use Rattle.dj_model.specs.trusted.Kinds.{call_signature}
 use Rattle.dj_model.specs.Sound.{IsProgram}
 use Rattle.dj_model.specs.Standing.{IsWaiting, AreStanding, result_of}
 use Rattle.dj_stack.specs.Frames.{StackFrame}

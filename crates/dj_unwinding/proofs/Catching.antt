@@ -8,12 +8,12 @@ use Rattle.std.proofs.lemmas.List.{length-map}
 use Rattle.std.proofs.lemmas.Option.{none-some, same_Some, slice_get-map, slice_get_within}
 use Rattle.dj_names.specs.declared.descriptor.Ty.{Ty}
 use Rattle.dj_labels.specs.declared.labelled.Protected.{Protected}
-use Rattle.dj_model.specs.Types.{Prefix, Declared}
-use Rattle.dj_model.specs.Program.{Program, Method, Body, Abstract, Native, Runs, Code, Range, method_at, code_of, code_in as code_of_method, body_code}
+use Rattle.dj_model.specs.trusted.Types.{Prefix, Declared}
+use Rattle.dj_model.specs.trusted.Program.{Program, Method, Body, Abstract, Native, Runs, Code, Range, method_at, code_of, code_in as code_of_method, body_code}
 use Rattle.dj_model.specs.Sound.{is_caught, IsSound}
-use Rattle.dj_model.specs.Step.{catches, handler_in, handler_of}
+use Rattle.dj_model.specs.trusted.Step.{catches, handler_in, handler_of}
 use Rattle.dj_model.proofs.SoundFrames.{contained, sound_code, all_at}
-use Rattle.dj_program.specs.Codes.{catches_in, range_in, code_in}
+use Rattle.dj_program.specs.trusted.Codes.{catches_in, range_in, code_in}
 use Rattle.dj_program.specs.Views.{parts_of}
 use Rattle.dj_program.specs.declared.code.MethodCode.{MethodCode}
 use Rattle.dj_image.specs.Imaged.{Imaged, program_of}
@@ -21,7 +21,7 @@ use Rattle.dj_image.specs.Operands.{named_class}
 use Rattle.dj_image.specs.Codes.{PooledCode, HasRange, IsCaughtAt}
 use Rattle.dj_activations.specs.Activations.{declared_at}
 use Rattle.dj_activations.specs.Told.{IsCodeOf}
-use Rattle.dj_unwinding.specs.Rows.{IsRowOf, HasRow}
+use Rattle.dj_unwinding.specs.HandlerRows.{IsRowOf, HasRow}
 use Rattle.dj_unwinding.specs.Unwinding.{ranges_of, ranges_at, is_handling}
 
 -- ---- rows by their places

@@ -7,13 +7,13 @@ use Rattle.dj_names.specs.declared.descriptor.Ty.{Ty}
 use Rattle.dj_names.specs.declared.run.Value.{Value}
 use Rattle.dj_names.specs.declared.run.Value.TheVariants as values
 use Rattle.dj_names.specs.declared.run.Outcome.TheVariants as outcomes
-use Rattle.dj_names.specs.Types.{Name}
-use Rattle.dj_model.specs.Types.{Prefix, Declared}
-use Rattle.dj_model.specs.Program.{Program, Class, Range, code_of, is_initialiser}
-use Rattle.dj_model.specs.Linking.{option_list, member_class}
-use Rattle.dj_model.specs.State.{Frame, State}
+use Rattle.dj_names.specs.trusted.Types.{Name}
+use Rattle.dj_model.specs.trusted.Types.{Prefix, Declared}
+use Rattle.dj_model.specs.trusted.Program.{Program, Class, Range, code_of, is_initialiser}
+use Rattle.dj_model.specs.trusted.Linking.{option_list, member_class}
+use Rattle.dj_model.specs.trusted.State.{Frame, State}
 use Rattle.dj_model.specs.Sound.{IsSound}
-use Rattle.dj_model.specs.Step.{Answer, Went, catches, handler_in, handler_of, caught, ends_with, leaves_frame, at_handler, unwound, message_of, resumed}
+use Rattle.dj_model.specs.trusted.Step.{Answer, Went, catches, handler_in, handler_of, caught, ends_with, leaves_frame, at_handler, unwound, message_of, resumed}
 use Rattle.dj_model.proofs.SoundLinks.{here, later}
 use Rattle.dj_stack.specs.Frames.{StackFrame, SameFrames, SameButNumber, SameButOperands, below_top, top_method, top_number, top_locals, top_operands, top_room}
 use Rattle.dj_classes.specs.Tables.{name_of}

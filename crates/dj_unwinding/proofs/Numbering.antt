@@ -9,15 +9,15 @@ use Rattle.std.proofs.lemmas.Option.{none-some, same_Some, slice_get-map}
 use Rattle.dj_names.specs.declared.descriptor.Of.{Of}
 use Rattle.dj_names.specs.declared.descriptor.Of.TheVariants as ofs
 use Rattle.dj_names.specs.declared.descriptor.Ty.{Ty}
-use Rattle.dj_names.specs.Types.{Name, same_name, class_type}
-use Rattle.dj_names.specs.Descriptors.{type_text}
-use Rattle.dj_model.specs.Types.{Prefix}
-use Rattle.dj_model.specs.Instructions.{Named, AClass, AField, AMethod, AnInterfaceMethod}
-use Rattle.dj_model.specs.Natives.{class_name}
-use Rattle.dj_model.specs.Program.{Program, Class, class_at}
-use Rattle.dj_model.specs.Linking.{is_subtype, takes_arrays, is_below}
+use Rattle.dj_names.specs.trusted.Types.{Name, same_name, class_type}
+use Rattle.dj_names.specs.trusted.Descriptors.{type_text}
+use Rattle.dj_model.specs.trusted.Types.{Prefix}
+use Rattle.dj_model.specs.trusted.Instructions.{Named, AClass, AField, AMethod, AnInterfaceMethod}
+use Rattle.dj_model.specs.trusted.Natives.{class_name}
+use Rattle.dj_model.specs.trusted.Program.{Program, Class, class_at}
+use Rattle.dj_model.specs.trusted.Linking.{is_subtype, takes_arrays, is_below}
 use Rattle.dj_model.specs.Sound.{is_class_of, is_caught}
-use Rattle.dj_model.specs.Step.{catches}
+use Rattle.dj_model.specs.trusted.Step.{catches}
 use Rattle.dj_natives.specs.Numbered.{begins_array, ArePlain}
 use Rattle.dj_classes.specs.Tables.{name_of, name_at, class_number}
 use Rattle.dj_classes.proofs.Numbered.{class_at-number, name_at-number}
@@ -131,7 +131,7 @@ class_told typed name known = by (class_number typed.program name) refl where
 
 -- ---- subtypes
 
--- what the test on numbers tells of a class, and of none
+-- what the test on numbers says of a class, and of none
 abbrev pub told_by : Typed → ℕ → Option ℕ → Bool
 told_by typed class None = false
 told_by typed class (Some k) = is_subtype_at typed class k

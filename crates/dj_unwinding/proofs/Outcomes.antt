@@ -11,9 +11,10 @@ use Rattle.dj_names.specs.declared.run.Value.TheVariants as values
 use Rattle.dj_names.specs.declared.run.Element.{Element}
 use Rattle.dj_names.specs.declared.run.Element.TheVariants as elements
 use Rattle.dj_names.specs.declared.run.Outcome.TheVariants as outcomes
-use Rattle.dj_names.specs.Heaps.{Object, Instance, Array, Text, Heap, object_map, heap_map, object_at}
-use Rattle.dj_model.specs.Arrays.{array_in}
-use Rattle.dj_model.specs.Step.{bytes_in, result_outcome}
+use Rattle.dj_names.specs.trusted.Heaps.{Object, Instance, Array, Text, Heap, object_at}
+use Rattle.dj_names.specs.Heaps.{object_map, heap_map}
+use Rattle.dj_model.specs.trusted.Arrays.{array_in}
+use Rattle.dj_model.specs.trusted.Step.{bytes_in, result_outcome}
 use Rattle.dj_model.proofs.MappedNames.{either}
 use Rattle.dj_heap.specs.Heaps.{LimitedHeap, object_in, contents_of, element_in, low_bits, IsKeptIn}
 use Rattle.dj_heap.specs.Lengths.{object_length}

@@ -3,8 +3,8 @@ use Rattle.std.proofs.Common.{◌≡◌, ℕ, [], ◌∷◌, Some, None, refl, s
 use Rattle.std.specs.Prelude.{slice_get}
 use Rattle.std.proofs.lemmas.Option.{none-some, same_Some}
 use Rattle.dj_labels.specs.declared.labelled.Protected.{Protected}
-use Rattle.dj_model.specs.Types.{no_parameters}
-use Rattle.dj_model.specs.Program.{Class, Runs, Code, code_of}
+use Rattle.dj_model.specs.trusted.Types.{no_parameters}
+use Rattle.dj_model.specs.trusted.Program.{Class, Runs, Code, code_of}
 use Rattle.dj_program.specs.Views.{parts_of}
 use Rattle.dj_program.specs.declared.code.MethodCode.{MethodCode}
 use Rattle.dj_types.specs.Members.{all_methods}
@@ -13,7 +13,7 @@ use Rattle.dj_image.specs.Imaged.{Imaged}
 use Rattle.dj_image.specs.Codes.{PooledCode, all_codes}
 use Rattle.dj_activations.specs.Activations.{declared_at}
 use Rattle.dj_activations.specs.Told.{IsCodeOf}
-use Rattle.dj_unwinding.specs.Rows.{IsRowOf, HasRow}
+use Rattle.dj_unwinding.specs.HandlerRows.{IsRowOf, HasRow}
 
 abbrev row : ℕ → Protected
 row handler = record { start = 0; end = 1; handler = handler; catch_type = 0 }

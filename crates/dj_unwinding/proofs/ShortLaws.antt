@@ -4,16 +4,16 @@ use Rattle.std.specs.Prelude.{slice_get}
 use Rattle.std.proofs.lemmas.List.{length-map}
 use Rattle.std.proofs.lemmas.Option.{none-some, same_Some, slice_get_cases, slice_get_within}
 use Rattle.dj_labels.specs.declared.labelled.Protected.{Protected}
-use Rattle.dj_model.specs.Program.{Body, Abstract, Native, Runs, Code, Range, body_code}
-use Rattle.dj_model.specs.Linking.{FoundMethod}
+use Rattle.dj_model.specs.trusted.Program.{Body, Abstract, Native, Runs, Code, Range, body_code}
+use Rattle.dj_model.specs.trusted.Linking.{FoundMethod}
 use Rattle.dj_model.specs.Sound.{IsProgram}
-use Rattle.dj_program.specs.Codes.{code_in, range_in}
+use Rattle.dj_program.specs.trusted.Codes.{code_in, range_in}
 use Rattle.dj_program.specs.Views.{parts_of}
 use Rattle.dj_stack.specs.Frames.{StackFrame, below_top, top_number}
 use Rattle.dj_types.specs.Members.{all_methods}
 use Rattle.dj_image.specs.Imaged.{Imaged, program_of}
 use Rattle.dj_activations.proofs.Numbers.{code_of_number}
-use Rattle.dj_unwinding.specs.Rows.{IsRowOf}
+use Rattle.dj_unwinding.specs.HandlerRows.{IsRowOf}
 use Rattle.dj_unwinding.specs.Short.{AreShort, HasNumberBelow, IsShort}
 
 body_is : (body : Body) (code : Code) → body_code body ≡ Some code → body ≡ Runs code

@@ -7,15 +7,16 @@ use Rattle.dj_names.specs.declared.run.Message.TheVariants as messages
 use Rattle.dj_names.specs.declared.run.Outcome.TheVariants as outcomes
 use Rattle.dj_names.specs.declared.run.Value.{Value}
 use Rattle.dj_names.specs.declared.run.Value.TheVariants as values
-use Rattle.dj_names.specs.Heaps.{Heap, heap_map, Instance, Array, Text}
-use Rattle.dj_names.specs.Types.{Name, class_type, array_type}
-use Rattle.dj_model.specs.Types.{initialiser_name, no_parameters}
-use Rattle.dj_model.specs.Instructions.{Nop, AClass}
-use Rattle.dj_model.specs.Program.{Program, Class, Method, Runs, Code, Range, code_of}
-use Rattle.dj_model.specs.Linking.{most_classes, chain_of, interfaces_from, interfaces_above, is_subclass, is_subtype}
-use Rattle.dj_model.specs.State.{State}
-use Rattle.dj_model.specs.Charging.{new_account}
-use Rattle.dj_model.specs.Step.{Went, Ended, unwound}
+use Rattle.dj_names.specs.trusted.Heaps.{Heap, Instance, Array, Text}
+use Rattle.dj_names.specs.Heaps.{heap_map}
+use Rattle.dj_names.specs.trusted.Types.{Name, class_type, array_type}
+use Rattle.dj_model.specs.trusted.Types.{initialiser_name, no_parameters}
+use Rattle.dj_model.specs.trusted.Instructions.{Nop, AClass}
+use Rattle.dj_model.specs.trusted.Program.{Program, Class, Method, Runs, Code, Range, code_of}
+use Rattle.dj_model.specs.trusted.Linking.{most_classes, chain_of, interfaces_from, interfaces_above, is_subclass, is_subtype}
+use Rattle.dj_model.specs.trusted.State.{State}
+use Rattle.dj_model.specs.trusted.Charging.{new_account}
+use Rattle.dj_model.specs.trusted.Step.{Went, Ended, unwound}
 use Rattle.dj_stack.specs.Frames.{StackFrame}
 use Rattle.dj_types.specs.Members.{all_methods}
 use Rattle.dj_image.specs.Sources.{Source, class_of_source}

@@ -2,5 +2,5 @@ pub mod Results
 pub mod Resuming
 pub mod Returns
 pub mod Unwinding
-pub mod Rows
+pub mod HandlerRows
 pub mod Short

@@ -1,4 +1,4 @@
--- How a run ends with the last return, where the classes of objects are told by numbers.
+-- How a run ends with the last return, where the classes of objects are numbers.
 use Rattle.std.specs.Prelude.{◌≡◌, ℕ, ℤ, List, [], map, Option, Some, None, nat_eq, if◌then◌else◌}
 use Rattle.std.specs.Int.{w8, cast_unsigned}
 use Rattle.dj_names.specs.declared.run.Value.{Value}
@@ -7,10 +7,10 @@ use Rattle.dj_names.specs.declared.run.Element.{Element}
 use Rattle.dj_names.specs.declared.run.Element.TheVariants as elements
 use Rattle.dj_names.specs.declared.run.Outcome.{Outcome}
 use Rattle.dj_names.specs.declared.run.Outcome.TheVariants as outcomes
-use Rattle.dj_names.specs.Heaps.{Object, Array, Heap, object_at}
+use Rattle.dj_names.specs.trusted.Heaps.{Object, Array, Heap, object_at}
 use Rattle.dj_heap.specs.Heaps.{LimitedHeap, object_in, elements_of}
 
--- an array of bytes is told without signs
+-- an array of bytes, with bytes without signs
 abbrev pub array_outcome : Element → List ℤ → Outcome
 array_outcome elements.Byte contents = outcomes.OkBytes (map (cast_unsigned w8) contents)
 array_outcome element contents = outcomes.Link
@@ -32,7 +32,7 @@ abbrev pub contents_in : Option (Object ℕ) → List ℤ
 contents_in None = []
 contents_in (Some object) = elements_of object
 
--- the elements of an array, and of what is none nothing
+-- the elements of an array; none where there is no array
 abbrev pub contents_at : LimitedHeap → ℕ → List ℤ
 contents_at heap r = contents_in (object_in heap r)
 

@@ -1,7 +1,7 @@
 -- What is left of a frame whose call is done.
 use Rattle.std.specs.Prelude.{◌≡◌, ◌<◌, ⊤, ◌+◌, length, List, ◌++◌, Option, Some, None}
 use Rattle.dj_names.specs.declared.run.Value.{Value}
-use Rattle.dj_model.specs.Linking.{option_list}
+use Rattle.dj_model.specs.trusted.Linking.{option_list}
 use Rattle.dj_stack.specs.Frames.{StackFrame, SameFrames, top_number, top_locals, top_operands, top_room}
 
 -- the top frame has room for the value, where there is one

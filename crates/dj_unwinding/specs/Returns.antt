@@ -1,9 +1,9 @@
--- How a method returns to its caller, over frames whose methods are told by numbers.
+-- How a method returns to its caller, over frames whose methods are numbers.
 use Rattle.std.specs.Prelude.{◌≡◌, ⊤, false, List, [], ◌∷◌, Option}
 use Rattle.dj_names.specs.declared.run.Value.{Value}
-use Rattle.dj_model.specs.Program.{Program, is_initialiser}
-use Rattle.dj_model.specs.State.{State}
-use Rattle.dj_model.specs.Step.{Answer, Went, Ended, IllFormed, returned, result_outcome}
+use Rattle.dj_model.specs.trusted.Program.{Program, is_initialiser}
+use Rattle.dj_model.specs.trusted.State.{State}
+use Rattle.dj_model.specs.trusted.Step.{Answer, Went, Ended, IllFormed, returned, result_outcome}
 use Rattle.dj_stack.specs.Frames.{StackFrame}
 use Rattle.dj_activations.specs.Activations.{declared_at, frame_seen, frames_seen}
 use Rattle.dj_unwinding.specs.declared.returning.Returned.{Returned}

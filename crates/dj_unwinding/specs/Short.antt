@@ -1,7 +1,7 @@
 -- Code whose instructions and rows have numbers of 32 bits.
 use Rattle.std.specs.Prelude.{◌≡◌, ℕ, ◌+◌, ◌<◌, ◌^◌, ⊤, List, ◌∷◌, length, Some, slice_get}
-use Rattle.dj_model.specs.Program.{Code, Runs}
-use Rattle.dj_model.specs.Linking.{FoundMethod}
+use Rattle.dj_model.specs.trusted.Program.{Code, Runs}
+use Rattle.dj_model.specs.trusted.Linking.{FoundMethod}
 use Rattle.dj_stack.specs.Frames.{StackFrame}
 use Rattle.dj_types.specs.Members.{all_methods}
 use Rattle.dj_image.specs.Imaged.{Imaged, program_of}

@@ -1,4 +1,4 @@
-//! How an exception goes up the frames of a machine over an image, how a method returns to its caller, and how a run ends with the last return.
+//! How an exception leaves the frames of a machine over an image, how a method returns to its caller, and how a run ends with the last return.
 #![tactic(auto)]
 
 mod results;

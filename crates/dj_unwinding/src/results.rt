@@ -3,7 +3,7 @@ ghost use Rattle.std.specs.Int.{w8, cast_unsigned};
 ghost use Rattle.dj_names.specs.declared.descriptor.Ty.{Ty};
 ghost use Rattle.dj_names.specs.declared.run.Element.TheVariants as elements;
 ghost use Rattle.dj_names.specs.Heaps.{heap_map};
-ghost use Rattle.dj_model.specs.Step as model;
+ghost use Rattle.dj_model.specs.trusted.Step as model;
 ghost use Rattle.dj_unwinding.specs.Results.{HasElements, array_outcome, contents_at, reference_outcome, value_outcome};
 
 use dj_heap::{Heap, Made};

@@ -15,11 +15,11 @@ use dj_stack::Frames;
 pub enum Returned {
     /// In the caller, whose frame is the top one.
     Back,
-    /// Not at all: the frame is the last one, and stays.
+    /// The run ends: the frame is the last one, and stays.
     Last,
 }
 
-/// The method of the top frame returns. The caller's call is done, with the value pushed; but below an initialiser the caller's instruction is
+/// The method of the top frame returns. The caller's call is done, with the value pushed; below an initialiser the caller's instruction is
 /// still to be done, and nothing is pushed.
 #[tactic(auto, using(dj_activations::proofs::Standing::top_within, crate::proofs::Frames::last_returned, crate::proofs::Frames::initialiser_returned, crate::proofs::Frames::method_returned, crate::proofs::Frames::room_below, crate::proofs::Frames::some_below, crate::proofs::Frames::popped_stand, crate::proofs::Frames::resumed_stand, crate::proofs::ShortLaws::number_below))]
 pub fn go_back(

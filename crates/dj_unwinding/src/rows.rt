@@ -1,13 +1,13 @@
 ghost use Rattle.std.specs.Prelude.{◌≡◌, ◌<◌, length, Some, None, IfErr, IfOk, slice_get};
-ghost use Rattle.dj_model.specs.Program.{Range, code_of};
+ghost use Rattle.dj_model.specs.trusted.Program.{Range, code_of};
 ghost use Rattle.dj_model.specs.Sound.{IsSound};
-ghost use Rattle.dj_model.specs.Step as model;
+ghost use Rattle.dj_model.specs.trusted.Step as model;
 ghost use Rattle.dj_types.specs.Typed.{type_at};
 ghost use Rattle.dj_types.specs.Members.{all_methods};
 ghost use Rattle.dj_image.specs.Imaged.{program_of, typed_of};
 ghost use Rattle.dj_activations.specs.Activations.{declared_at};
 ghost use Rattle.dj_activations.specs.Told.{IsCodeOf};
-ghost use Rattle.dj_unwinding.specs.Rows.{HasRow, IsRowOf};
+ghost use Rattle.dj_unwinding.specs.HandlerRows.{HasRow, IsRowOf};
 ghost use Rattle.dj_unwinding.specs.Short.{AreShort};
 ghost use Rattle.dj_unwinding.specs.Unwinding.{IsClassNumber, is_handling, ranges_at};
 
@@ -17,7 +17,7 @@ use dj_labels::Protected;
 use dj_names::NoMemory;
 use dj_natives::Classes;
 
-/// The handler of the first row of a method that holds the instruction and catches the class.
+/// The handler of the first row of a method that covers the instruction and catches the class.
 #[tactic(auto, using(crate::proofs::Catching::handler_by_ranges, crate::proofs::Catching::no_code_handles))]
 pub(crate) fn handler_of(
     image: &Image,
@@ -37,7 +37,7 @@ pub(crate) fn handler_of(
     }
 }
 
-// That of the first row of the method's code.
+// The handler of the first such row of the method's code.
 fn handler_in(
     image: &Image,
     method: MethodId,
@@ -60,7 +60,7 @@ fn handler_in(
     Ok(None)
 }
 
-// Whether a row of the method holds the instruction and catches the class. There is no memory for a row whose place has no number of 32 bits.
+// Whether a row of the method covers the instruction and catches the class. There is no memory for a row whose place has no number of 32 bits.
 #[tactic(auto, using(crate::proofs::Catching::has_row, crate::proofs::ShortLaws::row_numbered))]
 fn handles(
     image: &Image,
@@ -90,7 +90,7 @@ fn handles(
     Ok(is_caught(image, method, at, class))
 }
 
-// Whether the type that a row of the method names is the class or stands above it.
+// Whether the type that a row of the method names is the class or is above it.
 fn is_caught(image: &Image, method: MethodId, row: u32, class: u32) -> bool
     requires sound { IsSound (program_of image.now) image.now.prefix }
     requires row { HasRow image.now method.number row }

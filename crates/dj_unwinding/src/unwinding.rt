@@ -14,10 +14,10 @@ use dj_image::{Image, MethodId};
 use dj_names::{NoMemory, Value};
 use dj_stack::Frames;
 
-/// How an exception went up the frames.
+/// Where an exception went.
 #[derive(Clone, Copy, Debug, PartialEq, Eq)]
 pub enum Unwound {
-    /// It came to a handler, which is next, in the frame that is now the top one.
+    /// It came to a handler, which is next, in the frame that is the top one now.
     Caught,
     /// It left the initialiser of the class of this number.
     Init(u32),
@@ -25,7 +25,7 @@ pub enum Unwound {
     Threw,
 }
 
-/// An exception, an object of this class, goes up the frames to the first handler (JVMS 2.10).
+/// An exception, an object of this class, leaves frames, the top one first, up to the first with a handler (JVMS 2.10).
 pub fn unwind(
     image: &Image,
     frames: &mut Frames,
@@ -48,7 +48,7 @@ pub fn unwind(
     Ok(Unwound::Threw)
 }
 
-// The same in the top frame alone, which goes where the exception leaves it.
+// The same for the top frame alone, which is removed where the exception leaves it.
 #[tactic(auto, using(dj_activations::proofs::Standing::top_within, crate::proofs::Frames::caught_on_top, crate::proofs::Frames::left_initialiser, crate::proofs::Frames::went_past, crate::proofs::Frames::initialiser_known, crate::proofs::Frames::room_for_exception, crate::proofs::Frames::caught_stand, crate::proofs::Frames::popped_stand))]
 fn pass(
     image: &Image,

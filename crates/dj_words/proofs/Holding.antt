@@ -4,11 +4,11 @@ use Rattle.std.specs.Prelude.{is_some, option_and_then, slice_get}
 use Rattle.std.specs.List.{list_all}
 use Rattle.std.specs.Str.{bytes_eq}
 use Rattle.std.proofs.lemmas.List.Elements.{filter-append}
-use Rattle.dj_bytes.specs.Options.{◌>>=◌}
+use Rattle.dj_bytes.specs.trusted.Options.{◌>>=◌}
 use Rattle.dj_names.specs.declared.run.Thresholds.{Thresholds}
 use Rattle.clap.specs.Words.{Row, Text, all_of, first_of}
 use Rattle.clap.specs.Walk.{has_row, used, reading_by}
-use Rattle.dj_words.specs.Words.{Word, Given, Setting, is_word, number_of, number_given, has_only, thresholds_of, steps_of, command_job, line_job, check_job, verify_job, rewrite_job, raw_job, assemble_job, sample_job, alloc_setting, invoke_setting, jump_setting, throw_setting, steps_setting}
+use Rattle.dj_words.specs.trusted.Words.{Word, Given, Setting, is_word, number_of, number_given, has_only, thresholds_of, steps_of, command_job, line_job, check_job, verify_job, rewrite_job, raw_job, assemble_job, sample_job, alloc_setting, invoke_setting, jump_setting, throw_setting, steps_setting}
 use Rattle.dj_words.specs.WordsApp.{values_of, has_no_threshold, has_no_value, number_in, thresholds_in, steps_in, verify_in, raw_in, job_of_values, job_in}
 use Rattle.dj_words.proofs.Rules.{Known, is_alloc, is_invoke, is_jump, is_throw, is_steps, command_rule, words_rule, long_rule, same_or}
 use Rattle.dj_words.proofs.NoJobs.{no_check, no_rewrite, no_assemble, no_sample}
@@ -199,7 +199,7 @@ fits_neither ((name, value) ∷ rest) all = go name all.0 where
   go _ is_throw = refl
   go _ is_steps = sym (and_false (has_only (steps_setting ∷ []) rest))
 
--- the same of the values in the rows
+-- the same for the values in the rows
 no_steps : (rows : List Row) (options : List Given) (plain : List Word) → Holds rows options plain → has_only threshold_settings options ≡ not (is_some (values_of rows).steps)
 no_steps rows options plain h = fits_verify options h.known ∙ lacks_first (codes "steps") rows options (h.same (codes "steps") is_steps)
 

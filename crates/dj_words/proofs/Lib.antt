@@ -4,7 +4,7 @@ pub mod Refusals
 pub mod Forms
 pub mod Rules
 pub mod AfterWalk
-pub mod Turns
+pub mod WordWalks
 pub mod RowLemmas
 pub mod NoJobs
 pub mod OptionLaws
@@ -12,3 +12,4 @@ pub mod Holding
 pub mod Walking
 pub mod Decimal
 pub mod Done
+mod EntryFacts

@@ -1,4 +1,3 @@
-pub mod Words
-pub mod DoneJobs
 pub mod WordsApp
 pub mod Views
+pub mod trusted

@@ -1,8 +1,8 @@
 -- The program's values as the definitions see them.
 use Rattle.std.specs.Prelude.{List, Option, map, option_map}
 use Rattle.std.specs.Borrow.{Bor}
-use Rattle.dj_words.specs.Words.{Word}
-use Rattle.dj_words.specs.DoneJobs.{DoneJob, FolderJob, Check, Verify, Raw, OnFolder, Assemble}
+use Rattle.dj_words.specs.trusted.Words.{Word}
+use Rattle.dj_words.specs.trusted.DoneJobs.{DoneJob, FolderJob, Check, Verify, Raw, OnFolder, Assemble}
 use Rattle.dj_words.specs.WordsApp.{Values}
 use Rattle.dj_words.specs.declared.command.Command.{Command}
 use Rattle.dj_words.specs.declared.command.Command.TheVariants as commands

@@ -1,8 +1,8 @@
 -- The command line as the definitions of `clap` see it, and the job of its matches.
 use Rattle.std.specs.Prelude.{ℕ, ◌&&◌, Bool, true, not, List, [], ◌∷◌, Option, Some, None, codes, is_some, option_map, option_and_then, unwrap_or, if◌then◌else◌}
-use Rattle.dj_bytes.specs.Options.{◌>>=◌}
+use Rattle.dj_bytes.specs.trusted.Options.{◌>>=◌}
 use Rattle.dj_names.specs.declared.run.Thresholds.{Thresholds}
-use Rattle.dj_words.specs.Words.{Word, Job, Verify, Raw, Setting, is_word, without_slash, number_between, check_job, rewrite_job, assemble_job, sample_job, alloc_setting, invoke_setting, jump_setting, throw_setting, steps_setting}
+use Rattle.dj_words.specs.trusted.Words.{Word, Job, Verify, Raw, Setting, is_word, without_slash, number_between, check_job, rewrite_job, assemble_job, sample_job, alloc_setting, invoke_setting, jump_setting, throw_setting, steps_setting}
 use Rattle.clap.specs.Words.{App, Row, Rule, Text, all_of, first_of, new_app, new_rule, with_rule}
 use Rattle.clap.specs.Simple.{on_top}
 use Rattle.clap.specs.declared.builder.action.ArgAction.TheVariants.{Append}
@@ -13,7 +13,7 @@ option_rule name = record (new_rule name) { long = Some name }
 abbrev pub settings : App → App
 settings a = on_top (λ s. record s { no_binary_name = true; disable_help_flag = true; disable_version_flag = true }) a
 
--- a positional for the command, and a last one for the plain words after it
+-- a positional argument for the command, and one for the plain words after it
 abbrev pub plain_app : App
 plain_app = with_rule (with_rule (settings (new_app (codes "djvm"))) (new_rule (codes "command"))) (record (new_rule (codes "words")) { action = Some Append })
 
@@ -23,9 +23,9 @@ with_option a name = with_rule a (option_rule name)
 abbrev pub app : App
 app = with_option (with_option (with_option (with_option (with_option plain_app (codes "alloc")) (codes "invoke")) (codes "jump")) (codes "throw")) (codes "steps")
 
--- ---- the job of what was found
+-- ---- the job of what clap found
 
--- the values of the options, of those that are given
+-- the values of the options that are given
 pub record Values : Type 0 where
   pub alloc : Option Word
   pub invoke : Option Word

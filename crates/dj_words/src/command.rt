@@ -2,8 +2,8 @@
 
 ghost use Rattle.std.specs.Prelude.{◌≡◌, [], None, IfOk, map, string_bytes, option_map, option_and_then, if◌then◌else◌};
 ghost use Rattle.clap.specs.Words.{found_of, rows_of};
-ghost use Rattle.dj_words.specs.Words.{without_slash, check_job, assemble_job};
-ghost use Rattle.dj_words.specs.DoneJobs.{done, done_job_of};
+ghost use Rattle.dj_words.specs.trusted.Words.{without_slash, check_job, assemble_job};
+ghost use Rattle.dj_words.specs.trusted.DoneJobs.{done, done_job_of};
 ghost use Rattle.dj_words.specs.WordsApp.{has_no_value, thresholds_in, steps_in, verify_in, raw_in, job_of_values, job_in};
 ghost use Rattle.dj_words.specs.Views.{job_view, texts, values_view};
 
@@ -27,8 +27,8 @@ pub enum FolderCommand<'a> {
         input: &'a str,
         thresholds: Thresholds,
     },
-    /// Check the class files of the folder, and run the class of this name on the bytes of the file of this path, for so many steps at most, with
-    /// the library whose host answers.
+    /// Check the class files of the folder, and run the class of this name on the bytes of the file of this path, for at most this many steps,
+    /// with the raw library.
     Raw {
         folder: &'a str,
         entry: &'a str,
@@ -42,7 +42,7 @@ pub enum FolderCommand<'a> {
 pub enum Command<'a> {
     /// A job on the class files of a folder.
     OnFolder(FolderCommand<'a>),
-    /// Make the class file that the text in the file of this path means.
+    /// Make the class file that the text in this file means.
     Assemble { file: &'a str },
 }
 
@@ -105,7 +105,7 @@ fn assemble_command<'a>(operands: &[&'a str], options: Options<'a>) -> Option<Co
     }
 }
 
-/// The command of this name with these words and options.
+/// The command of this name, with these plain words and options.
 fn command_named<'a>(name: &str, operands: &[&'a str], options: Options<'a>) -> Option<Command<'a>>
     ensures { option_map job_view result ≡ option_and_then done (job_of_values name.now (texts operands.now) (values_view options.entry)) }
 {
@@ -122,7 +122,7 @@ fn command_named<'a>(name: &str, operands: &[&'a str], options: Options<'a>) -> 
     }
 }
 
-/// The command of the matches.
+/// The command that the matches mean.
 fn command_in<'a>(matches: &ArgMatches<'a>) -> Option<Command<'a>>
     ensures { option_map job_view result ≡ option_and_then done (job_in (rows_of (found_of matches.now))) }
 {
@@ -134,7 +134,7 @@ fn command_in<'a>(matches: &ArgMatches<'a>) -> Option<Command<'a>>
     }
 }
 
-/// The command that the words of a command line ask for, without the program's name, or none where they ask for none that is done.
+/// The command that the words of a command line ask for, without the program's name; none where they ask for none that djvm does.
 pub fn command_of<'a>(alloc: Global, words: &'a [String]) -> Result<Option<Command<'a>>, AllocError>
     ensures some { IfOk result (λ command. option_map job_view command ≡ done_job_of (map string_bytes words.entry.now)) }
 {

@@ -3,11 +3,11 @@
 ghost use Rattle.std.specs.Prelude.{◌≡◌, ◌≤◌, Some, None, length, if◌then◌else◌};
 ghost use Rattle.std.specs.Char.{is_ascii_digit};
 ghost use Rattle.std.specs.List.{list_all};
-ghost use Rattle.dj_words.specs.Words.{decimal_value, number_between};
+ghost use Rattle.dj_words.specs.trusted.Words.{decimal_value, number_between};
 ghost use Rattle.dj_words.specs.WordsApp.{number_or};
 ghost use Rattle.dj_words.specs.Views.{text_given};
 
-/// The number that the digits write, or none where one of them is no ASCII digit.
+/// The number that the digits write; none where one of them is no ASCII digit.
 fn decimal(digits: &[u8]) -> Option<u64>
     requires few { length digits.now ≤ 10 }
     ensures { result ≡ if list_all is_ascii_digit digits.now then Some (decimal_value digits.now) else None }
@@ -22,7 +22,7 @@ fn decimal(digits: &[u8]) -> Option<u64>
     Some(value)
 }
 
-/// The number that the text writes in one to ten digits, where it is this one at most.
+/// The number that the text writes in one to ten digits, where it is at most `most`.
 fn number(text: &str, most: u64) -> Option<u64>
     ensures { result ≡ number_between 0 most text.now }
 {
@@ -34,7 +34,7 @@ fn number(text: &str, most: u64) -> Option<u64>
     if value <= most { Some(value) } else { None }
 }
 
-/// The number of an option, which is the default where it isn't given.
+/// The number of an option, or the default where the option isn't given.
 pub fn number_or(given: Option<&str>, most: u64, default: u64) -> Option<u64>
     ensures { result ≡ number_or most default (text_given given.entry) }
 {

@@ -9,7 +9,7 @@ use crate::number::number_or;
 use clap::ArgMatches;
 use dj_names::Thresholds;
 
-/// The values of the options, of those that are given.
+/// The values of the options that are given.
 #[derive(Clone, Copy)]
 pub struct Options<'a> {
     pub alloc: Option<&'a str>,
@@ -63,7 +63,7 @@ impl<'a> Options<'a> {
         self.alloc.is_none() && self.invoke.is_none() && self.jump.is_none() && self.throw.is_none()
     }
 
-    /// The most steps of a run, where only they are given.
+    /// The most steps of a run, where no other option is given.
     pub fn most_steps(self) -> Option<u64>
         ensures { result ≡ steps_in (values_view self.entry) }
     {
@@ -74,7 +74,7 @@ impl<'a> Options<'a> {
         }
     }
 
-    /// The thresholds of a run, where only they are given.
+    /// The thresholds of a run, where no other option is given.
     pub fn thresholds(self) -> Option<Thresholds>
         ensures { result ≡ thresholds_in (values_view self.entry) }
     {

@@ -3,7 +3,7 @@ use Rattle.std.proofs.Common.{◌≡◌, length, Ok, Err, refl, sym, ap, ◌∙�
 use Rattle.dj_pool.specs.declared.pool.PoolError.TheVariants as pool_errors
 use Rattle.dj_class.specs.declared.class.ClassError.TheVariants as errors
 use Rattle.dj_class.specs.declared.class.ClassView.{ClassView}
-use Rattle.dj_class.specs.ClassFile.{ClassFile, class_bytes}
+use Rattle.dj_class.specs.trusted.ClassFile.{ClassFile, class_bytes}
 use Rattle.dj_class.specs.Views.{class_of, ReadsClass}
 use Rattle.dj_class.proofs.Facts.{class_a, bytes_a, class_b, bytes_b, class_b-bytes}
 use Rattle.dj_class.proofs.AnswerFacts.{class_a-is}
@@ -36,7 +36,7 @@ given-back view shows = shows
 given-memory : GivesBack class_a (Err errors.Memory) × GivesBack class_a (Err (errors.Pool pool_errors.Memory))
 given-memory = (refl, refl)
 
--- no other, and nothing is told to be wrong with it
+-- no other, and nothing is reported to be wrong with it
 given-other_not : (view : ClassView) → class_of view ≡ class_b → GivesBack class_a (Ok view) → ⊥
 unfolding class_a class_b
 given-other_not view shows h =

@@ -4,7 +4,7 @@ use Rattle.dj_pool.specs.declared.pool.PoolError.TheVariants as pool_errors
 use Rattle.dj_pool.proofs.Decides.{tests_decide}
 use Rattle.dj_class.specs.declared.class.ClassError.{ClassError}
 use Rattle.dj_class.specs.declared.class.ClassError.TheVariants as class_errors
-use Rattle.dj_class.specs.ClassFile.{ClassFile, class_bytes, IsValid, IsClassFile}
+use Rattle.dj_class.specs.trusted.ClassFile.{ClassFile, class_bytes, IsValid, IsClassFile}
 use Rattle.dj_class.specs.Faults.{IsFault}
 use Rattle.dj_class.specs.Views.{class_of}
 use Rattle.dj_class.proofs.ClassLaws.{one_class_file}

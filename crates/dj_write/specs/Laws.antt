@@ -2,7 +2,7 @@
 use Rattle.std.specs.Prelude.{◌≡◌, true, List, ℕ, Result, Ok, Err}
 use Rattle.dj_class.specs.declared.class.ClassError.{ClassError}
 use Rattle.dj_class.specs.declared.class.ClassView.{ClassView}
-use Rattle.dj_class.specs.ClassFile.{ClassFile, class_bytes, IsValid}
+use Rattle.dj_class.specs.trusted.ClassFile.{ClassFile, class_bytes, IsValid}
 use Rattle.dj_class.specs.Views.{class_of, ReadsClass}
 use Rattle.dj_class.specs.Memory.{is_memory}
 

@@ -1,7 +1,7 @@
 -- Parts of class files that are written apart from the rest.
 use Rattle.std.specs.Prelude.{List}
-use Rattle.dj_pool.specs.Pool.{Constant}
-use Rattle.dj_class.specs.ClassFile.{ClassFile}
+use Rattle.dj_pool.specs.trusted.Pool.{Constant}
+use Rattle.dj_class.specs.trusted.ClassFile.{ClassFile}
 
 -- these constants in place of a class file's
 abbrev pub with_pool : List Constant → ClassFile → ClassFile

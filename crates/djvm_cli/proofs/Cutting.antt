@@ -9,14 +9,14 @@ use Rattle.std.proofs.lemmas.Cmp.{tied_itself}
 use Rattle.std.proofs.lemmas.List.{length-map, map-append}
 use Rattle.std.proofs.lemmas.List.Elements.{All-map, All-from_recursion, recursion_from_All}
 use Rattle.std.proofs.lemmas.List.Sums.{sum_by-cons}
-use Rattle.dj_edge.specs.Held.{File, is_class_path}
+use Rattle.dj_edge.specs.trusted.Held.{File, is_class_path}
 use Rattle.dj_edge.specs.InMemory.{String, file_in, files_in, PathsDiffer}
 use Rattle.dj_edge.proofs.Pairs.{AllPairs-map, AllPairs-unmap}
 use Rattle.dj_sandbox.specs.ClassSets.{PathsRise, AreByPath}
-use Rattle.dj_sandbox.specs.Limits.{most_files, most_file_bytes, most_total_bytes, total_bytes, AreWithin}
+use Rattle.dj_sandbox.specs.trusted.Limits.{most_files, most_file_bytes, most_total_bytes, total_bytes, AreWithin}
 use Rattle.dj_sandbox.proofs.ByPath.{rising_differ, in_order_already}
 use Rattle.djvm_cli.specs.declared.load.SourceFile.{SourceFile}
-use Rattle.djvm_cli.specs.Report.{within_folder}
+use Rattle.djvm_cli.specs.trusted.Report.{within_folder}
 use Rattle.djvm_cli.specs.Views.{source_view}
 use Rattle.djvm_cli.proofs.Folders.{behind_folder}
 
@@ -36,7 +36,7 @@ cut_more folder files file within now cut grown is so_far =
 
 -- ---- order
 
--- what both texts begin with doesn't tell which is below
+-- what both texts begin with doesn't say which is below
 same_front : (front a b : List ℕ) → slice_cmp nat_cmp (front ++ a) (front ++ b) ≡ slice_cmp nat_cmp a b
 same_front [] a b = refl
 same_front (x ∷ front) a b =

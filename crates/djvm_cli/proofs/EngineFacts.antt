@@ -1,19 +1,19 @@
--- Runs of which a report tells and runs of which none does, at plain values.
+-- Runs that fit a report and runs that don't, at plain values.
 use Rattle.std.proofs.Common.{◌≡◌, ℕ, suc, ◌<◌, ◌≤◌, List, [], ◌∷◌, ◌++◌, length, Option, Some, None, codes, inl, inr, refl, sym, ◌∙◌, subst, arith}
-use Rattle.dj_edge.specs.Held.{File, Held, class_files, bytes_at}
+use Rattle.dj_edge.specs.trusted.Held.{File, Held, class_files, bytes_at}
 use Rattle.dj_edge.specs.declared.host.HostAnswer.{HostAnswer}
 use Rattle.dj_names.specs.declared.run.Costs.{Costs}
-use Rattle.dj_names.specs.Types.{Name}
+use Rattle.dj_names.specs.trusted.Types.{Name}
 use Rattle.dj_report.specs.declared.report.Report.{Report}
-use Rattle.dj_sandbox.specs.Entry.{entry_name}
-use Rattle.dj_sandbox.specs.Judging.{RunsRaw}
-use Rattle.dj_sandbox.specs.Limits.{AreWithin}
-use Rattle.dj_sandbox.specs.RawRules.{AreRawViolations}
-use Rattle.dj_running.specs.Runs.{IsRawRun}
-use Rattle.dj_words.specs.DoneJobs.{FolderJob, Check, Raw, OnFolder, Assemble, done_job_of}
-use Rattle.djvm_cli.specs.Engine.{AreRuns, AreRunsOf, AddsRuns, AddsFront, AddsFew, TellsNoRun}
-use Rattle.djvm_cli.specs.Jobs.{IsRawJob}
-use Rattle.djvm_cli.specs.Report.{FindsInput, ReadsInput, files_within, input_of}
+use Rattle.dj_sandbox.specs.trusted.Entry.{entry_name}
+use Rattle.dj_sandbox.specs.trusted.Judging.{RunsRaw}
+use Rattle.dj_sandbox.specs.trusted.Limits.{AreWithin}
+use Rattle.dj_sandbox.specs.trusted.RawRules.{AreRawViolations}
+use Rattle.dj_running.specs.trusted.Runs.{IsRawRun}
+use Rattle.dj_words.specs.trusted.DoneJobs.{FolderJob, Check, Raw, OnFolder, Assemble, done_job_of}
+use Rattle.djvm_cli.specs.trusted.Engine.{AreRuns, AreRunsOf, AddsRuns, AddsFront, AddsFew, TellsNoRun}
+use Rattle.djvm_cli.specs.trusted.Jobs.{IsRawJob}
+use Rattle.djvm_cli.specs.trusted.Report.{FindsInput, ReadsInput, files_within, input_of}
 
 abbrev raw_job : FolderJob
 raw_job = Raw (codes "c") (codes "A") (codes "in") 5
@@ -76,7 +76,7 @@ no_job_has_none held answers = refl
 
 -- ---- a raw run
 
--- two are never told of
+-- there are never two
 not_two : (held : Held) (answers : List HostAnswer) (a b : Costs × ℕ) → AreRuns (Some (OnFolder raw_job)) held answers (a ∷ b ∷ []) → ⊥
 not_two held answers a b (inl made) = made.1
 not_two held answers a b (inr not_made) = let none : a ∷ b ∷ [] ≡ [] = not_made.1 in absurd cc
@@ -116,7 +116,7 @@ not_left_out held answers one input within silent (inr not_made) = not_made.0 (r
 
 -- ---- what a call adds
 
--- runs that were told before stay
+-- runs that were recorded before stay
 not_forgotten : (held : Held) (answers : List HostAnswer) (run : Costs × ℕ) → AddsRuns [] (Some held) answers (run ∷ []) [] → ⊥
 unfolding done_job_of
 not_forgotten held answers run adds = gone adds.0 adds.2 where
@@ -133,7 +133,7 @@ none_added held answers run (inr adds) =
     let gone : run ∷ [] ≡ [] = subst (λ (runs : List (Costs × ℕ)). run ∷ [] ≡ runs) none is in
     absurd cc
 
--- ---- where no run is told of
+-- ---- where no run is made
 
 -- where a rule is violated
 no_run_where_rejected : (held : Held) (answers : List HostAnswer) → length (class_files (codes "c") held) ≡ 1 → FindsInput raw_job held None
@@ -153,7 +153,7 @@ no_run_where_many : (held : Held) (answers : List HostAnswer) → 4096 < length 
 unfolding raw_words done_job_of
 no_run_where_many held answers many = inr ((λ reaches. let few : length (class_files (codes "c") held) ≤ 4096 = reaches.count in omega (arith, many, few)), refl)
 
--- one is told of where no rule is violated
+-- one is made where no rule is violated
 a_run_where_accepted : (held : Held) (answers : List HostAnswer) → length (class_files (codes "c") held) ≡ 1 → FindsInput raw_job held None
     → AreWithin (class_files (codes "c") held) → AreRawViolations (files_within (codes "c") held) (entry_name (codes "A")) [] → TellsNoRun raw_words (Some held) answers → ⊥
 unfolding raw_words done_job_of
@@ -162,7 +162,7 @@ a_run_where_accepted held answers one input within silent (inr not_made) =
     let few : length (class_files (codes "c") held) ≤ 4096 = omega (arith, one) in
     not_made.0 (record { count = few; input = input; files = within })
 
--- of a store that tells nothing it isn't told that no run is told of
+-- where the store's contents are unknown it isn't known that no run is made
 not_told : (answers : List HostAnswer) → TellsNoRun raw_words None answers → ⊥
 not_told answers none = none
 
@@ -173,7 +173,7 @@ none_more [] [] e = refl
 none_more [] (answer ∷ more) e = let none : 0 ≡ suc (length more) = e in absurd (omega (arith, none))
 none_more (answer ∷ answers) more e = let same : suc (length answers) ≡ suc (length (answers ++ more)) = e in none_more answers more (omega (arith, same))
 
--- a run that took only the first of them is told of with no more than these
+-- a run that took only the first of them has no more than these
 none_left : (files : List File) (class : Name) (input : List ℕ) (steps : ℕ) (answers more : List HostAnswer) (report : Report)
     → (runs : RunsRaw files class input steps (answers ++ more) (Some report)) → runs.2.taken ≡ length answers → more ≡ []
 none_left files class input steps answers more report runs took = none_more answers more (sym took ∙ runs.6)
@@ -183,7 +183,7 @@ none_left_of_run : (files : List File) (class : Name) (input : List ℕ) (steps 
     → (made : IsRawRun files class input steps (answers ++ more) run) → made.2.taken ≡ length answers → more ≡ []
 none_left_of_run files class input steps answers more run made took = none_more answers more (sym took ∙ made.6)
 
--- ---- whatever the store tells
+-- ---- whatever is known of the store
 
 -- a raw run is made once at most
 once_at_most : (answers : List HostAnswer) (a b : Costs × ℕ) → AreRunsOf (Some (OnFolder raw_job)) answers (a ∷ b ∷ []) → ⊥
@@ -201,6 +201,6 @@ made_of_some answers more run are took = none_left_of_run are.0 (entry_name (cod
 check_makes_none : (answers : List HostAnswer) (run : Costs × ℕ) → AreRunsOf (Some (OnFolder (Check (codes "c")))) answers (run ∷ []) → ⊥
 check_makes_none answers run none = absurd cc
 
--- runs that were told before stay
+-- runs that were recorded before stay
 none_forgotten : (answers : List HostAnswer) (run : Costs × ℕ) → AddsFew [] answers (run ∷ []) [] → ⊥
 none_forgotten answers run (runs, are, adds) = absurd cc

@@ -1,10 +1,10 @@
 -- What is asked and the statuses of reports in plain values.
 use Rattle.std.specs.Prelude.{◌≡◌, ℕ, List, [], ◌∷◌, ◌++◌, Some, None, map, codes}
 use Rattle.std.proofs.Common.{refl}
-use Rattle.dj_edge.specs.Held.{Held}
-use Rattle.dj_words.specs.DoneJobs.{Check, Verify, Raw, OnFolder, Assemble, done_job_of}
-use Rattle.djvm_cli.specs.Report.{class_paths, asks}
-use Rattle.djvm_cli.specs.Ends.{report_statuses, AsksInOrder}
+use Rattle.dj_edge.specs.trusted.Held.{Held}
+use Rattle.dj_words.specs.trusted.DoneJobs.{Check, Verify, Raw, OnFolder, Assemble, done_job_of}
+use Rattle.djvm_cli.specs.trusted.Report.{class_paths, asks}
+use Rattle.djvm_cli.specs.trusted.Ends.{report_statuses, AsksInOrder}
 
 verify_words : List (List ℕ)
 verify_words = codes "verify" ∷ codes "c/" ∷ codes "A" ∷ codes "in" ∷ []

@@ -1,21 +1,23 @@
 -- What the steps of a job leave of the host's answers and of the engine's runs.
 use Rattle.std.proofs.Common.{◌≡◌, ℕ, List, [], ◌∷◌, ◌++◌, Option, Some, None, IfSome, Result, Ok, Err, refl, sym, ap, ◌∙◌, subst, inl, inr, append-nil}
 use Rattle.std.specs.Prelude.{◌⊎◌, ⊤, IsSomeAnd}
-use Rattle.dj_edge.specs.Held.{File, Held}
+use Rattle.dj_edge.specs.trusted.Held.{File, Held}
 use Rattle.dj_edge.specs.declared.host.HostAnswer.{HostAnswer}
 use Rattle.dj_edge.proofs.Lists.{told_so}
 use Rattle.dj_names.specs.declared.run.Costs.{Costs}
-use Rattle.dj_names.specs.Types.{Name}
+use Rattle.dj_names.specs.trusted.Types.{Name}
 use Rattle.dj_report.specs.declared.report.Report.{Report}
-use Rattle.dj_host.specs.Hosted.{given_since}
+use Rattle.dj_host.specs.trusted.Hosted.{given_since}
 use Rattle.dj_sandbox.specs.declared.error.SandboxError.{SandboxError}
-use Rattle.dj_sandbox.specs.RawRules.{AreRawViolations}
-use Rattle.dj_running.specs.Runs.{AreRawRuns, AddsRawRuns}
-use Rattle.dj_words.specs.DoneJobs.{DoneJob, FolderJob, Check, Verify, Raw, OnFolder, Assemble}
+use Rattle.dj_sandbox.specs.trusted.RawRules.{AreRawViolations}
+use Rattle.dj_running.specs.trusted.Runs.{AreRawRuns}
+use Rattle.dj_running.specs.Runs.{AddsRawRuns}
+use Rattle.dj_words.specs.trusted.DoneJobs.{DoneJob, FolderJob, Check, Verify, Raw, OnFolder, Assemble}
 use Rattle.djvm_cli.specs.declared.load.Stop.{Stop}
-use Rattle.djvm_cli.specs.Engine.{Reaches, AreJudgedRuns, AreFolderRuns, AreRuns, AreFewRuns, AreRunsOf, Adds, Leaves, LeavesRaw, LeavesJudged, LeavesJob}
-use Rattle.djvm_cli.specs.Jobs.{folder_of, IsRawJob}
-use Rattle.djvm_cli.specs.Report.{files_within, input_of}
+use Rattle.djvm_cli.specs.trusted.Engine.{Reaches, AreJudgedRuns, AreFolderRuns, AreRuns, AreFewRuns, AreRunsOf}
+use Rattle.djvm_cli.specs.Engine.{Adds, Leaves, LeavesRaw, LeavesJudged, LeavesJob}
+use Rattle.djvm_cli.specs.trusted.Jobs.{folder_of, IsRawJob}
+use Rattle.djvm_cli.specs.trusted.Report.{files_within, input_of}
 
 abbrev Made : Type 0
 Made = List (Costs × ℕ)
@@ -35,7 +37,7 @@ adds_none P old (Err e) p = refl
 
 module _ {T E : Type 0} (AreSuch AreOfJob : List HostAnswer → Made → Type 0) (IsRaw : Type 0) (NoRun : List HostAnswer → Type 0) (given : List HostAnswer) (made : Made)
     (unmade : AreOfJob (given_since given given) []) where
-  -- where none is told of
+  -- where no run is made
   leaves_all : (r : Result T E) → AreSuch (given_since given given) [] → Leaves AreSuch AreOfJob IsRaw NoRun given given made made r
   leaves_all r none = record {
     runs = adds_none (AreSuch (given_since given given)) made r none;
@@ -94,7 +96,7 @@ module _ (files : List File) (class name : Name) (same : class ≡ name) (input 
   few_of answers (run ∷ []) are = (files, input, are.1)
   few_of answers (run ∷ other ∷ more) are = are
 
-  -- the report is told
+  -- where there is a report
   pub raw_told : (report : Report) → AddsTo (Ok report) class → LeavesRaw {T = Report} {E = Stop} files name input steps before after old new (Ok report)
   raw_told report adds = record {
     runs = told;

@@ -3,20 +3,21 @@ use Rattle.std.proofs.Common.{◌≡◌, ◌≢◌, ℕ, ◌<◌, ◌≤◌, Lis
 use Rattle.std.specs.Prelude.{codes, unwrap_or}
 use Rattle.std.specs.Io.KnownBytes.{Appends}
 use Rattle.dj_edge.specs.declared.host.HostAnswer.{HostAnswer}
-use Rattle.dj_edge.specs.Held.{File, Held, class_files, bytes_at}
-use Rattle.dj_edge.specs.Counts.{Rose}
+use Rattle.dj_edge.specs.trusted.Held.{File, Held, class_files, bytes_at}
+use Rattle.dj_edge.specs.trusted.Counts.{Rose}
 use Rattle.dj_report.specs.declared.report.Report.{Report}
 use Rattle.dj_report.specs.declared.report.Report.TheVariants as reports
 use Rattle.dj_report.specs.declared.report.Limit.TheVariants as limits
-use Rattle.dj_report.specs.Text.{report_text}
+use Rattle.dj_report.specs.trusted.Text.{report_text}
 use Rattle.dj_report.specs.declared.report.Violation.{Violation}
-use Rattle.dj_sandbox.specs.Checked.{AreCheckViolations}
-use Rattle.dj_sandbox.specs.Limits.{AreWithin, IsFirstPast, IsTooLong, IsTooMuch, total_bytes}
+use Rattle.dj_sandbox.specs.trusted.Checked.{AreCheckViolations}
+use Rattle.dj_sandbox.specs.trusted.Limits.{AreWithin, IsFirstPast, IsTooLong, IsTooMuch, total_bytes}
 use Rattle.dj_source.specs.declared.error.AsmError.TheVariants as asm_errors
-use Rattle.dj_asm.specs.Texts.{IsTextOfBytes, TextFault}
-use Rattle.dj_words.specs.DoneJobs.{Check, Verify, OnFolder, done_job_of}
-use Rattle.djvm_cli.specs.Report.{CountsFiles, ReadsInput, ReadsText, FindsInput, ReadsFiles, Assembles, IsReport, files_within}
-use Rattle.djvm_cli.specs.Ends.{ReadEnds, OutOfMemory, WritesFront, IsReportStatus, TellsUsage}
+use Rattle.dj_asm.specs.trusted.Texts.{IsTextOfBytes, TextFault}
+use Rattle.dj_words.specs.trusted.DoneJobs.{Check, Verify, OnFolder, done_job_of}
+use Rattle.djvm_cli.specs.trusted.Report.{CountsFiles, ReadsInput, ReadsText, FindsInput, ReadsFiles, Assembles, IsReport, files_within}
+use Rattle.djvm_cli.specs.trusted.Ends.{ReadEnds, OutOfMemory, TellsUsage}
+use Rattle.djvm_cli.specs.Ends.{WritesFront, IsReportStatus}
 use Rattle.djvm_cli.proofs.Same.{same_front}
 
 -- ---- the number of files
@@ -47,7 +48,7 @@ input-past path input is = (refl, omega arith)
 input-not_within : (path input : List ℕ) → length input ≡ 1048577 → ReadsInput path (Some input) None → ⊥
 input-not_within path input is h = omega (arith, h)
 
--- an input that isn't there is told under its path, and a check has none
+-- an input that isn't there is reported under its path, and a check has none
 input-absent : (path : List ℕ) → ReadsInput path None (Some (reports.Absent path))
 input-absent path = refl
 
@@ -102,7 +103,7 @@ file-past bytes is = inl (
   },
 )
 
--- a file that is too long is told so, and not that it makes the files too long together
+-- a file that is too long is reported as such, and not as making the files too long together
 file-first : (front : List File) (path bytes : List ℕ) → length bytes ≡ 4194305 → IsTooMuch front (path, bytes) → ⊥
 file-first front path bytes is h = omega (arith, h.0)
 
@@ -181,7 +182,7 @@ order-words held answers = inl refl
 
 -- ---- how a call ends
 
--- where the store tells nothing, 65 is answered only where it failed
+-- where the store's contents aren't known, 65 is answered only where it failed
 read-untold : (words : List (List ℕ)) (answers : List HostAnswer) (before now : ℕ) (old new : Option (List ℕ)) → ReadEnds words None answers before now old new → Rose before now
 read-untold words answers before now old new (inl fault) = fault.rose
 read-untold words answers before now old new (inr told) = let held = told.0 in absurd cc
@@ -194,12 +195,12 @@ read-nothing words answers before now new (inr told) = let held = told.0 in absu
 front-none : (old new : Option (List ℕ)) (text : List ℕ) → Appends old new [] → WritesFront old new text
 front-none old new text nothing = ([], (text, refl), nothing)
 
--- where memory ran out, a front of the right report was written
+-- where memory ran out, a prefix of the right report was written
 memory-front : (words : List (List ℕ)) (held : Held) (answers : List HostAnswer) (report : Report) (old new : Option (List ℕ)) → IsReport words held answers report → OutOfMemory words (Some held) answers old new → WritesFront old new (report_text report)
 memory-front words held answers report old new right (inl broken) = same_front words held answers report old new right broken
 memory-front words held answers report old new right (inr nothing) = front-none old new (report_text report) nothing
 
--- only a store that tells what it holds has a report with the status 65
+-- only a store whose contents are known has a report with the status 65
 absent-untold : IsReportStatus (Some (OnFolder (Verify [] [] [] (record { alloc = 0; invoke = 0; jump = 0; throw = 0 })))) None 65 → ⊥
 absent-untold h = let held = h.1 refl in absurd cc
 

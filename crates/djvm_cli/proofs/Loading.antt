@@ -1,4 +1,4 @@
--- Listing and reading: what is listed where a store tells, and a step of the reading loop.
+-- Listing and reading: what is listed where a store's contents are known, and a step of the reading loop.
 use Rattle.std.proofs.Common.{◌≡◌, ℕ, ◌+◌, ◌<◌, ◌≤◌, false, List, [], ◌∷◌, ◌++◌, length, take, drop, map, get_or, All, IsTrue, Option, Some, None, IfSome, string_bytes, unwrap_or, sym, ap, ◌∙◌, subst, take-append-drop, arith}
 use Rattle.std.specs.declared.string.String.{String}
 use Rattle.std.specs.List.Sorted.{IsPermutation, IsSorted}
@@ -11,9 +11,9 @@ use Rattle.std.proofs.Common.{inl, inr}
 use Rattle.std.proofs.lemmas.List.Elements.{All-push, All-from_recursion, recursion_from_All}
 use Rattle.std.proofs.lemmas.List.Sums.{sum_by-append}
 use Rattle.std.proofs.lemmas.List.Sorted.{All-permutation, length_permutation, ranks_by, IsPermutation-map}
-use Rattle.dj_edge.specs.Held.{File, Held, class_files, is_class_path, bytes_at}
-use Rattle.dj_edge.specs.Counts.{AllDiffer, GrowsByFront, IsFront}
-use Rattle.dj_edge.specs.Calls.{IsListing}
+use Rattle.dj_edge.specs.trusted.Held.{File, Held, class_files, is_class_path, bytes_at}
+use Rattle.dj_edge.specs.trusted.Counts.{AllDiffer, GrowsByFront, IsFront}
+use Rattle.dj_edge.specs.trusted.Calls.{IsListing}
 use Rattle.dj_edge.proofs.Growth.{GrowsByFront-after, GrowsByFront-within, IsFront-more, grown_more}
 use Rattle.dj_edge.proofs.Listings.{sorted_listing}
 use Rattle.dj_edge.proofs.Pairs.{AllPairs-map}
@@ -25,7 +25,7 @@ use Rattle.djvm_cli.specs.declared.load.NextFile.{NextFile}
 use Rattle.djvm_cli.specs.declared.load.NextFile.TheVariants as next_files
 use Rattle.djvm_cli.specs.declared.load.Loaded.TheVariants as loads
 use Rattle.dj_sandbox.specs.ClassSets.{TextsRise}
-use Rattle.dj_sandbox.specs.Limits.{most_file_bytes, most_total_bytes, total_bytes, AreWithin}
+use Rattle.dj_sandbox.specs.trusted.Limits.{most_file_bytes, most_total_bytes, total_bytes, AreWithin}
 use Rattle.dj_sandbox.proofs.ByPath.{texts_rise}
 use Rattle.djvm_cli.specs.Steps.{files_at, IsLoaded}
 use Rattle.djvm_cli.specs.Next.{IsNextRead, IsNext}

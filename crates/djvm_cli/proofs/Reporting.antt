@@ -7,18 +7,18 @@ use Rattle.dj_edge.specs.InMemory.{String}
 use Rattle.std.proofs.lemmas.List.{length-map}
 use Rattle.std.proofs.lemmas.Simd.{map-map}
 use Rattle.std.proofs.lemmas.List.Elements.{All-head, All-tail, All-map, All-weaker}
-use Rattle.dj_edge.specs.Held.{File, Held, class_files, is_class_path, bytes_at}
-use Rattle.dj_edge.specs.Counts.{GrowsByFront}
+use Rattle.dj_edge.specs.trusted.Held.{File, Held, class_files, is_class_path, bytes_at}
+use Rattle.dj_edge.specs.trusted.Counts.{GrowsByFront}
 use Rattle.dj_edge.proofs.Growth.{IsFront-append, GrowsByFront-after, GrowsByFront-within}
 use Rattle.dj_edge.proofs.Listings.{class_files_held}
 use Rattle.dj_edge.proofs.Lists.{told_so, both_told, All-unmap}
-use Rattle.dj_report.specs.Stages.{IsDecided}
+use Rattle.dj_report.specs.trusted.Stages.{IsDecided}
 use Rattle.dj_report.specs.declared.report.Report.{Report}
 use Rattle.dj_report.specs.declared.report.Report.TheVariants as reports
 use Rattle.dj_report.specs.declared.report.Limit.{Limit}
 use Rattle.dj_report.specs.declared.report.Limit.TheVariants as limits
 use Rattle.dj_sandbox.specs.ClassSets.{TextsRise, PathsRise}
-use Rattle.dj_sandbox.specs.Limits.{most_files, AreWithin}
+use Rattle.dj_sandbox.specs.trusted.Limits.{most_files, AreWithin}
 use Rattle.djvm_cli.specs.declared.load.SourceFile.{SourceFile}
 use Rattle.djvm_cli.specs.declared.load.Listing.{Listing}
 use Rattle.djvm_cli.specs.declared.load.Listing.TheVariants as listings
@@ -27,12 +27,12 @@ use Rattle.djvm_cli.specs.declared.load.Loaded.TheVariants as loads
 use Rattle.djvm_cli.specs.declared.load.Input.{Input}
 use Rattle.djvm_cli.specs.declared.load.Input.TheVariants as inputs
 use Rattle.djvm_cli.specs.Inputs.{IsJobInput}
-use Rattle.dj_words.specs.DoneJobs.{FolderJob}
-use Rattle.djvm_cli.specs.Jobs.{folder_of}
-use Rattle.djvm_cli.specs.Report.{input_asks, CountsFiles, FindsInput, ReadsFiles, judging, folder_stages, input_of, within_folder, files_within}
+use Rattle.dj_words.specs.trusted.DoneJobs.{FolderJob}
+use Rattle.djvm_cli.specs.trusted.Jobs.{folder_of}
+use Rattle.djvm_cli.specs.trusted.Report.{input_asks, CountsFiles, FindsInput, ReadsFiles, judging, folder_stages, input_of, within_folder, files_within}
 use Rattle.djvm_cli.specs.Steps.{files_at, IsListed, AreClassPaths, AreRising, AreRead, IsLoaded}
 use Rattle.djvm_cli.specs.Views.{source_view}
-use Rattle.djvm_cli.specs.Engine.{Reaches}
+use Rattle.djvm_cli.specs.trusted.Engine.{Reaches}
 use Rattle.djvm_cli.proofs.Same.{job_input_one, files_one}
 use Rattle.djvm_cli.proofs.Leaving.{IsReached}
 
@@ -122,7 +122,7 @@ module _ (paths : List String) (sources : Vec SourceFile) (loaded : Loaded) (is 
 
 -- ---- what was asked
 
--- the folder, and then a front of what the input asks
+-- the folder, and then a prefix of what the input asks
 pub asks_input : (job : FolderJob) (folder : List ℕ) (held : Option Held) (list : List String) (old mid new : List (List ℕ)) → folder ≡ folder_of job → IfSome held (AreTheirs folder list)
     → mid ≡ old ++ folder ∷ [] → GrowsByFront mid new (input_asks job)
     → IfSome held (λ h. GrowsByFront old new (folder_of job ∷ (input_asks job ++ class_paths (folder_of job) h)))
@@ -133,7 +133,7 @@ asks_input job folder held list old mid new same theirs is grows =
     (GrowsByFront-within mid new (input_asks job) (input_asks job ++ class_paths (folder_of job) h) grows (IsFront-append (input_asks job) (class_paths (folder_of job) h))))
     theirs
 
--- the folder, what the input asks, and then a front of the paths
+-- the folder, what the input asks, and then a prefix of the paths
 pub asks_files : (job : FolderJob) (folder : List ℕ) (held : Option Held) (list : List String) (old mid next new : List (List ℕ)) → folder ≡ folder_of job → IfSome held (AreTheirs folder list)
     → mid ≡ old ++ folder ∷ [] → next ≡ mid ++ input_asks job → GrowsByFront next new (map string_bytes list)
     → IfSome held (λ h. GrowsByFront old new (folder_of job ∷ (input_asks job ++ class_paths (folder_of job) h)))
@@ -145,7 +145,7 @@ asks_files job folder held list old mid next new same theirs is then_is grows =
     (GrowsByFront-after mid next new (input_asks job) (class_paths (folder_of job) h) then_is paths))
     theirs
 
--- ---- stage by stage, where the store tells what it holds
+-- ---- stage by stage, where the store's contents are known
 
 passed_stage : (limit : Limit) (files : List File) → IsLoaded files (loads.Passed limit) → ReadsFiles files (Some (reports.Limited limit))
 passed_stage limits.FileCount files past = absurd past

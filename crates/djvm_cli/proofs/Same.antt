@@ -5,26 +5,27 @@ use Rattle.std.specs.Io.KnownBytes.{Appends}
 use Rattle.std.proofs.lemmas.List.Sums.{sum_by-append, sum_by-cons}
 use Rattle.dj_asm.proofs.OneFault.{one_fault, no_file_where_fault}
 use Rattle.dj_asm.proofs.OneFile.{one_file}
-use Rattle.dj_edge.specs.Held.{File, Held, bytes_at, class_files}
+use Rattle.dj_edge.specs.trusted.Held.{File, Held, bytes_at, class_files}
 use Rattle.dj_edge.specs.declared.host.HostAnswer.{HostAnswer}
-use Rattle.dj_edge.specs.Counts.{IsFront}
+use Rattle.dj_edge.specs.trusted.Counts.{IsFront}
 use Rattle.dj_edge.proofs.Lists.{cut_cases, at_cut}
-use Rattle.dj_report.specs.Stages.{IsDecided, DecidesOne, DecideOne}
+use Rattle.dj_report.specs.trusted.Stages.{IsDecided}
+use Rattle.dj_report.specs.Stages.{DecidesOne, DecideOne}
 use Rattle.dj_report.proofs.Stages.{one_decided}
 use Rattle.dj_report.specs.declared.report.Report.{Report}
 use Rattle.dj_report.specs.declared.report.Report.TheVariants as reports
 use Rattle.dj_report.specs.declared.report.Limit.{Limit}
 use Rattle.dj_report.specs.declared.report.Limit.TheVariants as limits
-use Rattle.dj_report.specs.Text.{report_text, report_status}
-use Rattle.dj_sandbox.specs.Limits.{most_file_bytes, most_input_bytes, most_total_bytes, total_bytes, AreWithin, IsFirstPast, IsTooLong, IsTooMuch}
-use Rattle.dj_sandbox.specs.Entry.{entry_name}
+use Rattle.dj_report.specs.trusted.Text.{report_text, report_status}
+use Rattle.dj_sandbox.specs.trusted.Limits.{most_file_bytes, most_input_bytes, most_total_bytes, total_bytes, AreWithin, IsFirstPast, IsTooLong, IsTooMuch}
+use Rattle.dj_sandbox.specs.trusted.Entry.{entry_name}
 use Rattle.dj_sandbox.proofs.OneJudgement.{check_one, run_one}
 use Rattle.dj_sandbox.proofs.RawJudgement.{raw_one}
 use Rattle.dj_source.specs.declared.error.AsmError.{AsmError}
 use Rattle.dj_source.specs.declared.error.AsmError.TheVariants as asm_errors
-use Rattle.dj_words.specs.DoneJobs.{DoneJob, FolderJob, Check, Verify, Raw, OnFolder, Assemble, done_job_of}
-use Rattle.djvm_cli.specs.Jobs.{folder_of, IsRawJob}
-use Rattle.djvm_cli.specs.Report.{RefusesWords, CountsFiles, ReadsWhole, FindsInput, ReadsFiles, TellsFault, Assembles, judging, folder_stages, text_stages, stages, files_within, input_of}
+use Rattle.dj_words.specs.trusted.DoneJobs.{DoneJob, FolderJob, Check, Verify, Raw, OnFolder, Assemble, done_job_of}
+use Rattle.djvm_cli.specs.trusted.Jobs.{folder_of, IsRawJob}
+use Rattle.djvm_cli.specs.trusted.Report.{RefusesWords, CountsFiles, ReadsWhole, FindsInput, ReadsFiles, TellsFault, Assembles, judging, folder_stages, text_stages, stages, files_within, input_of}
 use Rattle.djvm_cli.specs.OneReport.{HasOneReport, HasOneEnd, HasOneFront, HasOneAnswer}
 
 -- ---- the limits

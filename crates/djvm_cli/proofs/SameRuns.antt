@@ -1,15 +1,15 @@
--- The runs of which a report tells are the same under the same answers of the host.
+-- The runs that fit the report are the same under the same answers of the host.
 use Rattle.std.proofs.Common.{◌≡◌, ℕ, List, Option, Some, None, inl, inr, sym, ◌∙◌}
-use Rattle.dj_edge.specs.Held.{File, Held}
+use Rattle.dj_edge.specs.trusted.Held.{File, Held}
 use Rattle.dj_edge.specs.declared.host.HostAnswer.{HostAnswer}
 use Rattle.dj_names.specs.declared.run.Costs.{Costs}
-use Rattle.dj_sandbox.specs.Entry.{entry_name}
+use Rattle.dj_sandbox.specs.trusted.Entry.{entry_name}
 use Rattle.dj_running.proofs.OneRun.{same_raw_runs}
-use Rattle.dj_words.specs.DoneJobs.{DoneJob, FolderJob, Check, Verify, Raw, OnFolder, Assemble, done_job_of}
-use Rattle.djvm_cli.specs.Engine.{AreJudgedRuns, AreFolderRuns, AreRuns}
-use Rattle.djvm_cli.specs.Jobs.{folder_of}
+use Rattle.dj_words.specs.trusted.DoneJobs.{DoneJob, FolderJob, Check, Verify, Raw, OnFolder, Assemble, done_job_of}
+use Rattle.djvm_cli.specs.trusted.Engine.{AreJudgedRuns, AreFolderRuns, AreRuns}
+use Rattle.djvm_cli.specs.trusted.Jobs.{folder_of}
 use Rattle.djvm_cli.specs.OneReport.{HasSameRuns}
-use Rattle.djvm_cli.specs.Report.{files_within, input_of}
+use Rattle.djvm_cli.specs.trusted.Report.{files_within, input_of}
 
 judged_same : (job : FolderJob) (files : List File) (input : List ℕ) (answers : List HostAnswer) (first second : List (Costs × ℕ))
     → AreJudgedRuns job files input answers first → AreJudgedRuns job files input answers second → first ≡ second

@@ -2,16 +2,16 @@
 use Rattle.std.proofs.Common.{◌≡◌, ℕ, List, [], Option, Some, None, IfSome, IfOk, unwrap_or, sym, subst, inl, inr}
 use Rattle.std.specs.Global.{Vec}
 use Rattle.std.specs.Prelude.{Result}
-use Rattle.dj_edge.specs.Held.{Held, bytes_at}
+use Rattle.dj_edge.specs.trusted.Held.{Held, bytes_at}
 use Rattle.dj_edge.proofs.Lists.{told_so, ok_so}
-use Rattle.dj_report.specs.Stages.{IsDecided}
+use Rattle.dj_report.specs.trusted.Stages.{IsDecided}
 use Rattle.dj_report.specs.declared.report.Report.{Report}
-use Rattle.dj_sandbox.specs.Limits.{most_file_bytes}
+use Rattle.dj_sandbox.specs.trusted.Limits.{most_file_bytes}
 use Rattle.djvm_cli.specs.declared.load.Input.{Input}
 use Rattle.djvm_cli.specs.declared.load.Input.TheVariants as inputs
 use Rattle.djvm_cli.specs.declared.load.Stop.{Stop}
 use Rattle.djvm_cli.specs.Inputs.{IsShortInput, IsReadInput}
-use Rattle.djvm_cli.specs.Report.{ReadsText, Assembles, text_stages}
+use Rattle.djvm_cli.specs.trusted.Report.{ReadsText, Assembles, text_stages}
 
 abbrev Reads : List ℕ → Input → Held → Type 0
 Reads path input h = IsReadInput most_file_bytes path (bytes_at h path) input

@@ -1,91 +1,20 @@
--- How a call of the program ends.
-use Rattle.std.specs.Prelude.{◌≡◌, ℕ, List, [], ◌∷◌, Option, Some, IfSome, IsSome, ◌⊎◌, ◌↔◌, None}
+-- Beside trusted/Ends.antt: what no clause of the call `djvm` reaches.
+use Rattle.std.specs.Prelude.{◌≡◌, ℕ, List, [], ◌∷◌, Option, IsSome}
 use Rattle.std.specs.Io.KnownBytes.{Appends}
-use Rattle.dj_edge.specs.Held.{Held}
-use Rattle.dj_edge.specs.declared.host.HostAnswer.{HostAnswer}
-use Rattle.dj_edge.specs.Counts.{Rose, IsFront, GrowsByFront}
-use Rattle.dj_report.specs.declared.report.Report.{Report}
-use Rattle.dj_report.specs.Text.{report_text, report_status}
-use Rattle.dj_sandbox.specs.Statuses.{IsAmong}
-use Rattle.dj_words.specs.DoneJobs.{DoneJob, Check, Verify, Raw, OnFolder, Assemble, done_job_of}
-use Rattle.djvm_cli.specs.Report.{IsReport, asks}
+use Rattle.dj_edge.specs.trusted.Held.{Held}
+use Rattle.dj_edge.specs.trusted.Counts.{IsFront}
+use Rattle.dj_sandbox.specs.trusted.Statuses.{IsAmong}
+use Rattle.dj_words.specs.trusted.DoneJobs.{DoneJob}
+use Rattle.djvm_cli.specs.trusted.Ends.{read_fault, write_fault, no_memory, report_statuses}
 
--- the store failed or lacks a file, the sink failed, there was no memory
-abbrev pub read_fault : ℕ
-read_fault = 65
-
-abbrev pub write_fault : ℕ
-write_fault = 66
-
-abbrev pub no_memory : ℕ
-no_memory = 67
-
--- where the store tells what it holds, the report is that of the words, of what is held and of the host's answers
-abbrev pub IsRight : List (List ℕ) → Option Held → List HostAnswer → Report → Type 0
-IsRight words held answers report = IfSome held (λ h. IsReport words h answers report)
-
--- the right report was written, and the status is its
-pub record Finished (words : List (List ℕ)) (held : Option Held) (answers : List HostAnswer) (status : ℕ) (old new : Option (List ℕ)) : Type 0 where
-  pub report : Report
-  pub right : IsRight words held answers report
-  pub written : Appends old new (report_text report)
-  pub status_is : status ≡ report_status report
-
--- a front of the right report was written
-pub record Broken (words : List (List ℕ)) (held : Option Held) (answers : List HostAnswer) (old new : Option (List ℕ)) : Type 0 where
-  pub report : Report
-  pub front : List ℕ
-  pub right : IsRight words held answers report
-  pub is_front : IsFront front (report_text report)
-  pub written : Appends old new front
-
--- a front of the text was written
+-- a prefix of the text was written
 abbrev pub WritesFront : Option (List ℕ) → Option (List ℕ) → List ℕ → Type 0
 WritesFront old new text = (front : List ℕ) × IsFront front text × Appends old new front
 
--- the store failed in this call, and nothing was written
-pub record ReadFault (faults_before faults_now : ℕ) (old new : Option (List ℕ)) : Type 0 where
-  pub rose : Rose faults_before faults_now
-  pub written : Appends old new []
-
--- the store failed, or it tells what it holds and lacks the input or the text, which is reported
-abbrev pub ReadEnds : List (List ℕ) → Option Held → List HostAnswer → ℕ → ℕ → Option (List ℕ) → Option (List ℕ) → Type 0
-ReadEnds words held answers faults_before faults_now old new =
-    ReadFault faults_before faults_now old new ⊎ (IsSome held × Finished words held answers read_fault old new)
-
--- the sink failed in this call, after a front of the right report
-pub record WriteFault (words : List (List ℕ)) (held : Option Held) (answers : List HostAnswer) (faults_before faults_now : ℕ) (old new : Option (List ℕ)) : Type 0 where
-  pub rose : Rose faults_before faults_now
-  pub broken : Broken words held answers old new
-
--- there was no memory, after a front of the right report or before there was one
-abbrev pub OutOfMemory : List (List ℕ) → Option Held → List HostAnswer → Option (List ℕ) → Option (List ℕ) → Type 0
-OutOfMemory words held answers old new = Broken words held answers old new ⊎ Appends old new []
-
--- the statuses of the reports of a job: ABSENT has 65
-abbrev pub report_statuses : Option DoneJob → List ℕ
-report_statuses None = 64 ∷ []
-report_statuses (Some (OnFolder (Check folder))) = 0 ∷ 2 ∷ 7 ∷ []
-report_statuses (Some (OnFolder (Verify folder entry input most))) = 0 ∷ 1 ∷ 2 ∷ 3 ∷ 7 ∷ 65 ∷ 75 ∷ []
-report_statuses (Some (OnFolder (Raw folder entry input steps))) = 0 ∷ 1 ∷ 2 ∷ 4 ∷ 5 ∷ 6 ∷ 7 ∷ 8 ∷ 9 ∷ 65 ∷ []
-report_statuses (Some (Assemble path)) = 0 ∷ 7 ∷ 65 ∷ 68 ∷ []
-
--- every status that a call with these words ends with: those of its reports, and those of faults and of want of memory
-abbrev pub IsStatus : List (List ℕ) → ℕ → Type 0
-IsStatus words status = IsAmong status (read_fault ∷ write_fault ∷ no_memory ∷ report_statuses (done_job_of words))
-
--- the status of a report of the job: only a store that tells what it holds has one that a file isn't there
+-- the status is that of a report of the job; ABSENT is reported only where the store's contents are known
 abbrev pub IsReportStatus : Option DoneJob → Option Held → ℕ → Type 0
 IsReportStatus job held status = IsAmong status (report_statuses job) × (status ≡ read_fault → IsSome held)
 
--- a report was written, and its status answered, or that of a fault or of want of memory
+-- the result is the report's status, or that for a fault of the sink or for want of memory
 abbrev pub IsWritten : ℕ → ℕ → Type 0
 IsWritten status result = IsAmong result (write_fault ∷ no_memory ∷ status ∷ [])
-
--- the status is that of USAGE exactly where the words give no job
-abbrev pub TellsUsage : List (List ℕ) → ℕ → Type 0
-TellsUsage words status = (status ≡ 64) ↔ (done_job_of words ≡ None)
-
--- the store was asked what the words ask of it, up to some place
-abbrev pub AsksInOrder : List (List ℕ) → Option Held → List (List ℕ) → List (List ℕ) → Type 0
-AsksInOrder words held old new = IfSome held (λ h. GrowsByFront old new (asks words h))

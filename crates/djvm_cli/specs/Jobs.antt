@@ -1,12 +1,7 @@
--- What the jobs that are done have in common.
-use Rattle.std.specs.Prelude.{⊤, List, ℕ, Option, Some}
+-- Beside trusted/Jobs.antt: what no clause of the call `djvm` reaches.
+use Rattle.std.specs.Prelude.{⊤}
 use Rattle.dj_sandbox.specs.Limits.{IsWithinMost}
-use Rattle.dj_words.specs.DoneJobs.{DoneJob, FolderJob, Check, Verify, Raw, OnFolder, Assemble}
-
-abbrev pub folder_of : FolderJob → List ℕ
-folder_of (Check folder) = folder
-folder_of (Verify folder entry input most) = folder
-folder_of (Raw folder entry input steps) = folder
+use Rattle.dj_words.specs.trusted.DoneJobs.{DoneJob, FolderJob, Check, Verify, Raw, OnFolder, Assemble}
 
 -- the thresholds of the job are at most their maxima
 abbrev pub IsAllowed : FolderJob → Type 0
@@ -14,12 +9,7 @@ IsAllowed (Check folder) = ⊤
 IsAllowed (Verify folder entry input most) = IsWithinMost most
 IsAllowed (Raw folder entry input steps) = ⊤
 
--- of a job that has them
+-- the same for a job that has thresholds
 abbrev pub IsAllowedJob : DoneJob → Type 0
 IsAllowedJob (OnFolder job) = IsAllowed job
 IsAllowedJob (Assemble file) = ⊤
-
--- the job asks for a run with the library whose host answers
-abbrev pub IsRawJob : Option DoneJob → Type 0
-IsRawJob (Some (OnFolder (Raw folder entry input steps))) = ⊤
-IsRawJob job = ⊥

@@ -1,5 +1,4 @@
 pub mod Jobs
-pub mod Report
 pub mod Ends
 pub mod Engine
 pub mod OneReport
@@ -7,3 +6,4 @@ pub mod Views
 pub mod Steps
 pub mod Next
 pub mod Inputs
+pub mod trusted

@@ -1,22 +1,23 @@
--- The laws of a call's end: the words and what is held have one report, and so one status and one text.
+-- The laws of how a call ends: the words and the store's contents have one report, and so one status and one text.
 use Rattle.std.specs.Prelude.{◌≡◌, ℕ, List, Option, Some}
 use Rattle.std.specs.Io.KnownBytes.{Appends}
-use Rattle.dj_edge.specs.Held.{Held}
+use Rattle.dj_edge.specs.trusted.Held.{Held}
 use Rattle.dj_edge.specs.declared.host.HostAnswer.{HostAnswer}
 use Rattle.dj_names.specs.declared.run.Costs.{Costs}
 use Rattle.dj_report.specs.declared.report.Report.{Report}
-use Rattle.dj_report.specs.Text.{report_text}
-use Rattle.dj_words.specs.DoneJobs.{done_job_of}
-use Rattle.djvm_cli.specs.Jobs.{IsRawJob}
-use Rattle.djvm_cli.specs.Report.{IsReport}
-use Rattle.djvm_cli.specs.Ends.{Finished, Broken, WritesFront}
-use Rattle.djvm_cli.specs.Engine.{AreRuns}
+use Rattle.dj_report.specs.trusted.Text.{report_text}
+use Rattle.dj_words.specs.trusted.DoneJobs.{done_job_of}
+use Rattle.djvm_cli.specs.trusted.Jobs.{IsRawJob}
+use Rattle.djvm_cli.specs.trusted.Report.{IsReport}
+use Rattle.djvm_cli.specs.trusted.Ends.{Finished, Broken}
+use Rattle.djvm_cli.specs.Ends.{WritesFront}
+use Rattle.djvm_cli.specs.trusted.Engine.{AreRuns}
 
--- two right reports under the same answers are one
+-- two right reports under the same answers are equal
 abbrev pub HasOneReport : Type 0
 HasOneReport = (words : List (List ℕ)) (held : Held) (answers : List HostAnswer) (r s : Report) → IsReport words held answers r → IsReport words held answers s → r ≡ s
 
--- no words and files are without a report, under some answers
+-- for all words and contents there is a report, under some answers
 abbrev pub HasSomeReport : Type 0
 HasSomeReport = (words : List (List ℕ)) (held : Held) → ((answers : List HostAnswer) (r : Report) → IsReport words held answers r → ⊥) → ⊥
 
@@ -27,21 +28,21 @@ pub record IsSameEnd (a b : ℕ) (old_a new_a old_b new_b : Option (List ℕ)) :
   pub first : Appends old_a new_a text
   pub second : Appends old_b new_b text
 
--- two calls with the same words, on stores that hold the same, end as one where both finish and their hosts gave the same
+-- two calls with the same words, on stores with the same contents, end alike where both finish and their hosts gave the same answers
 abbrev pub HasOneEnd : Type 0
 HasOneEnd = (words : List (List ℕ)) (held : Held) (answers : List HostAnswer) (a b : ℕ) (old_a new_a old_b new_b : Option (List ℕ))
     → Finished words (Some held) answers a old_a new_a → Finished words (Some held) answers b old_b new_b → IsSameEnd a b old_a new_a old_b new_b
 
--- what a call wrote that the sink or want of memory broke off is a front of the right report's text
+-- what a call wrote before the sink failed or memory ran out is a prefix of the right report's text
 abbrev pub HasOneFront : Type 0
 HasOneFront = (words : List (List ℕ)) (held : Held) (answers : List HostAnswer) (report : Report) (old new : Option (List ℕ))
     → IsReport words held answers report → Broken words (Some held) answers old new → WritesFront old new (report_text report)
 
--- the answers matter to raw runs alone: of any other job the report is one, whatever the host answers
+-- the answers matter to `raw` alone: any other job has the same report whatever the host answers
 abbrev pub HasOneAnswer : Type 0
 HasOneAnswer = (words : List (List ℕ)) (held : Held) (first second : List HostAnswer) (r : Report) → (IsRawJob (done_job_of words) → ⊥) → IsReport words held first r → IsReport words held second r
 
--- the runs of which the report tells are the same under the same answers
+-- the runs that fit the report are the same under the same answers
 abbrev pub HasSameRuns : Type 0
 HasSameRuns = (words : List (List ℕ)) (held : Held) (answers : List HostAnswer) (first second : List (Costs × ℕ))
     → AreRuns (done_job_of words) held answers first → AreRuns (done_job_of words) held answers second → first ≡ second

@@ -1,6 +1,6 @@
 -- The program's values as the definitions see them.
 use Rattle.std.specs.Prelude.{string_bytes}
-use Rattle.dj_edge.specs.Held.{File}
+use Rattle.dj_edge.specs.trusted.Held.{File}
 use Rattle.djvm_cli.specs.declared.load.SourceFile.{SourceFile}
 
 -- a file that was read, under its path

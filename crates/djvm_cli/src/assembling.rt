@@ -1,12 +1,12 @@
 ghost use Rattle.std.specs.Prelude.{◌≡◌, ◌≤◌, [], ◌∷◌, Some, None, length, IfOk, IfErr, IfSome};
-ghost use Rattle.dj_edge.specs.Counts.{GrowsByFront};
-ghost use Rattle.dj_report.specs.Stages.{IsDecided};
-ghost use Rattle.dj_report.specs.Text.{report_status};
-ghost use Rattle.dj_sandbox.specs.Limits.{most_file_bytes};
-ghost use Rattle.dj_words.specs.DoneJobs.{Assemble};
+ghost use Rattle.dj_edge.specs.trusted.Counts.{GrowsByFront};
+ghost use Rattle.dj_report.specs.trusted.Stages.{IsDecided};
+ghost use Rattle.dj_report.specs.trusted.Text.{report_status};
+ghost use Rattle.dj_sandbox.specs.trusted.Limits.{most_file_bytes};
+ghost use Rattle.dj_words.specs.trusted.DoneJobs.{Assemble};
 ghost use Rattle.djvm_cli.specs.declared.load.Stop.TheVariants.{Memory};
 ghost use Rattle.djvm_cli.specs.Ends.{IsReportStatus};
-ghost use Rattle.djvm_cli.specs.Report.{Assembles, text_stages};
+ghost use Rattle.djvm_cli.specs.trusted.Report.{Assembles, text_stages};
 ghost use Rattle.djvm_cli.specs.Steps.{Counted};
 
 use crate::load::{Input, MOST_FILE_BYTES, Stop, read_whole};
@@ -31,7 +31,7 @@ fn assemble_text(alloc: Global, text: &[u8]) -> Result<Report, Stop>
     }
 }
 
-/// The report of the text in the file of the path: the limit on the file, and then what the text means.
+/// The report on the text in the file of this path: the limit on the file, or what the text means.
 pub fn report_of_text<F: Files>(alloc: Global, path: &str, files: &mut F) -> Result<Report, Stop>
     ensures held { F.held files.new ≡ F.held files.old }
     ensures counts { Counted (F.faults files.old) (F.faults files.new) result }

@@ -19,7 +19,7 @@ pub struct ClockHost<R: Clock + AllocGlobal + Drop> {
 }
 
 impl<R: Clock + AllocGlobal + Drop> ClockHost<R> {
-    /// The system's clocks, of which nothing was asked.
+    /// The system's clocks, which haven't been asked yet.
     pub fn new(rt: R) -> ClockHost<R>
         ensures { ⟦<ClockHost<R> as Host>⟧.given result ≡ [] }
     {
@@ -78,8 +78,13 @@ impl<R: Clock + AllocGlobal + Drop> Host for ClockHost<R> {
 #[cfg(test)]
 mod tests {
     use super::*;
+    use crate::adapters::Rising;
+    use std::alloc::Global;
+    use std::io;
+    use std::io::ErrorKind;
     use std::process::Abort;
     use std::test::Fail;
+    use std::time::Duration;
 
     fn clocks_tell<A: Abort, R: Clock + AllocGlobal + Drop>(
         rt: &A,
@@ -101,5 +106,64 @@ mod tests {
     fn real_clocks(rt: HostRuntime) -> Result<(), Fail> {
         let mut host = ClockHost::new(&rt);
         clocks_tell(&rt, &mut host)
+    }
+
+    // Clocks that can't be read.
+    struct Unreadable;
+
+    impl Clock for Unreadable {
+        fn monotonic(&self) -> io::Result<Duration> {
+            Err(io::Error::from(ErrorKind::Unsupported))
+        }
+
+        fn since_1970(&self) -> io::Result<Duration> {
+            Err(io::Error::from(ErrorKind::Unsupported))
+        }
+    }
+
+    // What a host over the clocks answers to two questions for the time, one for the date and one for a word, and whether these are all that it gave.
+    fn answers<C: Clock>(
+        alloc: Global,
+        clock: &C,
+    ) -> Result<([i64; 2], i64, i32, bool), HostError> {
+        let mut host = ClockHost::new((clock, alloc));
+        let nanos = [host.nanos()?, host.nanos()?];
+        let millis = host.millis()?;
+        let word = host.hash_word()?;
+        let given = [
+            HostAnswer::Nanos(nanos[0]),
+            HostAnswer::Nanos(nanos[1]),
+            HostAnswer::Millis(millis),
+            HostAnswer::Word(word),
+        ];
+        Ok((
+            nanos,
+            millis,
+            word,
+            host.given.as_slice() == given.as_slice(),
+        ))
+    }
+
+    // The first reading and the step, the two times, the date and the word.
+    type Reading = (u64, u64, [i64; 2], i64, i32);
+
+    const READINGS: [Reading; 6] = [
+        (5, 7, [7, 14], 0, 28),
+        (0, 1_000_000, [1_000_000, 2_000_000], 3, 4_000_000),
+        (9_000_000, 0, [0, 0], 9, 0),
+        (0, 1 << 31, [1 << 31, 1 << 32], 6_442, 0),
+        (0, 0x6000_0000, [0x6000_0000, 0xc000_0000], 4_831, i32::MIN),
+        (0, 0x3fff_ffff, [0x3fff_ffff, 0x7fff_fffe], 3_221, -4),
+    ];
+
+    // The clocks' times count from when the host was made, the date from 1970, and a word is the low 32 bits of the time.
+    #[test]
+    fn clocks_that_move(rt: HostRuntime) {
+        for (start, step, nanos, millis, word) in READINGS {
+            assert!(rt;
+                answers(rt.alloc(), &Rising::new(start, step)) == Ok((nanos, millis, word, true))
+            );
+        }
+        assert!(rt; answers(rt.alloc(), &Unreadable) == Ok(([0, 0], 0, 0, true)));
     }
 }

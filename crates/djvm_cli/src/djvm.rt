@@ -1,19 +1,23 @@
 ghost use Rattle.std.specs.Prelude.{◌≡◌, ◌≢◌, ◌≤◌, ◌++◌, Some, None, length, map, IfOk, IfErr, IfSome, string_bytes};
 ghost use Rattle.std.specs.Io.KnownBytes.{Appends};
-ghost use Rattle.dj_edge.specs.Counts.{Rose, GrowsByFront};
-ghost use Rattle.dj_report.specs.Stages.{IsDecided};
-ghost use Rattle.dj_report.specs.Text.{report_text, report_status};
-ghost use Rattle.dj_host.specs.Hosted.{given_since};
-ghost use Rattle.dj_sandbox.specs.Entry.{entry_name};
-ghost use Rattle.dj_sandbox.specs.Judging.{raw_stages};
-ghost use Rattle.dj_sandbox.specs.Limits.{most_input_bytes};
-ghost use Rattle.dj_sandbox.specs.Statuses.{IsAmong, raw_statuses};
+ghost use Rattle.dj_edge.specs.trusted.Counts.{Rose, GrowsByFront};
+ghost use Rattle.dj_report.specs.trusted.Stages.{IsDecided};
+ghost use Rattle.dj_report.specs.trusted.Text.{report_text, report_status};
+ghost use Rattle.dj_host.specs.trusted.Hosted.{given_since};
+ghost use Rattle.dj_sandbox.specs.trusted.Entry.{entry_name};
+ghost use Rattle.dj_sandbox.specs.trusted.Judging.{raw_stages};
+ghost use Rattle.dj_sandbox.specs.trusted.Limits.{most_input_bytes};
+ghost use Rattle.dj_sandbox.specs.trusted.Statuses.{IsAmong};
+ghost use Rattle.dj_sandbox.specs.Statuses.{raw_statuses};
 ghost use Rattle.djvm_cli.specs.declared.load.Stop.TheVariants.{Memory};
-ghost use Rattle.dj_words.specs.DoneJobs.{OnFolder, done_job_of};
-ghost use Rattle.djvm_cli.specs.Engine.{AddsRuns, AddsFront, AddsFew, TellsNoRun, LeavesRaw, LeavesJudged, LeavesJob};
-ghost use Rattle.djvm_cli.specs.Jobs.{folder_of, IsAllowed, IsAllowedJob, IsRawJob};
-ghost use Rattle.djvm_cli.specs.Report.{judging, folder_stages, folder_asks, stages, job_asks};
-ghost use Rattle.djvm_cli.specs.Ends.{IsStatus, IsReportStatus, IsWritten, read_fault, write_fault, no_memory, IsRight, Finished, ReadEnds, WriteFault, OutOfMemory, AsksInOrder, WritesFront, TellsUsage};
+ghost use Rattle.dj_words.specs.trusted.DoneJobs.{OnFolder, done_job_of};
+ghost use Rattle.djvm_cli.specs.trusted.Engine.{AddsRuns, AddsFront, AddsFew, TellsNoRun};
+ghost use Rattle.djvm_cli.specs.Engine.{LeavesRaw, LeavesJudged, LeavesJob};
+ghost use Rattle.djvm_cli.specs.trusted.Jobs.{folder_of, IsRawJob};
+ghost use Rattle.djvm_cli.specs.Jobs.{IsAllowed, IsAllowedJob};
+ghost use Rattle.djvm_cli.specs.trusted.Report.{judging, folder_stages, folder_asks, stages, job_asks};
+ghost use Rattle.djvm_cli.specs.trusted.Ends.{IsStatus, read_fault, write_fault, no_memory, IsRight, Finished, ReadEnds, WriteFault, OutOfMemory, AsksInOrder, TellsUsage};
+ghost use Rattle.djvm_cli.specs.Ends.{IsReportStatus, IsWritten, WritesFront};
 ghost use Rattle.djvm_cli.specs.Steps.{Counted};
 ghost use Rattle.dj_words.specs.Views.{folder_job_view, job_view};
 
@@ -38,7 +42,7 @@ fn folder<'a>(command: FolderCommand<'a>) -> &'a str
     }
 }
 
-// Judges a set that was read, and runs the class of this name on the input with the library whose host answers.
+// Judges a set that was read, and runs the class of this name on the input with the raw library.
 fn judge_raw<H: Host, E: Engine>(
     alloc: Global,
     entry: &str,
@@ -57,7 +61,7 @@ fn judge_raw<H: Host, E: Engine>(
     Ok(raw(alloc, set, class.as_slice(), input, steps, host, engine)?)
 }
 
-/// Judges a set and an input that were read, as the job asks.
+/// Judges a set and an input that were read, and runs them where the job asks for a run.
 fn judge<H: Host, E: Engine>(
     alloc: Global,
     command: FolderCommand<'_>,
@@ -90,7 +94,7 @@ fn judge<H: Host, E: Engine>(
 }
 
 /// The report of a job on a folder. Each step decides it or hands on to the next: the number of files, the input, the limits on the files, and
-/// then what the files are judged to be.
+/// then what the files are judged to be and how their run ends.
 fn report_of_folder<F: Files, H: Host, E: Engine>(
     alloc: Global,
     command: FolderCommand<'_>,
@@ -168,7 +172,7 @@ fn report_of<F: Files, H: Host, E: Engine>(
     }
 }
 
-/// Writes the report and answers the status.
+/// Writes the report and returns its status, 66 where the sink failed, or 67 where there was no memory.
 fn write_report<S: Sink>(alloc: Global, report: &Report, sink: &mut S) -> u8
     ensures statuses { IsWritten (report_status report.now) result }
     ensures finished { result ≢ write_fault → result ≢ no_memory → Appends (S.written sink.old) (S.written sink.new) (report_text report.now) }
@@ -187,7 +191,7 @@ fn write_report<S: Sink>(alloc: Global, report: &Report, sink: &mut S) -> u8
     }
 }
 
-/// Does the job that the words ask for, writes its one report and answers the status.
+/// Does the job that the words ask for, writes its one report and returns the status.
 pub fn djvm<F: Files, H: Host, S: Sink, E: Engine>(
     alloc: Global,
     words: &[String],
@@ -198,7 +202,7 @@ pub fn djvm<F: Files, H: Host, S: Sink, E: Engine>(
 ) -> u8
     ensures statuses { IsStatus (map string_bytes words.now) result }
 
-    // The right report is written, and the status is its; else the store failed, the sink failed, or there was no memory.
+    // The right report is written, and the status is that report's; or the store failed, the sink failed, or there was no memory.
     ensures finished { result ≢ read_fault → result ≢ write_fault → result ≢ no_memory
         → Finished (map string_bytes words.now) (F.held files.old) (given_since (H.given host.old) (H.given host.new)) result (S.written sink.old) (S.written sink.new) }
     ensures usage { result ≢ read_fault → result ≢ write_fault → result ≢ no_memory
@@ -212,15 +216,15 @@ pub fn djvm<F: Files, H: Host, S: Sink, E: Engine>(
     ensures no_memory { result ≡ no_memory
         → OutOfMemory (map string_bytes words.now) (F.held files.old) (given_since (H.given host.old) (H.given host.new)) (S.written sink.old) (S.written sink.new) }
 
-    // The store is asked only what the words ask of it, and the host only what a raw run asks.
+    // The store is asked only for what the words ask of it, and the host only where the job is `raw` and makes a run.
     ensures asks { AsksInOrder (map string_bytes words.now) (F.held files.old) (F.asked files.old) (F.asked files.new) }
     ensures held { F.held files.new ≡ F.held files.old }
     ensures given { (IsRawJob (done_job_of (map string_bytes words.now)) → ⊥) → H.given host.new ≡ H.given host.old }
     ensures gave { H.given host.new ≡ H.given host.old ++ given_since (H.given host.old) (H.given host.new) }
     ensures unasked { TellsNoRun (map string_bytes words.now) (F.held files.old) (given_since (H.given host.old) (H.given host.new)) → H.given host.new ≡ H.given host.old }
 
-    // The engine made the runs of which the report tells, and none else. Whatever the store tells, it made one run at most, and that of the words' class on some input;
-    // and none where no raw run is asked for.
+    // The engine made the runs that the report is about, and no others. Whatever is known of the store, it made at most one run, of the class that the words name on some
+    // input, and none where the job isn't `raw`.
     ensures runs { result ≢ read_fault → result ≢ write_fault → result ≢ no_memory
         → AddsRuns (map string_bytes words.now) (F.held files.old) (given_since (H.given host.old) (H.given host.new)) (E.runs engine.old) (E.runs engine.new) }
     ensures front { IfSome (F.held files.old) (λ h. AddsFront (map string_bytes words.now) (Some h) (given_since (H.given host.old) (H.given host.new)) (E.runs engine.old) (E.runs engine.new)) }

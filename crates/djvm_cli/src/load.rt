@@ -1,12 +1,12 @@
 ghost use Rattle.std.specs.Prelude.{◌≡◌, ◌≤◌, [], ◌∷◌, ◌++◌, map, All, IsSome, IfOk, IfErr, OnOk, IfSome, string_bytes, unwrap_or};
 ghost use Rattle.djvm_cli.specs.declared.load.Stop.TheVariants.{Memory};
 ghost use Rattle.djvm_cli.specs.declared.load.Input.TheVariants.{Absent};
-ghost use Rattle.dj_edge.specs.Held.{bytes_at};
-ghost use Rattle.dj_edge.specs.Counts.{GrowsByFront};
-ghost use Rattle.dj_sandbox.specs.Limits.{most_total_bytes, most_input_bytes};
+ghost use Rattle.dj_edge.specs.trusted.Held.{bytes_at};
+ghost use Rattle.dj_edge.specs.trusted.Counts.{GrowsByFront};
+ghost use Rattle.dj_sandbox.specs.trusted.Limits.{most_total_bytes, most_input_bytes};
 ghost use Rattle.djvm_cli.specs.Steps.{Counted, IsListed, AreClassPaths, AreRising, AreRead, IsLoaded, files_at};
 ghost use Rattle.djvm_cli.specs.Inputs.{IsShortInput, IsAbsentWhereTold, IsReadInput, IsJobInput, IsInputOf};
-ghost use Rattle.djvm_cli.specs.Report.{input_asks};
+ghost use Rattle.djvm_cli.specs.trusted.Report.{input_asks};
 ghost use Rattle.dj_words.specs.Views.{folder_job_view};
 ghost use Rattle.djvm_cli.specs.Next.{IsNextRead, IsNext};
 
@@ -127,7 +127,7 @@ pub fn list_paths<F: Files>(alloc: Global, files: &mut F, folder: &str) -> Resul
     }
 }
 
-/// The file that isn't there under the path.
+/// The answer that there is no file of this path.
 fn absent(alloc: Global, path: &str) -> Result<Input, Stop>
     ensures absent { IfOk result (λ input. input ≡ Absent path.now) }
     ensures no_fault { IfErr result (λ stop. stop ≡ Memory) }
@@ -138,7 +138,7 @@ fn absent(alloc: Global, path: &str) -> Result<Input, Stop>
     }
 }
 
-/// Reads the file of the path, which may have so many bytes.
+/// Reads the file of the path, which may have at most `most` bytes.
 pub fn read_whole<F: Files>(
     alloc: Global,
     files: &mut F,
@@ -184,7 +184,7 @@ pub fn read_job_input<F: Files>(
     }
 }
 
-/// Reads the file of the path, after files of so many bytes together.
+/// Reads the file of the path, after files of `total` bytes together.
 fn read_next<F: Files>(
     alloc: Global,
     files: &mut F,

@@ -1,6 +1,8 @@
 //! djvm: a deterministic sandbox for Java class files.
 #![tactic(auto)]
 
+#[cfg(test)]
+mod adapters;
 mod assembling;
 mod clock_host;
 mod cut;

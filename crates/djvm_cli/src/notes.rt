@@ -1,4 +1,4 @@
-//! What stands on standard error beside a report: one line at most, why there is none or what the user may have meant.
+//! What is written to standard error beside a report: one line at most, which says why there is no report or what the user may have meant.
 
 use dj_edge::{Entry, EntryKind};
 use std::alloc::Global;
@@ -11,14 +11,14 @@ const USAGE: &str =
 
 const VERSION: &str = "djvm 0.1.0";
 
-/// How each line of a report ends that says of a path that it breaks the rule NAME. Each path has one such line at most.
+/// The end of each line of a report that says that a path violates the rule NAME. Each path has at most one such line.
 const NAME_END: &[u8] = b" NAME\n";
 
-/// How many lines of a report name the rule NAME.
+/// Counts the lines of a report that have the rule NAME.
 #[derive(Clone, Copy)]
 struct NameLines {
     count: u64,
-    // How many bytes of such an end stand at the end of what was seen.
+    // How many of the last bytes that were seen are the beginning of such an end.
     matched: usize,
 }
 
@@ -39,7 +39,7 @@ impl NameLines {
     }
 }
 
-/// What is told on standard error of one job, and what was seen of the job so far.
+/// What is written to standard error for one job, and what was seen of the job so far.
 #[derive(Drop)]
 pub struct Notes<R: Eprint + Drop> {
     rt: R,
@@ -93,7 +93,7 @@ impl<R: Eprint + Drop> Notes<R> {
         }
     }
 
-    /// These bytes of the report were written.
+    /// These bytes of the report were written, and are searched for lines of NAME.
     pub fn see_written(&self, bytes: &[u8]) {
         let mut lines = self.name_lines.get();
         for byte in bytes {
@@ -102,40 +102,40 @@ impl<R: Eprint + Drop> Notes<R> {
         self.name_lines.set(lines);
     }
 
-    /// Whether the line wasn't written yet, which is to be done now.
+    /// Whether the line wasn't written yet; it counts as written from now on.
     fn is_first(&self) -> bool {
         !self.is_told.replace(true)
     }
 
-    /// Tells that what stands under the path can't be read, and why.
+    /// Writes that what is at the path can't be read, and why.
     pub fn tell_path<D: Display>(&self, path: &str, cause: &D) {
         if self.is_first() {
             let _ = eprintln!(self.rt; "djvm: {path:?}: {cause}");
         }
     }
 
-    /// Tells that the folder that was opened last can't be read, and why.
+    /// Writes that the folder that was opened last can't be read, and why.
     pub fn tell_folder<D: Display>(&self, cause: &D) {
         if let Ok(folder) = self.folder.try_borrow() {
             self.tell_path(folder.as_str(), cause);
         }
     }
 
-    /// Tells why standard output can't be written.
+    /// Writes why standard output can't be written.
     pub fn tell_output<D: Display>(&self, cause: &D) {
         if self.is_first() {
             let _ = eprintln!(self.rt; "djvm: standard output: {cause}");
         }
     }
 
-    /// Tells this of the job.
+    /// Writes this line, where none was written for the job.
     fn tell(&self, line: &str) {
         if self.is_first() {
             let _ = eprintln!(self.rt; "djvm: {line}");
         }
     }
 
-    /// Tells where the folder that was given may be the wrong one.
+    /// Writes that the folder that was given may be the wrong one, where it seems so.
     fn tell_wrong_folder(&self) {
         match self.class_files.get() {
             None => {}
@@ -150,7 +150,7 @@ impl<R: Eprint + Drop> Notes<R> {
         }
     }
 
-    /// The job ended with this status.
+    /// The job ended with this status: writes what belongs to it.
     pub fn end(&self, status: u8) {
         match status {
             0 | 2 => self.tell_wrong_folder(),
@@ -159,7 +159,7 @@ impl<R: Eprint + Drop> Notes<R> {
                     let _ = eprintln!(self.rt; "{VERSION}; {USAGE}");
                 }
             }
-            // A walk ends so where no folder and no file failed.
+            // A walk ends with 65 where a folder is too deep or an entry too many, though no call of the system failed.
             65 => self.tell_folder(&"it has a folder of level 65 or the 1048577th entry"),
             66 => self.tell_output(&"it takes no more bytes"),
             67 => self.tell("there was not enough memory"),

@@ -1,5 +1,6 @@
 ghost use Rattle.std.specs.Prelude.{◌≡◌, ◌<◌, ◌≤◌, None, length};
-ghost use Rattle.dj_edge.specs.Calls.{Writes, WriteCounts, CountsWrite};
+ghost use Rattle.dj_edge.specs.trusted.Calls.{Writes, WriteCounts};
+ghost use Rattle.dj_edge.specs.Calls.{CountsWrite};
 
 use crate::notes::Notes;
 use dj_edge::{Sink, SinkError, write_piece};
@@ -7,7 +8,7 @@ use std::io;
 use std::io::Write;
 use std::rc::Rc;
 
-/// Standard output, of which a write that fails is told.
+/// Standard output. Why a write fails is written to standard error.
 #[derive(Drop)]
 struct NotedOutput<'a, R: Print + Eprint + Drop> {
     rt: &'a R,
@@ -29,7 +30,7 @@ impl<R: Print + Eprint + Drop> Write for NotedOutput<'_, R> {
     }
 }
 
-/// Standard output. It does not tell what was written.
+/// Standard output, as a sink. What was written to it isn't known.
 #[derive(Drop)]
 pub struct OutSink<R: Print + Eprint + Drop> {
     rt: R,
@@ -38,7 +39,7 @@ pub struct OutSink<R: Print + Eprint + Drop> {
 }
 
 impl<R: Print + Eprint + Drop> OutSink<R> {
-    /// Standard output, of which no write failed.
+    /// Standard output, to which no write has failed.
     pub fn new(rt: R, notes: Rc<Notes<R>>) -> OutSink<R>
         ensures { ⟦<OutSink<R> as Sink>⟧.faults result ≡ 0 }
     {

@@ -1,4 +1,4 @@
-//! The folders and the files of the system, of which what fails is told on standard error.
+//! The folders and the files of the system. Why one can't be read is written to standard error.
 ghost use Rattle.std.specs.Prelude.{◌≡◌, ◌↔◌, None};
 ghost use Rattle.std.specs.IoError.{error_kind};
 
@@ -11,7 +11,7 @@ use std::rc::Rc;
 use std::rt::Files as System;
 use std::{fs, io};
 
-/// An open file of the system, of which a read that fails is told.
+/// An open file of the system. Why a read fails is written to standard error.
 #[derive(Drop)]
 pub struct NotedFile<R: System + Eprint + Drop> {
     notes: Rc<Notes<R>>,
@@ -31,7 +31,7 @@ impl<R: System + Eprint + Drop> Read for NotedFile<R> {
     }
 }
 
-/// The folders and the files of the system, which does not tell what they have. Links are followed. What fails is told.
+/// The folders and the files of the system, whose contents aren't known. Links are followed. Why one can't be read is written to standard error.
 #[derive(Drop)]
 pub struct SystemFiles<R: System + Eprint + AllocGlobal + Clone + Drop> {
     rt: R,
@@ -40,7 +40,7 @@ pub struct SystemFiles<R: System + Eprint + AllocGlobal + Clone + Drop> {
 }
 
 impl<R: System + Eprint + AllocGlobal + Clone + Drop> SystemFiles<R> {
-    /// The folders and files of the system, of which no folder is open.
+    /// The folders and files of the system; no folder is open.
     pub fn new(rt: R, notes: Rc<Notes<R>>) -> SystemFiles<R> {
         SystemFiles {
             rt,
@@ -61,12 +61,12 @@ fn list_error(error: io::Error) -> ListError
     }
 }
 
-/// A path of its own.
+/// A copy of the path.
 fn owned(alloc: Global, path: &str) -> Result<String, ListError> {
     String::from_str(alloc, path).map_err(|_| ListError::Memory)
 }
 
-/// What stands at the path.
+/// The entry at the path.
 fn entry_at<R: System>(rt: &R, alloc: Global, path: &str) -> io::Result<Entry> {
     let path = String::from_str(alloc, path)?;
     let found = fs::metadata(rt, path.as_str())?;

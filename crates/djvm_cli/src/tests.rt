@@ -104,7 +104,7 @@ const FILES: [(&str, &[u8]); 16] = [
     ("u", NO_NAME),
 ];
 
-// The words, the order of listings, the call of the store that fails, how many bytes the sink takes, the status and what is written.
+// The words, the order of listings, the number of the store's call that fails, how many bytes the sink takes, the status, and what is written.
 type Row = (&'static [&'static str], Order, u64, u64, u8, &'static [u8]);
 
 const NONE: u64 = 99;
@@ -148,7 +148,7 @@ const ENDS: [Row; 19] = [
     (REFUSED, Order::Given, NONE, 999, 68, b"ASM SYNTAX 1 10\n"),
 ];
 
-// Of a raw run: the words, the call of the store that fails, the host's word for hashes, how many bytes the sink takes, the status and what is
+// Of a run of `raw`: the words, the number of the store's call that fails, the host's word for hashes, how many bytes the sink takes, the status, what is
 // written, the words that the host gave, and how many steps the engine's runs made.
 type RawRow = (
     &'static [&'static str],
@@ -222,7 +222,7 @@ const RAW_ENDS: [RawRow; 16] = [
     (VERIFY, NONE, 7, 999, 0, RETURNED, &[], &[]),
 ];
 
-// Nobody counts the charges of a raw run.
+// In a run of `raw` no charges are counted.
 const NOTHING: Costs = Costs {
     alloc: 0,
     invoke: 0,
@@ -230,7 +230,7 @@ const NOTHING: Costs = Costs {
     throw: 0,
 };
 
-// A host in memory that tells how many answers it gave, and the last of its words for hashes.
+// A host in memory that keeps how many answers it gave, and the last of its words for hashes.
 #[derive(Drop)]
 struct ToldHost {
     host: MemHost,
@@ -247,7 +247,7 @@ impl ToldHost {
         }
     }
 
-    // Whether these words are all that it gave: none, or one.
+    // Whether these words are all that it gave: none, or one word.
     fn gave(&self, words: &[i32]) -> bool {
         self.count == words.len() as u64 && self.word == words.first().copied()
     }
@@ -295,7 +295,7 @@ fn held(alloc: Global) -> Result<Vec<(String, Vec<u8>)>, AllocError> {
     Ok(held)
 }
 
-// Whether the job of the row's words ends so.
+// Whether the job of the row's words ends as the row says.
 fn ends(alloc: Global, row: &Row) -> Result<bool, AllocError> {
     let words = words_of(alloc, row.0)?;
     let held = held(alloc)?;
@@ -319,7 +319,7 @@ fn all_end(alloc: Global, rows: &[Row]) -> Result<bool, AllocError> {
     Ok(true)
 }
 
-// Whether these are all runs that the engine made.
+// Whether these are all the runs that the engine made.
 fn made(engine: &PlainEngine, steps: &[u64]) -> bool {
     let runs = engine.runs();
     runs.len() == steps.len()
@@ -329,7 +329,7 @@ fn made(engine: &PlainEngine, steps: &[u64]) -> bool {
             .all(|(run, steps)| run.0 == NOTHING && run.1 == *steps)
 }
 
-// Whether the raw run of the row's words ends so, and asks and makes no more.
+// Whether the run of the row's words ends as the row says, and asks the host and makes runs no more than that.
 fn ends_raw(alloc: Global, row: &RawRow) -> Result<bool, AllocError> {
     let words = words_of(alloc, row.0)?;
     let held = held(alloc)?;
@@ -345,7 +345,7 @@ fn ends_raw(alloc: Global, row: &RawRow) -> Result<bool, AllocError> {
     Ok(told && host.gave(row.6) && made(&engine, row.7))
 }
 
-// Where there is ample memory a job ends with its report: a body that is always out of memory is refused, and so is one that is
+// Where there is ample memory a job ends with its report: a body that is always out of memory is refused, and so is one that is out of memory
 // where a store fails or lacks a file.
 #[test]
 fn always_out_of_memory(rt: HostRuntime) -> Result<(), Fail> {
@@ -353,8 +353,8 @@ fn always_out_of_memory(rt: HostRuntime) -> Result<(), Fail> {
     Ok(())
 }
 
-// A raw run is told as the machine makes it, asks the host for what it takes, and is told of by the engine: a body that asks once more, or leaves
-// its run out, is refused.
+// The report on a run of `raw` is as the machine makes the run, the host is asked for what the run takes, and the engine keeps the run: a body that asks once more, or
+// leaves its run out, is refused.
 #[test]
 fn raw_runs(rt: HostRuntime) -> Result<(), Fail> {
     for row in &RAW_ENDS {

@@ -7,7 +7,7 @@ use crate::program::Action;
 use dj_rules::RulesError;
 use std::alloc::Global;
 
-#[tactic(auto, unfolding(crate::specs::Effects::effect))]
+#[tactic(auto, unfolding(crate::specs::trusted::Effects::effect))]
 impl Machine {
     /// An instruction is done.
     pub fn act(&mut self, alloc: Global, action: Action) -> Result<Progress, RulesError>

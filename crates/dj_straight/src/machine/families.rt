@@ -1,7 +1,7 @@
 //! What the families of straight instructions do (JVMS 6.5).
 
 ghost use Rattle.std.specs.Prelude.{IfOk};
-ghost use Rattle.dj_straight.specs.Instructions as model;
+ghost use Rattle.dj_straight.specs.trusted.Instructions as model;
 ghost use Rattle.dj_names.specs.declared.descriptor.Kind.TheVariants as kinds;
 ghost use Rattle.dj_names.specs.declared.run.Element.TheVariants.{Byte};
 ghost use Rattle.dj_straight.specs.Methods.{operation_view};
@@ -15,7 +15,7 @@ use dj_names::{Kind, Raised, Value};
 use dj_rules::RulesError;
 use std::alloc::Global;
 
-#[tactic(auto, unfolding(crate::specs::Effects::effect))]
+#[tactic(auto, unfolding(crate::specs::trusted::Effects::effect))]
 impl Machine {
     /// A value is pushed.
     pub fn push(&mut self, value: Value) -> Result<Progress, RulesError>

@@ -1,7 +1,7 @@
 ghost use Rattle.std.specs.Prelude.{◌≡◌, ◌-◌, ◌<◌, ◌≤◌, ◌^◌, List, [], ◌∷◌, length, map, replicate, Some, None, IfOk};
 ghost use Rattle.std.specs.Int.{w8, cast_signed, cast_unsigned};
 ghost use Rattle.dj_names.specs.declared.run.Value.TheVariants as values;
-ghost use Rattle.dj_straight.specs.Metered.{input_array, input_size};
+ghost use Rattle.dj_straight.specs.trusted.Metered.{input_array, input_size};
 
 use crate::machine::heap::Heap;
 use crate::machine::operands::Operands;

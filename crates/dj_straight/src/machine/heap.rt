@@ -1,8 +1,8 @@
 ghost use Rattle.std.specs.Prelude.{◌≡◌, ◌+◌, ◌<◌, ◌^◌, ℤ, pos, List, [], ◌∷◌, length, set, Some, None, IsSome, IfOk, OnOk, slice_get, codes};
-ghost use Rattle.dj_straight.specs.Objects.{Array};
+ghost use Rattle.dj_straight.specs.trusted.Objects.{Array};
 ghost use Rattle.dj_names.specs.declared.run.Element.TheVariants.{Byte};
-ghost use Rattle.dj_straight.specs.State.{Heap as ModelHeap};
-ghost use Rattle.dj_straight.specs.Effects.{array_at, array_size, element_at, with_element, with_new, with_object, next_number, new_contents, IsArray};
+ghost use Rattle.dj_straight.specs.trusted.State.{Heap as ModelHeap};
+ghost use Rattle.dj_straight.specs.trusted.Effects.{array_at, array_size, element_at, with_element, with_new, with_object, next_number, new_contents, IsArray};
 ghost use Rattle.dj_straight.specs.Arrays.{byte_array, heap_of};
 ghost use Rattle.dj_straight.specs.Machines.{found_view, IsShort};
 
@@ -17,7 +17,7 @@ pub struct Heap {
 }
 
 impl Model for Heap {
-    ghost use Rattle.dj_straight.specs.State.{Heap as ModelHeap};
+    ghost use Rattle.dj_straight.specs.trusted.State.{Heap as ModelHeap};
     ghost use Rattle.dj_straight.specs.Arrays.{heap_of, AreShort};
 
     ghost Value = { ModelHeap };
@@ -31,7 +31,7 @@ impl Model for Heap {
 #[derive(Clone, Copy)]
 pub enum Found<'a> {
     Null,
-    /// An object that was not made.
+    /// An object that was never made.
     NoArray,
     Bytes(&'a [i8]),
 }
@@ -85,7 +85,7 @@ impl Heap {
         Ok(reference)
     }
 
-    /// An element of the array is another.
+    /// Gives an element of the array another value.
     pub fn store(&mut self, reference: u32, index: i32, byte: i8)
         requires { (contents : List ℤ) × (array_at self.old.objects reference ≡ IsArray (codes "[B") Byte contents)
             × IsSome (element_at contents index) }

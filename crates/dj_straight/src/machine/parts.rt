@@ -20,8 +20,8 @@ pub enum Progress {
     Raises(Raised),
     /// This reference is returned.
     Returns(u32),
-    /// Not at all: a reference is of no array.
+    /// The run ends: a reference is of no array.
     Broken,
-    /// Not at all: the instruction doesn't find what it takes.
+    /// The instruction doesn't find what it takes.
     IllFormed,
 }

@@ -1,6 +1,6 @@
 ghost use Rattle.std.specs.Prelude.{◌≡◌, ◌≤◌, Some};
 ghost use Rattle.dj_names.specs.declared.run.Element.TheVariants.{Byte};
-ghost use Rattle.dj_straight.specs.Charges.{array_amount, paid};
+ghost use Rattle.dj_straight.specs.trusted.Charges.{array_amount, paid};
 ghost use Rattle.dj_straight.specs.Methods.{action_view};
 ghost use Rattle.dj_straight.specs.Turns.{straight_amounts, payment_view, PaysWithin};
 
@@ -8,7 +8,7 @@ use crate::machine::operands::Operands;
 use crate::program::Action;
 use dj_names::{Costs, Thresholds, Value};
 
-/// What the next instruction's charges come to.
+/// The sums after the next instruction's charges.
 #[derive(Clone, Copy)]
 pub enum Payment {
     Paid(Costs),

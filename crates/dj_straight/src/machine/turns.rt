@@ -1,13 +1,13 @@
 ghost use Rattle.std.specs.Prelude.{◌≡◌, ◌≤◌, None, Some, Ok, IsSome, IfOk};
 ghost use Rattle.dj_names.specs.declared.run.Value.TheVariants as values;
-ghost use Rattle.dj_names.specs.Values.{raised_class};
+ghost use Rattle.dj_names.specs.trusted.Values.{raised_class};
 ghost use Rattle.dj_names.specs.declared.run.Costs.{Costs};
 ghost use Rattle.dj_names.specs.declared.run.Charge.TheVariants.{Alloc};
 ghost use Rattle.dj_names.specs.declared.run.Outcome.TheVariants.{Stopped};
-ghost use Rattle.dj_straight.specs.Charges.{paid, Exceeds};
-ghost use Rattle.dj_straight.specs.Step.{result_outcome};
+ghost use Rattle.dj_straight.specs.trusted.Charges.{paid, Exceeds};
+ghost use Rattle.dj_straight.specs.trusted.Step.{result_outcome};
 ghost use Rattle.dj_straight.specs.Methods.{action_view};
-ghost use Rattle.dj_straight.specs.declared.machine.turns.Turns.TheVariants as turns;
+ghost use Rattle.dj_straight.specs.declared.machine.turns.Advance.TheVariants as turns;
 ghost use Rattle.dj_straight.specs.Machines.{machine_view, straight_effect};
 ghost use Rattle.dj_straight.specs.Turns.{straight_amounts, TurnsDo, IsDone, GoesWithin};
 
@@ -21,10 +21,10 @@ use dj_names::{Charge, Costs, Message, Name, Outcome, Raised, Thresholds};
 use dj_rules::RulesError;
 use std::alloc::Global;
 
-/// How a run stands after an instruction.
+/// How a run goes on after an instruction.
 #[derive(Drop)]
-pub enum Turns {
-    /// It goes on, and was charged so much.
+pub enum Advance {
+    /// It goes on, and these are the costs so far.
     Go(Costs),
     End(Ending),
 }
@@ -56,20 +56,20 @@ fn returned(alloc: Global, heap: &Heap, reference: u32) -> Result<Outcome, Rules
     }
 }
 
-fn end(outcome: Outcome, costs: Costs) -> Result<Turns, RulesError>
+fn end(outcome: Outcome, costs: Costs) -> Result<Advance, RulesError>
     ensures { result ≡ Ok (turns.End (record { outcome = outcome; costs = costs })) }
 {
-    Ok(Turns::End(Ending { outcome, costs }))
+    Ok(Advance::End(Ending { outcome, costs }))
 }
 
 impl Machine {
     // The instruction is done, after its charges were added.
-    fn done(&mut self, alloc: Global, action: Action, costs: Costs) -> Result<Turns, RulesError>
+    fn done(&mut self, alloc: Global, action: Action, costs: Costs) -> Result<Advance, RulesError>
         requires { IsSome (straight_effect (action_view action) (machine_view self.old)) }
         ensures { IfOk result (IsDone costs (action_view action) (machine_view self.old) (machine_view self.new)) }
     {
         match self.act(alloc, action)? {
-            Progress::Next => Ok(Turns::Go(costs)),
+            Progress::Next => Ok(Advance::Go(costs)),
             Progress::Raises(raised) => {
                 let class = Name::from_slice(alloc, raised_text(raised))?;
                 end(Outcome::Threw(class, Message::Null), costs)
@@ -87,7 +87,7 @@ impl Machine {
         action: Action,
         costs: Costs,
         most: &Thresholds,
-    ) -> Result<Turns, RulesError>
+    ) -> Result<Advance, RulesError>
         requires sound { IsSome (straight_effect (action_view action) (machine_view self.old)) }
         requires costs { costs.alloc ≤ 1073741824 }
         ensures turns { IfOk result (TurnsDo most.now costs (action_view action) (machine_view self.old) (machine_view self.new)) }

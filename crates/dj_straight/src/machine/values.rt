@@ -1,7 +1,7 @@
 ghost use Rattle.std.specs.Prelude.{◌≡◌, ◌+◌, ◌-◌, ◌<◌, length, Ok};
 ghost use Rattle.std.specs.Int.{w8, int_wrap};
-ghost use Rattle.dj_names.specs.Values.{value_kind};
-ghost use Rattle.dj_straight.specs.Effects.{compute, is_of_kind as model_is_of_kind, slots_of, stored, without_long_before, set_local};
+ghost use Rattle.dj_names.specs.trusted.Values.{value_kind};
+ghost use Rattle.dj_straight.specs.trusted.Effects.{compute, is_of_kind as model_is_of_kind, slots_of, stored, without_long_before, set_local};
 ghost use Rattle.dj_straight.specs.Methods.{operation_view};
 
 use crate::program::IntOperation;

@@ -1,11 +1,11 @@
 ghost use Rattle.std.specs.Prelude.{◌≡◌, ◌↔◌, ◌<◌, ◌^◌, [], length, map, codes, IsTrue, IfOk};
 ghost use Rattle.std.specs.List.{AllByRecursion};
-ghost use Rattle.dj_class.specs.ClassFile.{IsAttribute};
+ghost use Rattle.dj_class.specs.trusted.ClassFile.{IsAttribute};
 ghost use Rattle.dj_class.specs.Parts.{attribute_of};
 ghost use Rattle.dj_class.specs.CodeViews.{code_of};
-ghost use Rattle.dj_straight.specs.Instructions.{instruction_of};
+ghost use Rattle.dj_straight.specs.trusted.Instructions.{instruction_of};
 ghost use Rattle.dj_straight.specs.Methods.{action_view};
-ghost use Rattle.dj_straight.specs.Straight.{is_named, bodies_of, IsStraightCode, IsStraightBody, HasStraightCode};
+ghost use Rattle.dj_straight.specs.trusted.Straight.{is_named, bodies_of, IsStraightCode, IsStraightBody, HasStraightCode};
 ghost use Rattle.dj_straight.specs.Finds.{Finds, found_code};
 
 use crate::cut::read_instrs;
@@ -87,14 +87,13 @@ fn straight_code(
     if !is_plain(alloc, pool, code)? {
         return Ok(None);
     }
-    match read_instrs(alloc, code.code) {
-        Ok(Some(instrs)) => Ok(Some(StraightCode {
+    match read_instrs(alloc, code.code).or(Err(RulesError::Memory))? {
+        Some(instrs) => Ok(Some(StraightCode {
             max_stack: code.max_stack,
             max_locals: code.max_locals,
             actions: actions_of(alloc, instrs.as_slice())?,
         })),
-        Ok(None) => Ok(None),
-        Err(_) => Err(RulesError::Memory),
+        None => Ok(None),
     }
 }
 

@@ -1,13 +1,15 @@
 ghost use Rattle.std.specs.Prelude.{◌≡◌, ◌↔◌, map, Some, IsTrue, IfOk};
 ghost use Rattle.std.specs.Int.{IsBitSet};
 ghost use Rattle.std.specs.List.{AllByRecursion};
-ghost use Rattle.dj_edge.specs.Counts.{AllDiffer};
-ghost use Rattle.dj_pool.specs.Pool.{text_at};
-ghost use Rattle.dj_class.specs.Access as access;
-ghost use Rattle.dj_class.specs.ClassFile.{IsAttribute, IsMethod};
+ghost use Rattle.dj_edge.specs.trusted.Counts.{AllDiffer};
+ghost use Rattle.dj_pool.specs.trusted.Pool.{text_at};
+ghost use Rattle.dj_class.specs.trusted.Access as access;
+ghost use Rattle.dj_class.specs.trusted.ClassFile.{IsAttribute, IsMethod};
 ghost use Rattle.dj_class.specs.Members.{member_of};
-ghost use Rattle.dj_straight.specs.Methods.{straight_descriptor, method_view};
-ghost use Rattle.dj_straight.specs.Straight.{IsPlainMethod, ArePlainNames, IsStraightMethod, AreStraightMethods, AreDistinctMethods};
+ghost use Rattle.dj_straight.specs.trusted.Methods.{straight_descriptor};
+ghost use Rattle.dj_straight.specs.Methods.{method_view};
+ghost use Rattle.dj_straight.specs.trusted.Straight.{IsPlainMethod, IsStraightMethod, AreStraightMethods, AreDistinctMethods};
+ghost use Rattle.dj_straight.specs.Straight.{ArePlainNames};
 ghost use Rattle.dj_straight.specs.Finds.{Finds, methods_view, names_view, now_of};
 
 use crate::program::{DESCRIPTOR, StraightMethod};
@@ -36,7 +38,7 @@ fn is_straight_descriptor(pool: &Pool<'_>, desc: u16) -> bool
     }
 }
 
-// The name of a method that is straight but for its code.
+// The name of a method that is straight as far as its code isn't looked at.
 fn plain_name<'a>(pool: &Pool<'a>, method: &MemberView<'_>) -> Option<&'a [u8]>
     ensures { Finds (λ name. name.now) (IsPlainMethod pool.now (member_of method.now)) result }
 {
@@ -98,7 +100,7 @@ fn straight_methods(
     Ok(Some(found))
 }
 
-// The names of the methods, where all are straight but for their code.
+// The names of the methods, where all are straight as far as their code isn't looked at.
 fn plain_names<'a>(
     alloc: Global,
     pool: &Pool<'a>,
@@ -129,7 +131,7 @@ fn names_differ(alloc: Global, names: &[&[u8]]) -> Result<bool, RulesError>
     Ok(true)
 }
 
-/// The straight methods that the methods of a file are, of which no two have one name. Nothing of a method is copied before its name is
+/// The straight methods that the methods of a file are, no two of which have the same name. Nothing of a method is copied before its name is
 /// known to be its own.
 pub fn distinct_methods(
     alloc: Global,

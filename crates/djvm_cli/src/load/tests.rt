@@ -8,7 +8,7 @@ use dj_words::FolderCommand;
 use std::alloc::Global;
 use std::test::Fail;
 
-// A store that only keeps the limits that it is asked with.
+// A store that only keeps the limits of its calls.
 #[derive(Drop)]
 struct Limits(Vec<u64>);
 
@@ -42,7 +42,7 @@ const VERIFY: FolderCommand<'static> = FolderCommand::Verify {
     },
 };
 
-// One path more than a job may have, the most bytes of an input, of a class file and of a text.
+// The limits of the calls are one path more than a job may have, and the most bytes of an input, of a class file and of a text.
 #[test]
 fn limits_asked(rt: HostRuntime) -> Result<(), Fail> {
     let alloc = rt.alloc();

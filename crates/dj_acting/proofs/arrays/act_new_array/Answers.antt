@@ -1,7 +1,7 @@
 use Rattle.std.proofs.Common.{Some, refl, subst}
 use Rattle.dj_types.specs.Typed.{types_of}
 use Rattle.dj_image.specs.Imaged.{typed_of}
-use Rattle.dj_model.specs.Arrays.{make_array}
+use Rattle.dj_model.specs.trusted.Arrays.{make_array}
 use Rattle.dj_initialising.specs.Store.{store}
 use Rattle.dj_effects.specs.DoesOnHeap.{DoesOnHeap}
 use Rattle.dj_acting.specs.Acting.{machine}

@@ -1,7 +1,7 @@
 use Rattle.std.proofs.Common.{◌≡◌, sym, ap, subst, ◌∙◌}
 use Rattle.std.proofs.lemmas.Option.{same_Some}
-use Rattle.dj_model.specs.Instructions.{Instruction}
-use Rattle.dj_model.specs.Opcodes.{instruction_of}
+use Rattle.dj_model.specs.trusted.Instructions.{Instruction}
+use Rattle.dj_model.specs.trusted.Opcodes.{instruction_of}
 use Rattle.dj_initialising.specs.Store.{store}
 use Rattle.dj_acting.specs.Acting.{machine}
 use Rattle.dj_acting.specs.Frugal.{IsFrugal, makes}

@@ -1,5 +1,5 @@
 use Rattle.std.proofs.Common.{ap, refl, subst}
-use Rattle.dj_model.specs.Instructions.{Instruction}
+use Rattle.dj_model.specs.trusted.Instructions.{Instruction}
 use Rattle.dj_names.specs.declared.run.Value.TheVariants as values
 use Rattle.dj_initialising.specs.Store.{store}
 use Rattle.dj_acting.specs.Numbers.{literal_value}

@@ -1,7 +1,7 @@
 use Rattle.std.proofs.Common.{sym, subst, refl, ◌∙◌}
 use Rattle.dj_initialising.specs.Store.{store}
 use Rattle.std.specs.Prelude.{IfOk}
-use Rattle.dj_model.specs.Instructions.{Instruction}
+use Rattle.dj_model.specs.trusted.Instructions.{Instruction}
 use Rattle.dj_acting.specs.Acting.{ActsOnHeap, machine}
 use Rattle.dj_acting.specs.Frugal.{FrugalOnHeap}
 use Rattle.dj_acting.proofs.Frugal.{makes_nothing}

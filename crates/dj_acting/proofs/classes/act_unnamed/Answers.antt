@@ -1,6 +1,6 @@
 use Rattle.std.proofs.Common.{sym, subst}
 use Rattle.std.specs.Prelude.{IfOk}
-use Rattle.dj_model.specs.Instructions.{Instruction}
+use Rattle.dj_model.specs.trusted.Instructions.{Instruction}
 use Rattle.dj_acting.specs.Acting.{ActsOnHeap}
 use Rattle.dj_acting.specs.Frugal.{FrugalOnHeap}
 use Rattle.dj_acting.proofs.UsedFacts.{made_by_action, other_on_heap}

@@ -1,5 +1,5 @@
 use Rattle.std.proofs.Common.{Some, None, sym, subst}
-use Rattle.dj_model.specs.Instructions.{PutField}
+use Rattle.dj_model.specs.trusted.Instructions.{PutField}
 use Rattle.dj_types.specs.Typed.{types_of}
 use Rattle.dj_image.specs.Imaged.{typed_of}
 use Rattle.dj_initialising.specs.Store.{store}

@@ -1,5 +1,5 @@
 use Rattle.std.proofs.Common.{sym, subst, arith}
-use Rattle.dj_model.specs.Instructions.{Push}
+use Rattle.dj_model.specs.trusted.Instructions.{Push}
 use Rattle.dj_acting.specs.Acting.{Acts, machine}
 use Rattle.dj_initialising.specs.Store.{store}
 use Rattle.dj_acting.proofs.Frugal.{push_room}

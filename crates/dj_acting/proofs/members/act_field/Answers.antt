@@ -1,6 +1,6 @@
 use Rattle.std.proofs.Common.{sym, subst, ◌∙◌}
 use Rattle.std.specs.Prelude.{IfOk}
-use Rattle.dj_model.specs.Instructions.{Instruction}
+use Rattle.dj_model.specs.trusted.Instructions.{Instruction}
 use Rattle.dj_acting.specs.Frugal.{FrugalOnFields}
 use Rattle.dj_acting.specs.Used.{ActsOnFields}
 use Rattle.dj_acting.proofs.UsedFacts.{get_static_found, put_static_found, is_get_static, is_put_static, is_get, is_put, is_neither, other_on_heap}

@@ -1,5 +1,5 @@
 use Rattle.std.proofs.Common.{sym, ap, subst, ◌∙◌, arith}
-use Rattle.dj_model.specs.Instructions.{Instruction}
+use Rattle.dj_model.specs.trusted.Instructions.{Instruction}
 use Rattle.dj_effects.specs.Actions.{action_view}
 use Rattle.dj_types.specs.Typed.{types_of}
 use Rattle.dj_image.specs.Imaged.{typed_of}

@@ -1,4 +1,4 @@
-use Rattle.dj_model.specs.Instructions as model
+use Rattle.dj_model.specs.trusted.Instructions as model
 use Rattle.dj_effects.specs.Actions.{access_view}
 use Rattle.dj_acting.proofs.BegunLaws.{begun_by, left_number, left_some}
 use Rattle.dj_acting.proofs.unnamed.begin_load.Goals as goal

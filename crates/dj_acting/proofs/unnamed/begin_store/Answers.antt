@@ -1,4 +1,4 @@
-use Rattle.dj_model.specs.Instructions as model
+use Rattle.dj_model.specs.trusted.Instructions as model
 use Rattle.dj_effects.specs.Actions.{access_view}
 use Rattle.dj_types.specs.Typed.{types_of}
 use Rattle.dj_image.specs.Imaged.{typed_of}

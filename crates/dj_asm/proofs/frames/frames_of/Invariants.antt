@@ -1,8 +1,8 @@
 use Rattle.std.proofs.Common.{◌≡◌, ◌≤◌, ◌++◌, drop, map}
 use Rattle.dj_source.specs.LineViews.{line_view}
 use Rattle.dj_entries.specs.Pooling.{found_index}
-use Rattle.dj_asm.specs.Codes.{frames_in}
-use Rattle.dj_asm.specs.Files.{places_of}
+use Rattle.dj_asm.specs.trusted.Codes.{frames_in}
+use Rattle.dj_asm.specs.trusted.Files.{places_of}
 use Rattle.dj_asm.proofs.frames.frames_of.Given as goal
 
 -- the frames so far, and those of the lines that are left

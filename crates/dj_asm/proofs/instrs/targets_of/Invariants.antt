@@ -1,6 +1,6 @@
 use Rattle.std.proofs.Common.{◌≡◌, pos, map, take}
-use Rattle.dj_source.specs.Lines.{Label}
-use Rattle.dj_source.specs.Labels.{label_number}
+use Rattle.dj_source.specs.trusted.Lines.{Label}
+use Rattle.dj_source.specs.trusted.Labels.{label_number}
 use Rattle.dj_tokens.specs.Views.{units_of}
 use Rattle.dj_asm.proofs.instrs.targets_of.Given as goal
 

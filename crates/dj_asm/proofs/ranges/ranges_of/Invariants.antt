@@ -2,8 +2,8 @@ use Rattle.std.proofs.Common.{◌≡◌, map, take}
 use Rattle.std.specs.List.{flat_map}
 use Rattle.dj_source.specs.LineViews.{line_view}
 use Rattle.dj_entries.specs.Pooling.{found_index}
-use Rattle.dj_asm.specs.Codes.{ranges_in}
-use Rattle.dj_asm.specs.Files.{places_of}
+use Rattle.dj_asm.specs.trusted.Codes.{ranges_in}
+use Rattle.dj_asm.specs.trusted.Files.{places_of}
 use Rattle.dj_asm.proofs.ranges.ranges_of.Given as goal
 
 abbrev pub invariant-loop-line : goal.invariant-loop-line

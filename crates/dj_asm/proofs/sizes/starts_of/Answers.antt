@@ -1,7 +1,7 @@
 use Rattle.std.proofs.Common.{rules, ℕ, ◌≡◌, ◌+◌, List, [], ◌∷◌, ◌++◌, sym, map, subst}
 use Rattle.dj_source.specs.LineViews.{line_view}
 use Rattle.dj_source.specs.OperationViews.{operation_view}
-use Rattle.dj_asm.specs.Codes.{operation_in}
+use Rattle.dj_asm.specs.trusted.Codes.{operation_in}
 use Rattle.dj_asm.specs.Judging.{AreSoFar, size_at}
 use Rattle.dj_asm.proofs.JudgedCode.{one_further, none_further}
 use Rattle.dj_asm.proofs.sizes.starts_of.Goals.{in-Some+in_ok-next+in_ok-push, in_default}

@@ -1,5 +1,5 @@
 use Rattle.std.proofs.Common.{ap, sym}
-use Rattle.dj_model.specs.Linking.{is_subtype, is_subclass, chain_of, interfaces_from, interfaces_above, most_classes}
+use Rattle.dj_model.specs.trusted.Linking.{is_subtype, is_subclass, chain_of, interfaces_from, interfaces_above, most_classes}
 use Rattle.dj_call_tests.specs.Few.{few_below}
 use Rattle.dj_call_tests.proofs.few.below.Goals as goal
 

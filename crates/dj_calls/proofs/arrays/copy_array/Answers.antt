@@ -1,6 +1,6 @@
 use Rattle.std.proofs.Common.{refl}
 use Rattle.dj_names.specs.declared.native.NativeId.TheVariants as natives
-use Rattle.dj_model.specs.Natives.{answer, reference, number}
+use Rattle.dj_model.specs.trusted.Natives.{answer, reference, number}
 use Rattle.dj_calls.specs.Calls.{seen_of}
 use Rattle.dj_calls.specs.Copies.{copy_answer}
 use Rattle.dj_calls.proofs.Counted.{acts_done}

@@ -6,9 +6,9 @@ use Rattle.std.proofs.lemmas.Int.{to_z-of_z}
 use Rattle.dj_names.specs.declared.native.NativeId.{NativeId}
 use Rattle.dj_names.specs.declared.native.NativeId.TheVariants as natives
 use Rattle.dj_names.specs.declared.run.Value.TheVariants as values
-use Rattle.dj_names.specs.Types.{same_name}
+use Rattle.dj_names.specs.trusted.Types.{same_name}
 use Rattle.dj_heap.specs.Heaps.{object_in}
-use Rattle.dj_model.specs.Natives.{answer, reference, number, unit, flag, gives_int, gives_truth, gives_reference, unit_at, hash_onto, compared_text, unless_null, joined_text, part_between, MakesText, MakesChars, KeepsText, SetsFields, elements_units, signed_decimal, truth_text, text_or_null}
+use Rattle.dj_model.specs.trusted.Natives.{answer, reference, number, unit, flag, gives_int, gives_truth, gives_reference, unit_at, hash_onto, compared_text, unless_null, joined_text, part_between, MakesText, MakesChars, KeepsText, SetsFields, elements_units, signed_decimal, truth_text, text_or_null}
 use Rattle.dj_calls.specs.Answers.{answer_view}
 use Rattle.dj_calls.specs.Calls.{seen_of}
 use Rattle.dj_calls.specs.Known.{IsFitting, IsOfChars}

@@ -1,5 +1,5 @@
 use Rattle.std.proofs.Common.{◌≡◌, ◌++◌, length, ap, sym, ◌∙◌}
-use Rattle.dj_model.specs.Natives as model
+use Rattle.dj_model.specs.trusted.Natives as model
 use Rattle.dj_calls.specs.Answers.{answer_view}
 use Rattle.dj_calls.specs.Seen.{units_at}
 use Rattle.dj_calls.proofs.Told.{told_as, told_by, joined_made}

@@ -1,6 +1,6 @@
 use Rattle.std.proofs.Common.{pos, arith}
 use Rattle.std.specs.Prelude.{slice_range}
-use Rattle.dj_model.specs.Natives as model
+use Rattle.dj_model.specs.trusted.Natives as model
 use Rattle.dj_calls.specs.Answers.{answer_view}
 use Rattle.dj_calls.specs.Seen.{units_at}
 use Rattle.dj_calls.proofs.Told.{told_as, told_by, part_made}

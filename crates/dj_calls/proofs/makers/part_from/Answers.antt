@@ -1,6 +1,6 @@
 use Rattle.std.proofs.Common.{◌≡◌, ℕ, ℤ, pos, Some, None, length, IfSome, sym, subst, ◌∙◌, w64, FitsSigned, to_z, of_z, rules}
 use Rattle.std.proofs.lemmas.Int.{to_z-of_z}
-use Rattle.dj_model.specs.Natives as model
+use Rattle.dj_model.specs.trusted.Natives as model
 use Rattle.dj_calls.specs.Answers.{answer_view}
 use Rattle.dj_calls.specs.Seen.{units_at, place_within}
 use Rattle.dj_calls.proofs.Told.{place_found, no_from, no_to}

@@ -1,5 +1,5 @@
 use Rattle.std.proofs.Common.{◌≡◌, ◌++◌, take}
-use Rattle.dj_model.specs.Natives as model
+use Rattle.dj_model.specs.trusted.Natives as model
 use Rattle.dj_calls.specs.Seen.{elements_at}
 use Rattle.dj_calls.proofs.makers.put_chars.Given as goal
 

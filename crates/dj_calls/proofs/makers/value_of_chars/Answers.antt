@@ -1,4 +1,4 @@
-use Rattle.dj_model.specs.Natives as model
+use Rattle.dj_model.specs.trusted.Natives as model
 use Rattle.dj_calls.specs.Answers.{answer_view}
 use Rattle.dj_calls.specs.Seen.{elements_at}
 use Rattle.dj_calls.proofs.Told.{told_as, told_by, not_null_made}

@@ -1,6 +1,6 @@
 use Rattle.std.proofs.Common.{◌≡◌, ℕ, true, false, sym, subst, ◌∙◌}
-use Rattle.dj_model.specs.Types.{is_stop}
-use Rattle.dj_model.specs.Performing.{class_at_number}
+use Rattle.dj_model.specs.trusted.Types.{is_stop}
+use Rattle.dj_model.specs.trusted.Performing.{class_at_number}
 use Rattle.dj_calls.specs.Calls.{typed_heap}
 use Rattle.dj_calls.proofs.Catching.{catches, passes_by}
 use Rattle.dj_calls.proofs.objects.check_catch.Goals as goal

@@ -1,6 +1,6 @@
 use Rattle.std.proofs.Common.{subst}
 use Rattle.dj_names.specs.declared.run.Value.TheVariants as values
-use Rattle.dj_model.specs.Natives as model
+use Rattle.dj_model.specs.trusted.Natives as model
 use Rattle.dj_calls.specs.declared.answer.NativeAnswer.TheVariants as told
 use Rattle.dj_calls.specs.Calls.{Done}
 use Rattle.dj_calls.proofs.Performed.{kept_made, kept_refused}

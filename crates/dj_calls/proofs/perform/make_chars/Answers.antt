@@ -1,5 +1,5 @@
 use Rattle.std.proofs.Common.{subst}
-use Rattle.dj_model.specs.Natives as model
+use Rattle.dj_model.specs.trusted.Natives as model
 use Rattle.dj_calls.specs.Calls.{Done}
 use Rattle.dj_calls.proofs.perform.make_chars.Goals as goal
 

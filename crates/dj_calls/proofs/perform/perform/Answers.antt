@@ -1,5 +1,5 @@
 use Rattle.std.proofs.Common.{subst, sym}
-use Rattle.dj_model.specs.Natives as model
+use Rattle.dj_model.specs.trusted.Natives as model
 use Rattle.dj_calls.specs.Calls.{Done}
 use Rattle.dj_calls.proofs.Performed.{returns_done, raises_done, adds_done}
 use Rattle.dj_calls.proofs.perform.perform.Goals as goal

@@ -1,5 +1,5 @@
 use Rattle.std.proofs.Common.{◌≡◌, take, drop}
-use Rattle.dj_names.specs.Types.{same_name}
+use Rattle.dj_names.specs.trusted.Types.{same_name}
 use Rattle.dj_calls.specs.Seen.{units_at}
 use Rattle.dj_calls.proofs.texts.agree.Given as goal
 

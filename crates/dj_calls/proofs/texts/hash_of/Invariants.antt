@@ -1,5 +1,5 @@
 use Rattle.std.proofs.Common.{◌≡◌, ◌%◌, ◌^◌, take}
-use Rattle.dj_model.specs.Natives.{hash_onto}
+use Rattle.dj_model.specs.trusted.Natives.{hash_onto}
 use Rattle.dj_calls.specs.Seen.{units_at}
 use Rattle.dj_calls.proofs.texts.hash_of.Given as goal
 

@@ -1,6 +1,6 @@
 use Rattle.std.proofs.Common.{◌≡◌, map, take}
 use Rattle.dj_class.specs.Parts.{attribute_of}
-use Rattle.dj_check.specs.Attributes.{bodies_of}
+use Rattle.dj_check.specs.trusted.Attributes.{bodies_of}
 use Rattle.dj_check.proofs.bodies.bodies_named.Given as goal
 
 -- the bodies so far

@@ -1,7 +1,7 @@
 use Rattle.std.proofs.Common.{◌↔◌, ℕ, List, IsTrue, subst}
 use Rattle.dj_class.specs.Views.{class_of}
 use Rattle.dj_report.proofs.Adding.{on_ok}
-use Rattle.dj_check.specs.Classes.{IsReserved}
+use Rattle.dj_check.specs.trusted.Classes.{IsReserved}
 use Rattle.dj_check.proofs.FileLaws.{naming_lines}
 use Rattle.dj_check.proofs.classes.add_naming_lines.Goals as goal
 

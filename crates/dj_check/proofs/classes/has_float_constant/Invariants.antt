@@ -1,6 +1,6 @@
 use Rattle.std.proofs.Common.{take}
 use Rattle.dj_pool.specs.Views.{constant_of}
-use Rattle.dj_check.specs.Members.{IsFloatConstant}
+use Rattle.dj_check.specs.trusted.Members.{IsFloatConstant}
 use Rattle.dj_check.proofs.Anys.{IsAny}
 use Rattle.dj_check.proofs.classes.has_float_constant.Given as goal
 

@@ -3,7 +3,7 @@ use Rattle.dj_edge.proofs.Lists.{ok_so}
 use Rattle.dj_class.specs.Members.{member_of}
 use Rattle.dj_report.proofs.Adding.{not_both}
 use Rattle.dj_check.specs.declared.code.MethodCode.{MethodCode}
-use Rattle.dj_check.specs.Attributes.{bodies_of, codes_of}
+use Rattle.dj_check.specs.trusted.Attributes.{bodies_of, codes_of}
 use Rattle.dj_check.specs.Passes.{IsBodilessView, IsOwnView, IsMethodView}
 use Rattle.dj_check.proofs.NamedBodies.{now_of, each_short}
 use Rattle.dj_check.proofs.Codes.{bodiless_view, own_view}

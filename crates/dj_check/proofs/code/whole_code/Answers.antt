@@ -1,6 +1,6 @@
 use Rattle.std.proofs.Common.{map, ap, ◌∙◌, codes, arith}
 use Rattle.dj_class.specs.CodeViews.{code_of}
-use Rattle.dj_check.specs.Attributes.{bodies_of}
+use Rattle.dj_check.specs.trusted.Attributes.{bodies_of}
 use Rattle.dj_check.proofs.NamedBodies.{now_of, no_bytes, each_map_short}
 use Rattle.dj_check.proofs.code.whole_code.Goals as goal
 

@@ -1,6 +1,6 @@
 use Rattle.std.proofs.Common.{take}
 use Rattle.dj_class.specs.Members.{member_of}
-use Rattle.dj_check.specs.Malformed.{IsFaultyField}
+use Rattle.dj_check.specs.trusted.Malformed.{IsFaultyField}
 use Rattle.dj_check.proofs.Anys.{IsAny}
 use Rattle.dj_check.proofs.fields.has_faulty_field.Given as goal
 

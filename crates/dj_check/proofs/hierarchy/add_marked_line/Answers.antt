@@ -1,5 +1,5 @@
 use Rattle.std.proofs.Common.{◌≡◌, ◌⊎◌, IsTrue}
-use Rattle.dj_report.specs.Lines.{file_line}
+use Rattle.dj_report.specs.trusted.Lines.{file_line}
 use Rattle.dj_report.proofs.Adding.{on_ok, adds_same}
 use Rattle.dj_check.proofs.hierarchy.add_marked_line.Goals as goal
 

@@ -1,5 +1,5 @@
 use Rattle.std.proofs.Common.{take}
-use Rattle.dj_check.specs.Floats.{HasFloating}
+use Rattle.dj_check.specs.trusted.Floats.{HasFloating}
 use Rattle.dj_check.proofs.judged.has_floating.Given as goal
 
 -- none so far

@@ -1,5 +1,5 @@
 use Rattle.std.proofs.lemmas.Result.{IfOk-weaker}
-use Rattle.dj_pool.specs.Pool.{text_at}
+use Rattle.dj_pool.specs.trusted.Pool.{text_at}
 use Rattle.dj_check.proofs.Noted.{copied_some, judged_some}
 use Rattle.dj_check.proofs.judged.judge_index.Goals as goal
 

@@ -1,7 +1,7 @@
 use Rattle.std.proofs.Common.{◌≡◌, ◌∙◌, List, Bool, length, map, sym, ap, subst, arith, Contains}
 use Rattle.std.proofs.lemmas.List.{length-map}
 use Rattle.dj_pool.specs.Views.{constant_of}
-use Rattle.dj_class.specs.ClassFile.{MemberInfo}
+use Rattle.dj_class.specs.trusted.ClassFile.{MemberInfo}
 use Rattle.dj_class.specs.Views.{class_of}
 use Rattle.dj_check.specs.Judged.{StayMarked, AreNamesMarked, AreMembersMarked}
 use Rattle.dj_check.proofs.MarkedNames.{written, members_marked}

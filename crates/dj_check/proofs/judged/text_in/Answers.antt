@@ -1,8 +1,8 @@
 use Rattle.std.proofs.Common.{length, refl, sym, ap, arith}
 use Rattle.std.proofs.lemmas.Option.{slice_get_read, slice_get_past}
-use Rattle.dj_pool.specs.Pool.{text_at}
-use Rattle.dj_check.specs.Floats.{HasFloat}
-use Rattle.dj_check.specs.Classes.{IsReflectiveText}
+use Rattle.dj_pool.specs.trusted.Pool.{text_at}
+use Rattle.dj_check.specs.trusted.Floats.{HasFloat}
+use Rattle.dj_check.specs.trusted.Classes.{IsReflectiveText}
 use Rattle.dj_check.specs.Judged.{first_of}
 use Rattle.dj_check.proofs.Judging.{past_texts, not_told}
 use Rattle.dj_check.proofs.judged.text_in.Goals as goal

@@ -1,6 +1,6 @@
 use Rattle.std.proofs.Common.{◌≡◌}
 use Rattle.std.specs.Prelude.{IsTrue}
-use Rattle.dj_report.specs.Lines.{file_line}
+use Rattle.dj_report.specs.trusted.Lines.{file_line}
 use Rattle.dj_report.proofs.Adding.{adds_when}
 use Rattle.dj_check.proofs.lines.add_file_line_if.Goals as goal
 

@@ -1,8 +1,8 @@
 use Rattle.std.proofs.Common.{◌≡◌, List, sym, ap, ◌∙◌, subst, ◌++◌, IsTrue, ◌↔◌}
 use Rattle.dj_ops.specs.declared.frames.VType.{VType}
-use Rattle.dj_frames.specs.StackMaps.{types_of}
+use Rattle.dj_frames.specs.trusted.StackMaps.{types_of}
 use Rattle.dj_report.proofs.Adding.{not_both}
-use Rattle.dj_check.specs.Code.{HaveFloats}
+use Rattle.dj_check.specs.trusted.Code.{HaveFloats}
 use Rattle.dj_check.proofs.MapLaws.{floats_of_both}
 use Rattle.dj_check.proofs.maps.has_float_type.Goals as goal
 

@@ -1,6 +1,6 @@
 use Rattle.std.proofs.Common.{subst, sym}
 use Rattle.dj_report.proofs.Adding.{not_both}
-use Rattle.dj_check.specs.Code.{HasFloatType}
+use Rattle.dj_check.specs.trusted.Code.{HasFloatType}
 use Rattle.dj_check.proofs.Anys.{none_more, none_at_all}
 use Rattle.dj_check.proofs.maps.have_float_type.Goals as goal
 

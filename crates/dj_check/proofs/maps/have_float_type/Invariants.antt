@@ -1,5 +1,5 @@
 use Rattle.std.proofs.Common.{take}
-use Rattle.dj_check.specs.Code.{HaveFloatType}
+use Rattle.dj_check.specs.trusted.Code.{HaveFloatType}
 use Rattle.dj_check.proofs.maps.have_float_type.Given as goal
 
 -- none so far

@@ -1,5 +1,5 @@
 use Rattle.std.proofs.Common.{take}
-use Rattle.dj_check.specs.Code.{HaveFloats}
+use Rattle.dj_check.specs.trusted.Code.{HaveFloats}
 use Rattle.dj_check.proofs.maps.have_floats.Given as goal
 
 -- none so far

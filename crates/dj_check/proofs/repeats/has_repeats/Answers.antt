@@ -1,11 +1,11 @@
 use Rattle.std.proofs.Common.{Bool, ◌↔◌, ◌⊎◌, List, map, IsTrue, inl, inr, subst}
 use Rattle.dj_edge.proofs.Lists.{ok_so}
-use Rattle.dj_names.specs.Names.{IsUnqualifiedName, IsMethodName}
-use Rattle.dj_names.specs.Descriptors.{IsFieldDescriptor, IsMethodDescriptor}
-use Rattle.dj_class.specs.ClassFile.{MemberInfo}
+use Rattle.dj_names.specs.trusted.Names.{IsUnqualifiedName, IsMethodName}
+use Rattle.dj_names.specs.trusted.Descriptors.{IsFieldDescriptor, IsMethodDescriptor}
+use Rattle.dj_class.specs.trusted.ClassFile.{MemberInfo}
 use Rattle.dj_class.specs.Members.{member_of}
 use Rattle.dj_class.specs.Views.{class_of}
-use Rattle.dj_check.specs.Heads.{AreRepeated}
+use Rattle.dj_check.specs.trusted.Heads.{AreRepeated}
 use Rattle.dj_check.specs.Gathered.{names_of, HasAgain}
 use Rattle.dj_check.proofs.RepeatLaws.{again_repeated, first_repeats, other_repeats}
 use Rattle.dj_check.proofs.repeats.has_repeats.Goals as goal

@@ -1,7 +1,7 @@
 use Rattle.std.proofs.Common.{◌≡◌, ◌<◌}
 use Rattle.std.specs.declared.cmp.Ordering.TheVariants.{Less}
 use Rattle.std.specs.List.{AllAdjacentBelow}
-use Rattle.dj_classes.specs.Rows.{class_cmp}
+use Rattle.dj_classes.specs.ClassRows.{class_cmp}
 use Rattle.dj_classes.proofs.rows.first_shared.Given as goal
 
 -- each row so far is below the next

@@ -1,5 +1,5 @@
 use Rattle.std.proofs.Common.{◌≡◌, take}
-use Rattle.dj_classes.specs.Rows.{numbers_at}
+use Rattle.dj_classes.specs.ClassRows.{numbers_at}
 use Rattle.dj_classes.proofs.rows.numbers_at.Given as goal
 
 -- the numbers so far

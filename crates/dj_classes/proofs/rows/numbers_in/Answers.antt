@@ -1,5 +1,5 @@
 use Rattle.std.proofs.Common.{List, ℕ, ◌≡◌, IfOk, Option, ap, ◌∙◌, subst}
-use Rattle.dj_classes.specs.Rows.{numbers_at}
+use Rattle.dj_classes.specs.ClassRows.{numbers_at}
 use Rattle.dj_classes.proofs.Listed.{numbers_listed}
 use Rattle.dj_classes.proofs.rows.numbers_in.Goals as goal
 

@@ -1,7 +1,7 @@
 use Rattle.std.proofs.Common.{rules}
 use Rattle.std.specs.Ordering.{is_lt}
 use Rattle.std.proofs.lemmas.List.Sorted.{answers_always}
-use Rattle.dj_classes.specs.Rows.{class_cmp}
+use Rattle.dj_classes.specs.ClassRows.{class_cmp}
 use Rattle.dj_classes.proofs.Orders.{class_order}
 use Rattle.dj_classes.proofs.rows.put_in_order.Goals as goal
 

@@ -1,5 +1,5 @@
 use Rattle.std.proofs.Common.{◌≡◌, map, take}
-use Rattle.dj_classes.specs.Rows.{super_in}
+use Rattle.dj_classes.specs.ClassRows.{super_in}
 use Rattle.dj_classes.proofs.rows.supers_in.Given as goal
 
 abbrev pub invariant-loop-row : goal.invariant-loop-row

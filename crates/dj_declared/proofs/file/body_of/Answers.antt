@@ -1,5 +1,5 @@
 use Rattle.std.proofs.Common.{true, false, refl, sym, ◌∙◌}
-use Rattle.dj_model.specs.Program.{has_flag}
+use Rattle.dj_model.specs.trusted.Program.{has_flag}
 use Rattle.dj_declared.proofs.FileLaws.{flag_told, kept_by}
 use Rattle.dj_declared.proofs.file.body_of.Goals as goal
 

@@ -1,4 +1,4 @@
-use Rattle.dj_declared.specs.Rows.{field_row_of}
+use Rattle.dj_declared.specs.MemberRows.{field_row_of}
 use Rattle.dj_declared.proofs.FileLaws.{rows_more, named_more}
 use Rattle.dj_declared.proofs.file.field_rows.Goals as goal
 

@@ -1,5 +1,5 @@
 use Rattle.std.proofs.Common.{List, ℕ, sym, subst}
-use Rattle.dj_declared.specs.Rows.{AreNumbered}
+use Rattle.dj_declared.specs.MemberRows.{AreNumbered}
 use Rattle.dj_declared.proofs.file.file_texts.Goals as goal
 
 pub returns : goal.returns

@@ -1,6 +1,6 @@
 use Rattle.std.proofs.Common.{◌≡◌, map, take}
 use Rattle.dj_class.specs.Members.{member_of}
-use Rattle.dj_declared.specs.Rows.{method_row_of, AreNamed}
+use Rattle.dj_declared.specs.MemberRows.{method_row_of, AreNamed}
 use Rattle.dj_declared.proofs.file.method_rows.Given as goal
 
 -- the rows so far

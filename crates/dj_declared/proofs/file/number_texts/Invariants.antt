@@ -1,4 +1,4 @@
-use Rattle.dj_declared.specs.Rows.{AreNumbered}
+use Rattle.dj_declared.specs.MemberRows.{AreNumbered}
 use Rattle.dj_declared.proofs.file.number_texts.Given as goal
 
 -- the numbers so far

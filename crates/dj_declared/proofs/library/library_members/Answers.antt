@@ -1,5 +1,5 @@
 use Rattle.std.proofs.Common.{map, ap, ◌∙◌}
-use Rattle.dj_declared.specs.Rows.{row_method, row_field}
+use Rattle.dj_declared.specs.MemberRows.{row_method, row_field}
 use Rattle.dj_declared.proofs.LibraryLaws.{library_sound}
 use Rattle.dj_declared.proofs.library.library_members.Goals as goal
 

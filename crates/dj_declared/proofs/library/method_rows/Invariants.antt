@@ -1,7 +1,7 @@
 use Rattle.std.proofs.Common.{map, take}
 use Rattle.dj_natives.specs.Views.{library_method_view}
-use Rattle.dj_model.specs.Libraries.{library_method}
-use Rattle.dj_declared.specs.Rows.{AreRowsOf}
+use Rattle.dj_model.specs.trusted.Libraries.{library_method}
+use Rattle.dj_declared.specs.MemberRows.{AreRowsOf}
 use Rattle.dj_declared.proofs.library.method_rows.Given as goal
 
 -- the rows so far

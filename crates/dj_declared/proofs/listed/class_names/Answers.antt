@@ -2,7 +2,7 @@ use Rattle.std.proofs.Common.{List, ℕ, ◌+◌, Vec, Global, get_or, take, ref
 use Rattle.std.specs.Prelude.{slice_get}
 use Rattle.std.specs.Option.{option_map}
 use Rattle.std.proofs.lemmas.List.{take_all}
-use Rattle.dj_pool.specs.Pool.{class_name_at}
+use Rattle.dj_pool.specs.trusted.Pool.{class_name_at}
 use Rattle.dj_declared.specs.Lists.{AreListed}
 use Rattle.dj_declared.proofs.ListLaws.{listed_is, listed_there, listed_by, listed_some, listed_none}
 use Rattle.dj_declared.proofs.listed.class_names.Goals.{in-Some+in_ok-push, in_default}

@@ -1,6 +1,6 @@
 use Rattle.std.proofs.Common.{rules, ltb}
 use Rattle.std.proofs.lemmas.List.Sorted.{IsPartitionPoint-from_clause}
-use Rattle.dj_declared.specs.Rows.{key_at}
+use Rattle.dj_declared.specs.MemberRows.{key_at}
 use Rattle.dj_declared.proofs.RowLaws.{parted}
 use Rattle.dj_declared.proofs.members.first_not_below.Goals as goal
 

@@ -1,7 +1,7 @@
 use Rattle.std.proofs.Common.{◌≡◌, ℕ, ◌*◌, ◌<◌, ltb, true, false, length, get_or, subst, arith}
 use Rattle.std.specs.List.Sorted.{IsPartitionPoint}
 use Rattle.std.proofs.lemmas.List.{get_or_default}
-use Rattle.dj_declared.specs.Rows.{key_at}
+use Rattle.dj_declared.specs.MemberRows.{key_at}
 use Rattle.dj_declared.proofs.RowLaws.{answer_is, none_past}
 use Rattle.dj_declared.proofs.members.first_of.Goals as goal
 

@@ -1,4 +1,4 @@
-use Rattle.dj_declared.specs.Rows.{AreCounted}
+use Rattle.dj_declared.specs.MemberRows.{AreCounted}
 use Rattle.dj_declared.proofs.members.places_below.Given as goal
 
 -- the places so far

@@ -1,5 +1,5 @@
 use Rattle.std.proofs.Common.{ℕ, List, length, map, sym, ap, ◌∙◌, subst}
-use Rattle.dj_directory.specs.Rows.{method_named, field_named, methods_named, fields_named, number_in, AreKnown}
+use Rattle.dj_directory.specs.DirectoryRows.{method_named, field_named, methods_named, fields_named, number_in, AreKnown}
 use Rattle.dj_directory.proofs.GatherLaws.{so_far_kept}
 use Rattle.dj_directory.proofs.gather.add_class.Goals as goal
 

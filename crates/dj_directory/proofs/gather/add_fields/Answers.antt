@@ -1,6 +1,6 @@
 use Rattle.std.proofs.Common.{◌≤◌, length, map, ap, arith}
 use Rattle.std.proofs.lemmas.List.{length-map}
-use Rattle.dj_directory.specs.Rows.{field_named}
+use Rattle.dj_directory.specs.DirectoryRows.{field_named}
 use Rattle.dj_directory.proofs.GatherLaws.{field_at, next_member, class_done}
 use Rattle.dj_directory.proofs.gather.add_fields.Goals as goal
 

@@ -1,5 +1,5 @@
 use Rattle.std.proofs.Common.{◌≡◌, map}
-use Rattle.dj_directory.specs.Rows.{field_named, Numbers, Members, AreKnown, AreSoFar}
+use Rattle.dj_directory.specs.DirectoryRows.{field_named, Numbers, Members, AreKnown, AreSoFar}
 use Rattle.dj_directory.proofs.gather.add_fields.Given as goal
 
 -- the rows so far

@@ -1,6 +1,6 @@
 use Rattle.std.proofs.Common.{rules, ltb}
 use Rattle.std.proofs.lemmas.List.Sorted.{IsPartitionPoint-from_clause}
-use Rattle.dj_directory.specs.Rows.{key_of}
+use Rattle.dj_directory.specs.DirectoryRows.{key_of}
 use Rattle.dj_directory.proofs.RowLaws.{parted}
 use Rattle.dj_directory.proofs.rows.first_not_below.Goals as goal
 

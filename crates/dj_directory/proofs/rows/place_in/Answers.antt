@@ -2,7 +2,7 @@ use Rattle.std.proofs.Common.{◌≡◌, ℕ, ◌<◌, ltb, true, false, length,
 use Rattle.std.specs.List.Sorted.{IsPartitionPoint}
 use Rattle.std.proofs.lemmas.List.{get_or_default}
 use Rattle.dj_directory.specs.declared.rows.MemberRow.{MemberRow}
-use Rattle.dj_directory.specs.Rows.{key_of}
+use Rattle.dj_directory.specs.DirectoryRows.{key_of}
 use Rattle.dj_directory.proofs.RowLaws.{none_past, told_at}
 use Rattle.dj_directory.proofs.rows.place_in.Goals as goal
 

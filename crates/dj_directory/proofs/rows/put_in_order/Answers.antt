@@ -1,6 +1,6 @@
 use Rattle.std.proofs.Common.{rules}
 use Rattle.std.proofs.lemmas.List.Sorted.{IsNonDecreasingBy-from_sort_by_key}
-use Rattle.dj_directory.specs.Rows.{key_of}
+use Rattle.dj_directory.specs.DirectoryRows.{key_of}
 use Rattle.dj_directory.proofs.rows.put_in_order.Goals as goal
 
 pub returns-clause-ascend : goal.returns-clause-ascend

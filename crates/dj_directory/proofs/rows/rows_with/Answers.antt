@@ -1,5 +1,5 @@
 use Rattle.std.proofs.Common.{ℕ, subst, sym, arith}
-use Rattle.dj_directory.specs.Rows.{AreInOrder}
+use Rattle.dj_directory.specs.DirectoryRows.{AreInOrder}
 use Rattle.dj_directory.proofs.RowLaws.{IsPointAt, are_rows_with, in_order_rest}
 use Rattle.dj_directory.proofs.rows.rows_with.Goals as goal
 

@@ -1,6 +1,6 @@
 use Rattle.std.proofs.Common.{◌∙◌, ◌&&◌, ℕ, List, map, filter, take, codes, nat_eq, string_bytes, ap}
 use Rattle.std.specs.List.{starts_with, ends_with}
-use Rattle.dj_edge.specs.Held.{File}
+use Rattle.dj_edge.specs.trusted.Held.{File}
 use Rattle.dj_edge.specs.InMemory.{files_in, class_paths}
 use Rattle.dj_edge.proofs.Lookup.{texts_in_order}
 use Rattle.dj_edge.proofs.stored.listing.Goals as goal

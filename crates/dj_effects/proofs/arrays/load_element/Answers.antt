@@ -1,7 +1,7 @@
 use Rattle.std.proofs.Common.{◌<◌, ℕ, ℤ, List, length, Some, refl, sym, ap, subst, ◌∙◌, w32, w64, SFits, rules}
 use Rattle.std.proofs.lemmas.Int.{to_z-of_z}
 use Rattle.dj_names.specs.declared.run.Value.{Value}
-use Rattle.dj_model.specs.Arrays.{array_at, flows}
+use Rattle.dj_model.specs.trusted.Arrays.{array_at, flows}
 use Rattle.dj_stack.specs.Frames.{top_operands, top_room}
 use Rattle.dj_effects.specs.Actions.{access_view}
 use Rattle.dj_effects.specs.Arrays.{array_told, place_of, value_of}

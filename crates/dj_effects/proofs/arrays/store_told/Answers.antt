@@ -2,8 +2,8 @@ use Rattle.std.proofs.Common.{ℤ, List, ◌∷◌, Some, refl, sym, ap, ◌∙�
 use Rattle.std.proofs.lemmas.Int.{to_z-of_z}
 use Rattle.dj_names.specs.declared.descriptor.Kind.{Kind}
 use Rattle.dj_names.specs.declared.run.Value.{Value}
-use Rattle.dj_model.specs.Numbers.{is_of_kind}
-use Rattle.dj_model.specs.Arrays.{array_at, flows}
+use Rattle.dj_model.specs.trusted.Numbers.{is_of_kind}
+use Rattle.dj_model.specs.trusted.Arrays.{array_at, flows}
 use Rattle.dj_stack.specs.Frames.{top_operands}
 use Rattle.dj_effects.specs.Actions.{access_view}
 use Rattle.dj_effects.specs.Arrays.{array_told, place_of}

@@ -1,7 +1,7 @@
 use Rattle.std.proofs.Common.{◌≡◌, ◌<◌, ℕ, List, ◌∷◌, length, Some, Ok, sym, ap, subst, ◌∙◌}
 use Rattle.dj_names.specs.declared.run.Value.{Value}
 use Rattle.dj_stack.specs.Frames.{top_locals, top_operands, top_room}
-use Rattle.dj_model.specs.Instructions.{Compute}
+use Rattle.dj_model.specs.trusted.Instructions.{Compute}
 use Rattle.dj_effects.specs.Actions.{binary_view}
 use Rattle.dj_effects.specs.Results.{of_two}
 use Rattle.dj_effects.proofs.Frames.{both_same, does_next}

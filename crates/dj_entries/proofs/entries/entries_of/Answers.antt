@@ -1,6 +1,6 @@
 use Rattle.std.proofs.Common.{◌∷◌, ◌++◌, [], map, take, sym, ap, ◌∙◌}
 use Rattle.std.proofs.lemmas.Option.{slice_get-get_or}
-use Rattle.dj_pool.specs.Pool.{indexed}
+use Rattle.dj_pool.specs.trusted.Pool.{indexed}
 use Rattle.dj_pool.specs.Views.{constant_of}
 use Rattle.dj_entries.specs.Pooling.{constants_in}
 use Rattle.dj_entries.proofs.PoolEntries.{entries_more, indexed_nothing}

@@ -1,5 +1,5 @@
 use Rattle.std.proofs.Common.{◌≡◌, take, map}
-use Rattle.dj_pool.specs.Pool.{indexed}
+use Rattle.dj_pool.specs.trusted.Pool.{indexed}
 use Rattle.dj_pool.specs.Views.{constant_of}
 use Rattle.dj_entries.specs.Pooling.{constants_in}
 use Rattle.dj_entries.proofs.entries.entries_of.Given as goal

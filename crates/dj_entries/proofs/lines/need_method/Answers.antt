@@ -1,6 +1,6 @@
 use Rattle.std.proofs.Common.{◌∷◌, [], sym, subst}
-use Rattle.dj_entries.specs.Entries.{Utf8}
-use Rattle.dj_entries.specs.Needs.{code_name}
+use Rattle.dj_entries.specs.trusted.Entries.{Utf8}
+use Rattle.dj_entries.specs.trusted.Needs.{code_name}
 use Rattle.dj_entries.specs.PoolNeeds.{PutsNeeds}
 use Rattle.dj_entries.proofs.NeedSteps.{needs_then}
 use Rattle.dj_entries.proofs.lines.need_method.Goals as goal

@@ -1,5 +1,5 @@
 use Rattle.std.proofs.Common.{◌∷◌, [], sym, subst}
-use Rattle.dj_entries.specs.Needs.{member_entry}
+use Rattle.dj_entries.specs.trusted.Needs.{member_entry}
 use Rattle.dj_entries.specs.PoolNeeds.{PutsNeeds}
 use Rattle.dj_entries.proofs.NeedSteps.{member_need}
 use Rattle.dj_entries.proofs.needs.need_member.Goals as goal

@@ -1,5 +1,5 @@
 use Rattle.std.proofs.Common.{◌∷◌, [], sym, subst}
-use Rattle.dj_entries.specs.Entries.{Utf8}
+use Rattle.dj_entries.specs.trusted.Entries.{Utf8}
 use Rattle.dj_entries.specs.PoolNeeds.{PutsNeeds}
 use Rattle.dj_entries.proofs.NeedSteps.{two_needs}
 use Rattle.dj_entries.proofs.needs.need_names.Goals as goal

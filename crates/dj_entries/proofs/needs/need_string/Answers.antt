@@ -1,5 +1,5 @@
 use Rattle.std.proofs.Common.{◌∷◌, [], sym, subst}
-use Rattle.dj_entries.specs.Entries as entries
+use Rattle.dj_entries.specs.trusted.Entries as entries
 use Rattle.dj_entries.specs.PoolNeeds.{PutsNeeds}
 use Rattle.dj_entries.proofs.NeedSteps.{string_need}
 use Rattle.dj_entries.proofs.needs.need_string.Goals as goal

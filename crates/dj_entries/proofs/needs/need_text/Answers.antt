@@ -1,5 +1,5 @@
 use Rattle.std.proofs.Common.{◌∷◌, [], refl, sym, subst}
-use Rattle.dj_entries.specs.Entries as entries
+use Rattle.dj_entries.specs.trusted.Entries as entries
 use Rattle.dj_entries.specs.PoolNeeds.{PutsNeeds}
 use Rattle.dj_entries.proofs.PoolChains.{alone}
 use Rattle.dj_entries.proofs.NeedSteps.{text_need}

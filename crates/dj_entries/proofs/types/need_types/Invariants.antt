@@ -1,7 +1,7 @@
 use Rattle.std.proofs.Common.{take, map}
 use Rattle.std.specs.List.{flat_map}
 use Rattle.dj_source.specs.TypeViews.{type_view}
-use Rattle.dj_entries.specs.Needs.{type_entries}
+use Rattle.dj_entries.specs.trusted.Needs.{type_entries}
 use Rattle.dj_entries.specs.PoolNeeds.{PutsNeeds}
 use Rattle.dj_entries.proofs.types.need_types.Given as goal
 

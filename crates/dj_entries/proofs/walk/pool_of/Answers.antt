@@ -3,7 +3,7 @@ use Rattle.std.specs.List.{enumerate_from}
 use Rattle.std.proofs.lemmas.List.{take_rest, length-drop}
 use Rattle.dj_source.specs.LineViews.{line_view}
 use Rattle.dj_source.specs.LabelReading.{section_size}
-use Rattle.dj_entries.specs.Needs.{method_needs}
+use Rattle.dj_entries.specs.trusted.Needs.{method_needs}
 use Rattle.dj_entries.specs.Walking.{Walks}
 use Rattle.dj_entries.proofs.Walking.{sections_step, sections_end, walked_pool}
 use Rattle.dj_entries.proofs.walk.pool_of.Goals as goal

@@ -1,7 +1,7 @@
 use Rattle.std.proofs.Common.{◌≡◌, ◌≤◌, ◌-◌, List, ◌++◌, length, map, drop}
 use Rattle.dj_source.specs.LineViews.{line_view}
 use Rattle.dj_source.specs.LabelReading.{sections_of}
-use Rattle.dj_entries.specs.Needs.{Need}
+use Rattle.dj_entries.specs.trusted.Needs.{Need}
 use Rattle.dj_entries.specs.Walking.{AreWalked, section_needs}
 use Rattle.dj_entries.proofs.walk.pool_of.Given as goal
 

@@ -1,7 +1,7 @@
 use Rattle.std.proofs.Common.{take, map}
 use Rattle.std.specs.List.{enumerate_from}
 use Rattle.dj_source.specs.LineViews.{line_view}
-use Rattle.dj_entries.specs.Needs.{needs}
+use Rattle.dj_entries.specs.trusted.Needs.{needs}
 use Rattle.dj_entries.specs.Walking.{kind_entries, Walks}
 use Rattle.dj_entries.proofs.walk.walk_kind.Given as goal
 

@@ -1,7 +1,7 @@
 use Rattle.std.proofs.Common.{◌++◌, map}
 use Rattle.std.specs.List.{enumerate_from}
 use Rattle.dj_source.specs.LineViews.{line_view}
-use Rattle.dj_entries.specs.Needs.{stack_map_entries, frame_entries, needs}
+use Rattle.dj_entries.specs.trusted.Needs.{stack_map_entries, frame_entries, needs}
 use Rattle.dj_entries.specs.Walking.{code_needs}
 use Rattle.dj_entries.proofs.Walking.{walks_then, walks_last}
 use Rattle.dj_entries.proofs.walk.walk_section.Goals as goal

@@ -1,5 +1,5 @@
 use Rattle.std.specs.List.{AllWithin}
-use Rattle.dj_frames.specs.StackMaps.{IsType}
+use Rattle.dj_frames.specs.trusted.StackMaps.{IsType}
 use Rattle.dj_frames.proofs.conditions.are_types.Given as goal
 
 abbrev pub invariant-loop-item : goal.invariant-loop-item

@@ -1,6 +1,6 @@
 use Rattle.std.proofs.Common.{sym}
 use Rattle.std.specs.Prelude.{◌↔◌, All, IsTrue}
-use Rattle.dj_frames.specs.StackMaps.{IsType}
+use Rattle.dj_frames.specs.trusted.StackMaps.{IsType}
 use Rattle.dj_frames.proofs.Tested.{then_second, else_first}
 use Rattle.dj_frames.proofs.conditions.has_types.Goals as goal
 

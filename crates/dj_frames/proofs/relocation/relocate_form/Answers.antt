@@ -1,6 +1,7 @@
 use Rattle.std.specs.Prelude.{◌++◌, All, length}
 use Rattle.std.proofs.Common.{subst}
-use Rattle.dj_frames.specs.StackMaps.{types_of, IsTypeBelow}
+use Rattle.dj_frames.specs.trusted.StackMaps.{types_of}
+use Rattle.dj_frames.specs.StackMaps.{IsTypeBelow}
 use Rattle.dj_frames.proofs.Written.{all_of_back}
 use Rattle.dj_frames.proofs.relocation.relocate_form.Goals as goal
 

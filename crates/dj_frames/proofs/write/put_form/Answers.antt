@@ -1,6 +1,6 @@
 use Rattle.std.specs.Prelude.{◌++◌, All}
 use Rattle.std.proofs.Common.{subst}
-use Rattle.dj_frames.specs.StackMaps.{types_of, IsType}
+use Rattle.dj_frames.specs.trusted.StackMaps.{types_of, IsType}
 use Rattle.dj_frames.proofs.Written.{all_of_back}
 use Rattle.dj_frames.proofs.write.put_form.Goals as goal
 

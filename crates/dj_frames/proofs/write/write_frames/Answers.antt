@@ -1,6 +1,6 @@
 use Rattle.std.proofs.Common.{rules, ◌≡◌, ℕ, List, sym, subst}
-use Rattle.dj_frames.specs.StackMaps.{IsStackMap}
-use Rattle.dj_frames.specs.Written.{stack_map_bytes}
+use Rattle.dj_frames.specs.trusted.StackMaps.{IsStackMap}
+use Rattle.dj_frames.specs.trusted.Written.{stack_map_bytes}
 use Rattle.dj_frames.proofs.Written.{written_is_stack_map}
 use Rattle.dj_frames.proofs.write.write_frames.Goals as goal
 

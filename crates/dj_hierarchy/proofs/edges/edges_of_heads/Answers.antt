@@ -1,6 +1,6 @@
 use Rattle.std.proofs.Common.{List, length, map, take, sym, subst}
 use Rattle.dj_graph.specs.Graphs.{edges_of}
-use Rattle.dj_library.specs.Heads.{Head}
+use Rattle.dj_library.specs.trusted.Heads.{Head}
 use Rattle.dj_hierarchy.specs.Edges.{AreEdges}
 use Rattle.dj_hierarchy.specs.Views.{seen_view}
 use Rattle.dj_hierarchy.proofs.Anys.{seen_more}

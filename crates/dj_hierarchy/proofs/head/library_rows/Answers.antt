@@ -1,4 +1,4 @@
-use Rattle.dj_library.specs.Heads.{library_heads}
+use Rattle.dj_library.specs.trusted.Heads.{library_heads}
 use Rattle.dj_hierarchy.proofs.head.library_rows.Goals as goal
 
 pub returns : goal.returns

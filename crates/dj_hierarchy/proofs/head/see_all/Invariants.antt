@@ -1,5 +1,5 @@
 use Rattle.std.proofs.Common.{◌≡◌, ◌++◌, map, take}
-use Rattle.dj_library.specs.Rows as rows
+use Rattle.dj_library.specs.TableRows as rows
 use Rattle.dj_hierarchy.specs.Views.{head_view, seen_view}
 use Rattle.dj_hierarchy.proofs.head.see_all.Given as goal
 

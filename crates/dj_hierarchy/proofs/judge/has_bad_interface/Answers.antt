@@ -1,6 +1,6 @@
 use Rattle.std.proofs.Common.{true, [], refl}
 use Rattle.std.proofs.lemmas.Bool.{both_ways}
-use Rattle.dj_hierarchy.specs.Hierarchy.{IsBadInterface}
+use Rattle.dj_hierarchy.specs.trusted.Hierarchy.{IsBadInterface}
 use Rattle.dj_hierarchy.specs.Known.{IsIn}
 use Rattle.dj_hierarchy.specs.Views.{text_of}
 use Rattle.dj_hierarchy.proofs.Anys.{none_more, found_at, none_at_all}

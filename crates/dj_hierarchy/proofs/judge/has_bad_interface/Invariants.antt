@@ -1,4 +1,4 @@
-use Rattle.dj_hierarchy.specs.Hierarchy.{IsBadInterface}
+use Rattle.dj_hierarchy.specs.trusted.Hierarchy.{IsBadInterface}
 use Rattle.dj_hierarchy.specs.Known.{IsIn}
 use Rattle.dj_hierarchy.specs.Views.{text_of}
 use Rattle.std.proofs.Common.{take}

@@ -1,4 +1,4 @@
-use Rattle.dj_hierarchy.specs.Hierarchy.{Climbs}
+use Rattle.dj_hierarchy.specs.trusted.Hierarchy.{Climbs}
 use Rattle.dj_hierarchy.specs.Known.{IsIn}
 use Rattle.dj_hierarchy.specs.Views.{text_of}
 use Rattle.std.proofs.Common.{List, ℕ, take}

@@ -1,5 +1,5 @@
 use Rattle.std.proofs.Common.{List, [], get_or, map, take, None, sym, ◌∙◌, subst}
-use Rattle.dj_library.specs.Heads.{Head}
+use Rattle.dj_library.specs.trusted.Heads.{Head}
 use Rattle.dj_hierarchy.specs.declared.head.Seen.{Seen}
 use Rattle.dj_hierarchy.specs.Names.{AreNames}
 use Rattle.dj_hierarchy.specs.Views.{seen_view}

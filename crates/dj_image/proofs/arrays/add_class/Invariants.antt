@@ -2,7 +2,7 @@ use Rattle.std.proofs.Common.{List, take, ◌++◌}
 use Rattle.std.specs.List.{filter_map, AllByRecursion}
 use Rattle.dj_names.specs.declared.descriptor.Ty.{Ty}
 use Rattle.dj_image.specs.Uses.{used_type}
-use Rattle.dj_image.specs.Rows.{IsKeyed, AreRows, known_types}
+use Rattle.dj_image.specs.ArrayRows.{IsKeyed, AreRows, known_types}
 use Rattle.dj_image.proofs.arrays.add_class.Given as goal
 
 -- what the uses so far name has rows

@@ -1,5 +1,5 @@
 use Rattle.std.proofs.Common.{◌≡◌, ◌++◌, take}
-use Rattle.dj_image.specs.Rows.{level}
+use Rattle.dj_image.specs.ArrayRows.{level}
 use Rattle.dj_image.proofs.arrays.add_level.Given as goal
 
 -- those of the tops so far

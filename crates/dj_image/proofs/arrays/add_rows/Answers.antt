@@ -1,7 +1,7 @@
 use Rattle.std.proofs.Common.{◌≡◌, ◌≤◌, ap, sym, ◌∙◌, arith, List}
 use Rattle.dj_names.specs.declared.descriptor.Ty.{Ty}
-use Rattle.dj_names.specs.Types.{Name}
-use Rattle.dj_image.specs.Rows.{type_lent, most_at}
+use Rattle.dj_names.specs.trusted.Types.{Name}
+use Rattle.dj_image.specs.ArrayRows.{type_lent, most_at}
 use Rattle.dj_image.proofs.RowFacts.{keyed_now, rows_stay, rows_more, at_most}
 use Rattle.dj_image.proofs.arrays.add_rows.Goals as goal
 

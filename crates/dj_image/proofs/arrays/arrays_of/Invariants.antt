@@ -1,6 +1,6 @@
 use Rattle.std.proofs.Common.{take, ◌++◌}
 use Rattle.dj_image.specs.Uses.{used_types}
-use Rattle.dj_image.specs.Rows.{AreRows, known_types, first_wholes}
+use Rattle.dj_image.specs.ArrayRows.{AreRows, known_types, first_wholes}
 use Rattle.dj_image.proofs.arrays.arrays_of.Given as goal
 
 -- what the classes so far use has rows

@@ -1,7 +1,7 @@
 use Rattle.std.proofs.Common.{◌≡◌, ◌++◌, map}
 use Rattle.std.specs.BTreeMap.{values}
 use Rattle.dj_types.specs.Shapes.{shape_in}
-use Rattle.dj_image.specs.Rows.{AreAllKnown}
+use Rattle.dj_image.specs.ArrayRows.{AreAllKnown}
 use Rattle.dj_image.proofs.arrays.tops_in.Given as goal
 
 -- those so far, and those that follow

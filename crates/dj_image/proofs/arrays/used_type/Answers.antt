@@ -1,6 +1,6 @@
 use Rattle.std.proofs.Common.{ap, subst, arith}
 use Rattle.dj_names.specs.declared.descriptor.Ty.{Ty}
-use Rattle.dj_image.specs.Rows.{IsFitUse}
+use Rattle.dj_image.specs.ArrayRows.{IsFitUse}
 use Rattle.dj_image.proofs.ClassTexts.{named_dims}
 use Rattle.dj_image.proofs.arrays.used_type.Goals as goal
 

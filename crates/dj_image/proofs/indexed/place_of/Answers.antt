@@ -1,7 +1,7 @@
 use Rattle.std.proofs.Common.{List, rules, sym, ap, subst, ◌∙◌}
 use Rattle.std.proofs.lemmas.Fn.{always_returns_same}
 use Rattle.std.proofs.lemmas.List.{map-id}
-use Rattle.dj_names.specs.Types.{Name}
+use Rattle.dj_names.specs.trusted.Types.{Name}
 use Rattle.dj_types.specs.Kept.{DoTextsRise}
 use Rattle.dj_types.specs.Typed.{place_of_text}
 use Rattle.dj_types.proofs.Texts.{against, text_found, text_missing}

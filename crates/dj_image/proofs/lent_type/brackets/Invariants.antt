@@ -1,5 +1,5 @@
 use Rattle.std.proofs.Common.{◌≡◌, ◌+◌, ◌≤◌, drop}
-use Rattle.dj_image.specs.Rows.{brackets}
+use Rattle.dj_image.specs.ArrayRows.{brackets}
 use Rattle.dj_image.proofs.lent_type.brackets.Given as goal
 
 -- all so far, and those that follow

@@ -6,7 +6,7 @@ use Rattle.dj_names.specs.declared.descriptor.Ty.{Ty}
 use Rattle.dj_image.specs.declared.parts.ClassParts.{ClassParts}
 use Rattle.dj_image.specs.Imaged.{Imaged, IsNumbered}
 use Rattle.dj_image.specs.Parts.{FitClasses, HasString, sources_of}
-use Rattle.dj_image.specs.Rows.{IsRow, wholes_of}
+use Rattle.dj_image.specs.ArrayRows.{IsRow, wholes_of}
 use Rattle.dj_image.specs.Tables.{imaged_of, AreClosed}
 use Rattle.dj_image.specs.Texts.{texts_of}
 use Rattle.dj_image.specs.Uses.{SameMembers}

@@ -1,5 +1,5 @@
 use Rattle.std.proofs.Common.{◌≡◌, ℕ, List, Option, Some, option_and_then, sym, ap, subst, ◌∙◌}
-use Rattle.dj_pool.specs.Pool.{both, text_at, name_and_type_at}
+use Rattle.dj_pool.specs.trusted.Pool.{both, text_at, name_and_type_at}
 use Rattle.dj_image.specs.Homes.{IsDescribed}
 use Rattle.dj_image.proofs.NameNumbers.{are_numbered}
 use Rattle.dj_image.proofs.name_numbers.member_name.Goals as goal

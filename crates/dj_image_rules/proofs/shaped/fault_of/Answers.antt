@@ -1,6 +1,6 @@
 use Rattle.std.proofs.Common.{◌≡◌, Bool, Some, sym, subst}
 use Rattle.std.proofs.lemmas.Result.{IfOk-weaker}
-use Rattle.dj_shape.specs.Rule.{signature_at}
+use Rattle.dj_shape.specs.trusted.Rule.{signature_at}
 use Rattle.dj_image_rules.proofs.shaped.fault_of.Goals as goal
 
 pub returns : goal.returns

@@ -1,5 +1,5 @@
 use Rattle.std.proofs.Common.{Some}
-use Rattle.dj_model.specs.Program.{Text}
+use Rattle.dj_model.specs.trusted.Program.{Text}
 use Rattle.dj_members.specs.Literals.{text_at}
 use Rattle.dj_initialising.specs.Store.{Fills, FillsConstant, one_constant, store}
 use Rattle.dj_initialising.proofs.Members.{if_ok_map}

@@ -1,5 +1,5 @@
 use Rattle.std.proofs.Common.{◌≡◌, ◌<◌, ℕ, Bool, false, true, List, Option, Some, IfSome, sym, subst, ◌∙◌, arith}
-use Rattle.dj_model.specs.Linking.{most_classes}
+use Rattle.dj_model.specs.trusted.Linking.{most_classes}
 use Rattle.dj_classes.specs.Tables.{super_number}
 use Rattle.dj_image.specs.Imaged.{program_of}
 use Rattle.dj_initialising.specs.Flags.{has_begun}

@@ -1,5 +1,5 @@
 use Rattle.dj_image.specs.Imaged.{program_of}
-use Rattle.dj_model.specs.Linking.{most_classes}
+use Rattle.dj_model.specs.trusted.Linking.{most_classes}
 use Rattle.dj_initialising.specs.Waiting.{IsWalked, waiting_count}
 use Rattle.dj_initialising.proofs.waiting.begin_upward.Given as goal
 

@@ -1,7 +1,7 @@
 use Rattle.std.proofs.Common.{◌≡◌, ◌&&◌, ◌+◌, ◌-◌, Bool, drop, take, reverse, refl, ap, sym, subst, ◌∙◌, arith}
 use Rattle.dj_names.specs.declared.descriptor.Kind.TheVariants as kinds
-use Rattle.dj_names.specs.Values.{value_kind}
-use Rattle.dj_model.specs.Members.{are_instances}
+use Rattle.dj_names.specs.trusted.Values.{value_kind}
+use Rattle.dj_model.specs.trusted.Members.{are_instances}
 use Rattle.dj_stack.specs.Frames.{top_operands}
 use Rattle.dj_image.specs.Imaged.{program_of, typed_of}
 use Rattle.dj_invoking.specs.Natives.{IsClassOf}

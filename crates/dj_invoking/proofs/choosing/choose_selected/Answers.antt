@@ -1,6 +1,6 @@
 use Rattle.std.proofs.Common.{refl, subst, sym}
-use Rattle.dj_model.specs.Performing.{class_at_number}
-use Rattle.dj_model.specs.Linking.{select}
+use Rattle.dj_model.specs.trusted.Performing.{class_at_number}
+use Rattle.dj_model.specs.trusted.Linking.{select}
 use Rattle.dj_image.specs.Imaged.{program_of, typed_of}
 use Rattle.dj_types.specs.Members.{selected}
 use Rattle.dj_invoking.specs.declared.choosing.Chosen.{Chosen}

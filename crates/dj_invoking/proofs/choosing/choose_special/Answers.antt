@@ -1,4 +1,4 @@
-use Rattle.dj_model.specs.Linking.{special_method}
+use Rattle.dj_model.specs.trusted.Linking.{special_method}
 use Rattle.dj_linking.specs.Linked.{class_name}
 use Rattle.dj_image.specs.Imaged.{program_of}
 use Rattle.dj_invoking.specs.Receivers.{typed_heap}

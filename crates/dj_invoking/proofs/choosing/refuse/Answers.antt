@@ -1,6 +1,6 @@
 use Rattle.std.proofs.Common.{◌≡◌, Some, true, false, ap, sym, ◌∙◌}
 use Rattle.std.proofs.lemmas.Option.{same_Some}
-use Rattle.dj_model.specs.Linking.{FoundMethod}
+use Rattle.dj_model.specs.trusted.Linking.{FoundMethod}
 use Rattle.dj_image.specs.Imaged.{program_of, typed_of}
 use Rattle.dj_invoking.specs.Receivers.{typed_heap}
 use Rattle.dj_invoking.proofs.Choices.{class_numbered, class_known, null_refused, object_there, received_if}

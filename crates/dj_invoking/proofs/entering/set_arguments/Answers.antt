@@ -1,9 +1,9 @@
 use Rattle.std.proofs.Common.{◌≡◌, ◌-◌, ℕ, List, Option, Some, None, replicate, pos, length, get_or, take, set, refl, ap, sym, ◌∙◌, arith}
 use Rattle.dj_names.specs.declared.run.Value.{Value}
 use Rattle.dj_names.specs.declared.run.Value.TheVariants as values
-use Rattle.dj_model.specs.Numbers.{is_long}
-use Rattle.dj_model.specs.Values.{in_slots}
-use Rattle.dj_model.specs.Initialisation.{padded}
+use Rattle.dj_model.specs.trusted.Numbers.{is_long}
+use Rattle.dj_model.specs.trusted.Values.{in_slots}
+use Rattle.dj_model.specs.trusted.Initialisation.{padded}
 use Rattle.dj_stack.specs.Frames.{top_locals}
 use Rattle.dj_invoking.proofs.EnterFacts.{argument_fits, some_slot, padded_length, set_argument, slots_more, count_more, slots_within, same_locals, locals_later}
 use Rattle.dj_invoking.proofs.entering.set_arguments.Goals as goal

@@ -1,7 +1,7 @@
 use Rattle.std.proofs.Common.{◌≡◌, take, length}
-use Rattle.dj_model.specs.Numbers.{is_long}
-use Rattle.dj_model.specs.Values.{in_slots}
-use Rattle.dj_model.specs.Initialisation.{padded}
+use Rattle.dj_model.specs.trusted.Numbers.{is_long}
+use Rattle.dj_model.specs.trusted.Values.{in_slots}
+use Rattle.dj_model.specs.trusted.Initialisation.{padded}
 use Rattle.dj_stack.specs.Frames.{SameButLocals, top_locals}
 use Rattle.dj_invoking.proofs.entering.set_arguments.Given as goal
 

@@ -1,5 +1,5 @@
 use Rattle.std.proofs.Common.{ℕ, List, Option, Some, sym, subst, ◌∙◌}
-use Rattle.dj_names.specs.Types.{parameters_of}
+use Rattle.dj_names.specs.trusted.Types.{parameters_of}
 use Rattle.dj_invoking.specs.declared.answers.Invoked.{Invoked}
 use Rattle.dj_stack.specs.Frames.{top_operands}
 use Rattle.dj_invoking.specs.Natives.{AreTyped}

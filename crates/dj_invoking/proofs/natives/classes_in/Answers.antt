@@ -1,6 +1,6 @@
 use Rattle.std.proofs.Common.{List, ap, sym, subst, ◌∙◌, IfOk}
 use Rattle.dj_names.specs.declared.descriptor.Ty.{Ty}
-use Rattle.dj_names.specs.Types.{parameters_of}
+use Rattle.dj_names.specs.trusted.Types.{parameters_of}
 use Rattle.dj_declared.proofs.DescTests.{desc_in_is}
 use Rattle.dj_image.specs.Imaged.{typed_of}
 use Rattle.dj_invoking.specs.Natives.{AreClasses}

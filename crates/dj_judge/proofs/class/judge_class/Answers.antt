@@ -4,7 +4,7 @@ use Rattle.dj_report.specs.Lines.{Gains}
 use Rattle.dj_check.specs.declared.judged.JudgedText.{JudgedText}
 use Rattle.dj_check.specs.Judged.{AreTexts}
 use Rattle.dj_check.specs.Marks.{AreMarksOf}
-use Rattle.dj_check.specs.Methods.{MethodViolates}
+use Rattle.dj_check.specs.trusted.Methods.{MethodViolates}
 use Rattle.dj_judge.specs.Late.{HasLent}
 use Rattle.dj_judge.specs.Told.{AreJudgedMethods}
 use Rattle.dj_judge.proofs.ClassLaws.{not_faulty, own_lines_by}

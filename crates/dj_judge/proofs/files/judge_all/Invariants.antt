@@ -1,5 +1,5 @@
 use Rattle.std.proofs.Common.{◌≤◌, length, take}
-use Rattle.dj_model.specs.Program.{Program}
+use Rattle.dj_model.specs.trusted.Program.{Program}
 use Rattle.dj_report.specs.Lines.{Adds, IsLineAmong}
 use Rattle.dj_judge.specs.Late.{HasLent}
 use Rattle.dj_judge.proofs.FileLaws.{IsOwnFileLine, IsOwnLateLine}

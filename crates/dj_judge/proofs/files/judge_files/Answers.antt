@@ -4,7 +4,7 @@ use Rattle.dj_report.specs.Lines.{Adds}
 use Rattle.dj_rules.specs.Views.{path_file_view}
 use Rattle.dj_linking.specs.Linked.{Linked}
 use Rattle.dj_judge.specs.Judged.{HasLinker}
-use Rattle.dj_judge.specs.Lines.{IsLinkedLine}
+use Rattle.dj_judge.specs.trusted.Lines.{IsLinkedLine}
 use Rattle.dj_judge.proofs.files.judge_files.Goals as goal
 
 pub judge_linked-requires-clause-plain : goal.judge_linked-requires-clause-plain

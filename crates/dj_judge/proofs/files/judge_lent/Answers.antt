@@ -8,7 +8,7 @@ use Rattle.dj_check.specs.declared.doubles.NamedFile.{NamedFile}
 use Rattle.dj_check.specs.declared.hierarchy.Owner.{Owner}
 use Rattle.dj_check.specs.Doubles.{IsRepeatedLine}
 use Rattle.dj_check.specs.Kept.{IsOwnersLine}
-use Rattle.dj_judge.specs.Lines.{IsLinkedLine}
+use Rattle.dj_judge.specs.trusted.Lines.{IsLinkedLine}
 use Rattle.dj_judge.proofs.FileLaws.{all_early_lines}
 use Rattle.dj_judge.proofs.files.judge_lent.Goals as goal
 

@@ -1,6 +1,6 @@
 use Rattle.std.proofs.Common.{List, Bool, refl, sym, subst}
 use Rattle.dj_edge.proofs.Lists.{ok_so}
-use Rattle.dj_model.specs.Program.{Program}
+use Rattle.dj_model.specs.trusted.Program.{Program}
 use Rattle.dj_link.specs.Known.{AreUnmakeable}
 use Rattle.dj_judge.proofs.files.judge_linked_by.Goals as goal
 

@@ -1,6 +1,7 @@
 use Rattle.std.proofs.Common.{◌≡◌, Option, ap, subst}
 use Rattle.dj_class.specs.Views.{class_of}
-use Rattle.dj_report.specs.Lines.{Adds, file_line}
+use Rattle.dj_report.specs.trusted.Lines.{file_line}
+use Rattle.dj_report.specs.Lines.{Adds}
 use Rattle.dj_check.specs.declared.good.GoodFile.{GoodFile}
 use Rattle.dj_judge.specs.declared.files.JudgedFiles.{JudgedFiles}
 use Rattle.dj_judge.specs.Late.{HasLent}

@@ -1,6 +1,6 @@
 use Rattle.std.proofs.Common.{ℕ, List, length, sym, ap, subst, ◌∙◌}
 use Rattle.std.proofs.lemmas.Result.{err_from_is_err_and}
-use Rattle.dj_labels.specs.Labels.{IsCut}
+use Rattle.dj_labels.specs.trusted.Labels.{IsCut}
 use Rattle.dj_labels.specs.Passes.{AreStarts}
 use Rattle.dj_labels.proofs.Cuts.{as_many}
 use Rattle.dj_labels.proofs.Whole.{are_starts, all_rise, bounds_all_rise, few, are_instrs, labelled, numbering_fault, rows_fault}

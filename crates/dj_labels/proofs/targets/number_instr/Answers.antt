@@ -1,7 +1,7 @@
 use Rattle.std.proofs.Common.{rules, ℤ, map, sym, subst, w64, SFits}
 use Rattle.std.proofs.lemmas.Result.{err_from_is_err_and}
 use Rattle.dj_ops.specs.declared.instruction.Instr.{Instr}
-use Rattle.dj_labels.specs.Targets.{targets_of}
+use Rattle.dj_labels.specs.trusted.Targets.{targets_of}
 use Rattle.dj_labels.specs.Passes.{LacksStart}
 use Rattle.dj_labels.proofs.TargetLaws.{lacks_first}
 use Rattle.dj_labels.proofs.targets.number_instr.Goals as goal

@@ -1,7 +1,7 @@
 use Rattle.std.proofs.Common.{ℕ, ◌<◌, List, length, arith}
 use Rattle.std.proofs.lemmas.Result.{err_from_is_err_and}
 use Rattle.dj_ops.specs.declared.instruction.Instr.{Instr}
-use Rattle.dj_labels.specs.Labels.{address_of}
+use Rattle.dj_labels.specs.trusted.Labels.{address_of}
 use Rattle.dj_layout.proofs.Passing.{starts_many, placed_there, written_more, written_whole, first_far}
 use Rattle.dj_layout.proofs.bytes.write_instrs.Goals as goal
 

@@ -1,11 +1,11 @@
 use Rattle.std.proofs.Common.{ℕ, ◌+◌, ◌<◌, ◌≤◌, List, length, get_or, sym, subst, arith}
 use Rattle.std.specs.List.{AllByRecursion}
 use Rattle.dj_ops.specs.declared.instruction.Instr.{Instr}
-use Rattle.dj_ops.specs.Instructions.{IsProper, length_at}
-use Rattle.dj_labels.specs.Targets.{targets_of}
-use Rattle.dj_labels.specs.Labels.{HasNumbers, address_of}
+use Rattle.dj_ops.specs.trusted.Instructions.{IsProper, length_at}
+use Rattle.dj_labels.specs.trusted.Targets.{targets_of}
+use Rattle.dj_labels.specs.trusted.Labels.{HasNumbers, address_of}
 use Rattle.dj_labels.proofs.Proper.{proper_to}
-use Rattle.dj_layout.specs.Layouts.{most_bytes}
+use Rattle.dj_layout.specs.trusted.Layouts.{most_bytes}
 use Rattle.dj_layout.specs.Passes.{IsAddress, IsWritten}
 use Rattle.dj_layout.proofs.Passing.{item_is, starts_many, nth_few, nth_short, addresses_short, nth_is}
 use Rattle.dj_layout.proofs.bytes.write_nth.Goals as goal

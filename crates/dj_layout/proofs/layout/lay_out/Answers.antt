@@ -3,10 +3,10 @@ use Rattle.std.specs.List.{AllByRecursion}
 use Rattle.std.proofs.lemmas.Result.{err_from_is_err_and}
 use Rattle.dj_ops.specs.declared.instruction.Instr.{Instr}
 use Rattle.dj_labels.specs.declared.labelled.Protected.{Protected}
-use Rattle.dj_labels.specs.Labels.{IsRange, row_of}
+use Rattle.dj_labels.specs.trusted.Labels.{IsRange, row_of}
 use Rattle.dj_layout.specs.declared.laid.Laid.{Laid}
-use Rattle.dj_layout.specs.Places.{starts_from, end_from}
-use Rattle.dj_layout.specs.Layouts.{most_bytes}
+use Rattle.dj_layout.specs.trusted.Places.{starts_from, end_from}
+use Rattle.dj_layout.specs.trusted.Layouts.{most_bytes}
 use Rattle.dj_layout.specs.Passes.{ArePlaces, AreBytes}
 use Rattle.dj_layout.proofs.Ends.{starts_length}
 use Rattle.dj_layout.proofs.Once.{no_code_where_refused_is, one_layout_is}

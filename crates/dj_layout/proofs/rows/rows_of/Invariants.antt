@@ -1,5 +1,5 @@
 use Rattle.std.proofs.Common.{◌≡◌, [], ◌∷◌, ◌++◌, map, take}
-use Rattle.dj_labels.specs.Labels.{row_of}
+use Rattle.dj_labels.specs.trusted.Labels.{row_of}
 use Rattle.dj_layout.proofs.rows.rows_of.Given as goal
 
 abbrev pub invariant-loop-range : goal.invariant-loop-range

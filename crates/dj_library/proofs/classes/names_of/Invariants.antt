@@ -1,5 +1,5 @@
 use Rattle.std.proofs.Common.{◌≡◌, map, take}
-use Rattle.dj_library.specs.Rows.{name_of_row}
+use Rattle.dj_library.specs.TableRows.{name_of_row}
 use Rattle.dj_library.proofs.classes.names_of.Given as goal
 
 abbrev pub invariant-loop-row : goal.invariant-loop-row

@@ -1,6 +1,6 @@
 use Rattle.std.proofs.Common.{◌≡◌, ◌++◌, map, take}
 use Rattle.dj_natives.specs.Views.{library_method_view}
-use Rattle.dj_library.specs.Rows.{method_in}
+use Rattle.dj_library.specs.TableRows.{method_in}
 use Rattle.dj_library.proofs.methods.add_methods.Given as goal
 
 abbrev pub invariant-loop-row : goal.invariant-loop-row

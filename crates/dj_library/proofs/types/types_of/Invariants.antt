@@ -1,5 +1,5 @@
 use Rattle.std.proofs.Common.{◌≡◌, map, take}
-use Rattle.dj_library.specs.Rows.{type_of_row}
+use Rattle.dj_library.specs.TableRows.{type_of_row}
 use Rattle.dj_library.proofs.types.types_of.Given as goal
 
 abbrev pub invariant-loop-row : goal.invariant-loop-row

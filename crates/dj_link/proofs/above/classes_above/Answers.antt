@@ -1,5 +1,5 @@
 use Rattle.std.proofs.Common.{ℕ, ◌≡◌, subst, sym}
-use Rattle.dj_model.specs.Program.{Program}
+use Rattle.dj_model.specs.trusted.Program.{Program}
 use Rattle.dj_classes.specs.Tables.{class_number}
 use Rattle.dj_link.proofs.AboveLaws.{above_is}
 use Rattle.dj_link.proofs.above.classes_above.Goals as goal

@@ -1,6 +1,6 @@
 use Rattle.std.proofs.Common.{sym, ap, ◌∙◌}
-use Rattle.dj_declared.specs.Files.{type_in}
-use Rattle.dj_link.specs.Named.{class_of_type}
+use Rattle.dj_declared.specs.trusted.Files.{type_in}
+use Rattle.dj_link.specs.trusted.Named.{class_of_type}
 use Rattle.dj_link.proofs.ClassTexts.{spells, few_brackets, rest_is}
 use Rattle.dj_link.proofs.class_text.class_text.Goals as goal
 

@@ -1,8 +1,8 @@
 use Rattle.std.proofs.Common.{◌≡◌, ℕ, Option, Some, sym, ap, subst, ◌∙◌}
 use Rattle.std.specs.Option.{option_map}
-use Rattle.dj_names.specs.Types.{same_name}
+use Rattle.dj_names.specs.trusted.Types.{same_name}
 use Rattle.dj_pool.specs.Views.{constant_of}
-use Rattle.dj_check.specs.Classes.{names_at}
+use Rattle.dj_check.specs.trusted.Classes.{names_at}
 use Rattle.dj_link.specs.declared.name_numbers.MemberName.{MemberName}
 use Rattle.dj_link.specs.Constants.{static_in}
 use Rattle.dj_link.proofs.Resolving.{IsWithin, named, member_within, member_static, member_kept}

@@ -4,7 +4,7 @@ use Rattle.dj_class.specs.Views.{class_of}
 use Rattle.dj_report.specs.Lines.{Gains}
 use Rattle.dj_report.proofs.Adding.{IsAmong}
 use Rattle.dj_check.specs.Marks.{MarksOf, names_in}
-use Rattle.dj_link.specs.Lines.{MethodLinkViolates}
+use Rattle.dj_link.specs.trusted.Lines.{MethodLinkViolates}
 use Rattle.dj_link.proofs.methods.add_method_marks.Given as goal
 
 -- the marks of the methods so far

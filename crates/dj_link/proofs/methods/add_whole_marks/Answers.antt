@@ -5,7 +5,7 @@ use Rattle.dj_report.specs.Lines.{Gains}
 use Rattle.dj_report.proofs.Adding.{on_ok}
 use Rattle.dj_check.specs.Marks.{MarksOf}
 use Rattle.dj_check.proofs.MethodLaws.{short_code}
-use Rattle.dj_link.specs.Lines.{MethodLinkViolates}
+use Rattle.dj_link.specs.trusted.Lines.{MethodLinkViolates}
 use Rattle.dj_link.proofs.PassLaws.{untold_code, method_marks}
 use Rattle.dj_link.proofs.methods.add_whole_marks.Goals as goal
 

@@ -1,5 +1,5 @@
 use Rattle.std.proofs.Common.{◌<◌, ◌∷◌, ℕ, Option, Some, IfSome, length, sym, ◌∙◌, subst}
-use Rattle.dj_model.specs.Linking.{most_classes}
+use Rattle.dj_model.specs.trusted.Linking.{most_classes}
 use Rattle.dj_linking.specs.Numbers.{has, numbers_above, numbers_up}
 use Rattle.dj_linking.proofs.Finding.{IsWalked, walk_begun, walked_here, walked_more, walked_off, walked_out}
 use Rattle.dj_linking.proofs.Subclasses.{where_so, so_told, not_so_told, is_in_flat, not_in_flat}

@@ -1,6 +1,6 @@
 use Rattle.std.proofs.Common.{◌<◌, ℕ, Option, IfSome, length, slice_get, subst, sym}
 use Rattle.std.specs.Option.{option_map}
-use Rattle.dj_model.specs.Linking.{is_not_static}
+use Rattle.dj_model.specs.trusted.Linking.{is_not_static}
 use Rattle.dj_classes.specs.Tables.{methods_at, method_there, super_number}
 use Rattle.dj_linking.specs.Numbers.{most_above, numbers_up}
 use Rattle.dj_linking.proofs.Calling.{enough_above, first_of_none, first_of_some, told_named}

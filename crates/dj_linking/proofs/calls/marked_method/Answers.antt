@@ -1,5 +1,5 @@
 use Rattle.std.proofs.Common.{Some, subst}
-use Rattle.dj_model.specs.Linking.{most_classes}
+use Rattle.dj_model.specs.trusted.Linking.{most_classes}
 use Rattle.dj_directory.specs.Calls.{tests, IsNearestLike}
 use Rattle.dj_linking.specs.Numbers.{lists_of}
 use Rattle.dj_linking.proofs.Calling.{marked_like, none_marked_like}

@@ -1,6 +1,6 @@
 use Rattle.std.proofs.Common.{◌<◌, ℕ, Option, Some, IfSome, length, subst}
 use Rattle.std.specs.Option.{option_map}
-use Rattle.dj_model.specs.Linking.{is_plain, most_classes}
+use Rattle.dj_model.specs.trusted.Linking.{is_plain, most_classes}
 use Rattle.dj_classes.specs.Tables.{methods_at, method_there}
 use Rattle.dj_linking.specs.Numbers.{numbers_up}
 use Rattle.dj_linking.proofs.Calling.{enough_classes, first_of_none, first_of_some, told_named}

@@ -1,16 +1,16 @@
-use Rattle.std.proofs.Common.{ℕ, ◌*◌, ◌<◌, get_or, refl, ◌∙◌, subst, sym, arith}
+use Rattle.std.proofs.Common.{◌≡◌, ℕ, ◌*◌, ◌&&◌, true, length, get_or, ltb, nat_eq, refl, ◌∙◌, subst, if◌then◌else◌}
 use Rattle.std.proofs.lemmas.List.{get_or_default}
 use Rattle.dj_directory.specs.declared.rows.MemberRow.{MemberRow}
+use Rattle.dj_linking.specs.Bits.{in_bits}
 use Rattle.dj_linking.specs.Ranked.{rank_in}
-use Rattle.dj_linking.proofs.Covering.{all_ranks, one_more_rank}
+use Rattle.dj_linking.proofs.Marking.{adds_all, adds_next, adds_none}
 use Rattle.dj_linking.proofs.declarers.mark_ranks.Goals as goal
-use Rattle.std.specs.Prelude.{length}
 
 abbrev none : MemberRow
 none = record { name = 0; desc = 0; class = 0; place = 0 }
 
 pub loop-row-init : goal.loop-row-init
-loop-row-init c = (refl, λ k row lt at few. absurd (omega (arith, lt)))
+loop-row-init c = (refl, adds_none (λ row. ltb (rank_in c.args.ranks.now row.class) (length c.args.marks.now * 64)) (λ row. rank_in c.args.ranks.now row.class) c.args.marks.now)
 
 pub mark_rank-requires : goal.mark_rank-requires
 mark_rank-requires c =
@@ -19,15 +19,17 @@ mark_rank-requires c =
 
 pub loop-row-preserved : goal.loop-row-preserved
 loop-row-preserved c =
-    let row : MemberRow = get_or c.args.rows.now c.loop-row.row-index none in (
+    let row : MemberRow = get_or c.args.rows.now c.loop-row.row-index none in
+    let rank : ℕ = rank_in c.args.ranks.now row.class in (
       c.mark_rank.ensures.count ∙ c.loop-row.invariant.0,
-      one_more_rank c.args.ranks.now c.args.rows.now (length c.args.marks.now * 64) c.loop-row.row-index row c.loop-row.marks c.mark_rank.new.marks c.loop-row-test.true
-          (get_or_default c.args.rows.now c.loop-row.row-index row none c.loop-row-test.true) c.loop-row.invariant.1 c.mark_rank.ensures.kept
-          (λ few. c.mark_rank.ensures.own (subst (λ (n : ℕ). rank_in c.args.ranks.now row.class < n * 64) (sym c.loop-row.invariant.0) few)),
+      adds_next (λ row. ltb (rank_in c.args.ranks.now row.class) (length c.args.marks.now * 64)) (λ row. rank_in c.args.ranks.now row.class) c.args.rows.now c.loop-row.row-index row c.args.marks.now c.loop-row.marks c.mark_rank.new.marks c.loop-row-test.true
+          (get_or_default c.args.rows.now c.loop-row.row-index row none c.loop-row-test.true) c.loop-row.invariant.1
+          (subst (λ (n : ℕ). (z : ℕ) → in_bits c.mark_rank.new.marks z ≡ (if ltb rank (n * 64) && nat_eq rank z then true else in_bits c.loop-row.marks z)) c.loop-row.invariant.0 c.mark_rank.ensures.bits),
     )
 
-pub returns-clause-marked : goal.returns-clause-marked
-returns-clause-marked c = all_ranks c.args.ranks.now c.args.rows.now (length c.args.marks.now * 64) c.loop-row.row-index c.loop-row.marks c.loop-row-test.false c.loop-row.invariant.1
+pub returns-clause-marks : goal.returns-clause-marks
+returns-clause-marks c =
+    adds_all (λ row. ltb (rank_in c.args.ranks.now row.class) (length c.args.marks.now * 64)) (λ row. rank_in c.args.ranks.now row.class) c.args.rows.now c.loop-row.row-index c.args.marks.now c.loop-row.marks c.loop-row-test.false c.loop-row.invariant.1
 
 pub returns-clause-count : goal.returns-clause-count
 returns-clause-count c = c.loop-row.invariant.0

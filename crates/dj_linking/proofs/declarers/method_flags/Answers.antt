@@ -1,6 +1,6 @@
 use Rattle.std.proofs.Common.{◌≡◌, ◌<◌, Some, length, slice_get, sym, subst}
 use Rattle.std.specs.Option.{option_map}
-use Rattle.dj_model.specs.Program.{Program}
+use Rattle.dj_model.specs.trusted.Program.{Program}
 use Rattle.dj_declared.specs.Members.{method_flags}
 use Rattle.dj_classes.specs.Tables.{methods_at}
 use Rattle.dj_linking.proofs.declarers.method_flags.Goals as goal

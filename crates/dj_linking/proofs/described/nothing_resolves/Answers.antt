@@ -1,6 +1,6 @@
 use Rattle.std.proofs.Common.{◌≡◌, None, subst}
-use Rattle.dj_model.specs.Program.{Program}
-use Rattle.dj_declared.specs.Files.{desc_in}
+use Rattle.dj_model.specs.trusted.Program.{Program}
+use Rattle.dj_declared.specs.trusted.Files.{desc_in}
 use Rattle.dj_declared.specs.Members.{method_place, field_place}
 use Rattle.dj_classes.specs.Tables.{methods_at, fields_at}
 use Rattle.dj_linking.proofs.Resolution.{DoNamesDiffer}

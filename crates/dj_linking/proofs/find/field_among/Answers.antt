@@ -1,5 +1,5 @@
 use Rattle.std.proofs.Common.{refl}
-use Rattle.dj_declared.specs.Files.{desc_in}
+use Rattle.dj_declared.specs.trusted.Files.{desc_in}
 use Rattle.dj_classes.specs.Tables.{field_there}
 use Rattle.dj_linking.specs.Numbers.{field_found}
 use Rattle.dj_linking.proofs.Finding.{searched_here, searched_more, searched_end, has_at}

@@ -1,4 +1,4 @@
-use Rattle.dj_declared.specs.Files.{desc_in}
+use Rattle.dj_declared.specs.trusted.Files.{desc_in}
 use Rattle.dj_linking.specs.Numbers.{field_found}
 use Rattle.dj_linking.proofs.Finding.{IsSearched}
 use Rattle.dj_linking.proofs.find.field_among.Given as goal

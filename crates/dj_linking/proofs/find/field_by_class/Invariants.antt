@@ -1,5 +1,5 @@
 use Rattle.std.proofs.Common.{◌∷◌}
-use Rattle.dj_declared.specs.Files.{desc_in}
+use Rattle.dj_declared.specs.trusted.Files.{desc_in}
 use Rattle.dj_linking.specs.Numbers.{field_found, first_some, numbers_above}
 use Rattle.dj_linking.proofs.Finding.{IsWalked}
 use Rattle.dj_linking.proofs.find.field_by_class.Given as goal

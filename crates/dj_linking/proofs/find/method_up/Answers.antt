@@ -1,7 +1,7 @@
 use Rattle.std.proofs.Common.{◌<◌, ℕ, Option, IfSome, length, ◌∙◌, ap, subst}
 use Rattle.std.specs.Option.{option_map}
-use Rattle.dj_model.specs.Linking.{any_method}
-use Rattle.dj_declared.specs.Files.{desc_in}
+use Rattle.dj_model.specs.trusted.Linking.{any_method}
+use Rattle.dj_declared.specs.trusted.Files.{desc_in}
 use Rattle.dj_classes.specs.Tables.{method_there}
 use Rattle.dj_linking.specs.Numbers.{method_found}
 use Rattle.dj_linking.proofs.Finding.{IsWalked, walk_begun, walked_here, walked_more, walked_off, walked_out}

@@ -1,5 +1,5 @@
 use Rattle.std.proofs.Common.{length}
-use Rattle.dj_declared.specs.Files.{desc_in}
+use Rattle.dj_declared.specs.trusted.Files.{desc_in}
 use Rattle.dj_linking.specs.Numbers.{field_found}
 use Rattle.dj_linking.proofs.Marking.{none_here}
 use Rattle.dj_linking.proofs.find_numbered.field_if.Goals as goal

@@ -1,6 +1,6 @@
 use Rattle.std.proofs.Common.{ap, ◌∙◌}
 use Rattle.std.specs.Option.{option_map}
-use Rattle.dj_declared.specs.Files.{desc_in}
+use Rattle.dj_declared.specs.trusted.Files.{desc_in}
 use Rattle.dj_classes.specs.Tables.{field_there}
 use Rattle.dj_linking.proofs.Numbered.{field_told, no_field_told}
 use Rattle.dj_linking.proofs.find_numbered.field_in.Goals as goal

@@ -1,5 +1,5 @@
 use Rattle.std.proofs.Common.{ℕ, List}
-use Rattle.dj_declared.specs.Files.{desc_in}
+use Rattle.dj_declared.specs.trusted.Files.{desc_in}
 use Rattle.dj_linking.specs.Numbered.{AreTexts}
 use Rattle.dj_linking.specs.Numbers.{field_found}
 use Rattle.dj_linking.proofs.Finding.{IsSearched}

@@ -1,5 +1,5 @@
-use Rattle.std.proofs.Common.{ℕ, List, length, subst, sym, ◌∙◌}
-use Rattle.dj_declared.specs.Files.{desc_in}
+use Rattle.std.proofs.Common.{ℕ, List, length, refl, subst, sym, ◌∙◌}
+use Rattle.dj_declared.specs.trusted.Files.{desc_in}
 use Rattle.dj_linking.specs.Marked.{IsCovered}
 use Rattle.dj_linking.specs.Numbers.{field_found}
 use Rattle.dj_linking.proofs.Marking.{fields_covered, no_fields}
@@ -12,4 +12,4 @@ returns-then-is_empty c n d h =
 pub field_in_turn-requires-2-clause-marked : goal.field_in_turn-requires-2-clause-marked
 field_in_turn-requires-2-clause-marked c n d h =
     subst (λ (words : List ℕ). IsCovered (field_found c.args.directory.now.program n (desc_in d)) (length c.args.directory.now.program) words) (sym c.as_slice.ensures)
-    (fields_covered c.args.directory.now.program n (desc_in d) c.fields_of-rows.result.now c.mark_all.new.marks (c.fields_of-rows.ensures.declare n d h.name_is h.desc_is h.described) c.mark_all.ensures.marked)
+    (fields_covered c.args.directory.now.program n (desc_in d) c.fields_of-rows.result.now c.mark_all.new.marks (c.fields_of-rows.ensures.declare n d h.name_is h.desc_is h.described) (λ row there. c.mark_all.ensures.marks.marked row there refl))

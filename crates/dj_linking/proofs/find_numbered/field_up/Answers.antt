@@ -1,6 +1,6 @@
 use Rattle.std.proofs.Common.{ℕ, List, Some, length, subst, sym, ◌∙◌, ap, arith}
 use Rattle.std.specs.Option.{option_map}
-use Rattle.dj_declared.specs.Files.{desc_in}
+use Rattle.dj_declared.specs.trusted.Files.{desc_in}
 use Rattle.dj_linking.specs.Chained.{field_row}
 use Rattle.dj_linking.specs.Numbers.{AreBelow, field_found, first_some, lists_of}
 use Rattle.dj_linking.proofs.Chained.{list_told, rows_below}

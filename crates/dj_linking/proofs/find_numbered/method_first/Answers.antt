@@ -1,8 +1,8 @@
 use Rattle.std.proofs.Common.{◌≡◌, ◌∷◌, ℕ, Option, None, Some, slice_get, sym, ◌∙◌, ap, subst, if◌then◌else◌}
 use Rattle.std.specs.Option.{option_map}
-use Rattle.dj_model.specs.Program.{is_interface, flags_of}
-use Rattle.dj_model.specs.Linking.{any_method, most_classes, option_list}
-use Rattle.dj_declared.specs.Files.{desc_in}
+use Rattle.dj_model.specs.trusted.Program.{is_interface, flags_of}
+use Rattle.dj_model.specs.trusted.Linking.{any_method, most_classes, option_list}
+use Rattle.dj_declared.specs.trusted.Files.{desc_in}
 use Rattle.dj_classes.specs.Tables.{method_there}
 use Rattle.dj_linking.specs.Numbers.{method_found, numbers_up, first_some}
 use Rattle.dj_linking.proofs.Finding.{interface_set, interface_clear, first_of_class, then_of_object, no_object, of_superclasses}

@@ -1,5 +1,5 @@
 use Rattle.std.proofs.Common.{◌<◌, length, subst, sym}
-use Rattle.dj_model.specs.Program.{Program}
+use Rattle.dj_model.specs.trusted.Program.{Program}
 use Rattle.dj_linking.specs.Ranked.{AreRanksOf}
 use Rattle.dj_linking.proofs.find_numbered.method_up.Goals as goal
 

@@ -1,8 +1,8 @@
 use Rattle.std.proofs.Common.{◌<◌, ℕ, Option, None, Some, ◌∙◌, ap, length, subst, sym}
 use Rattle.std.specs.Option.{option_map}
-use Rattle.dj_model.specs.Program.{Program}
-use Rattle.dj_model.specs.Linking.{most_classes, FoundMethod}
-use Rattle.dj_declared.specs.Files.{desc_in}
+use Rattle.dj_model.specs.trusted.Program.{Program}
+use Rattle.dj_model.specs.trusted.Linking.{most_classes, FoundMethod}
+use Rattle.dj_declared.specs.trusted.Files.{desc_in}
 use Rattle.dj_classes.specs.Tables.{method_there}
 use Rattle.dj_linking.specs.Nearest.{IsNearest}
 use Rattle.dj_linking.specs.Numbers.{TellsMethod, lists_of, numbers_up}

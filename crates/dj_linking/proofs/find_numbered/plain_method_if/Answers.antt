@@ -1,6 +1,6 @@
 use Rattle.std.proofs.Common.{length}
-use Rattle.dj_model.specs.Linking.{is_plain}
-use Rattle.dj_declared.specs.Files.{desc_in}
+use Rattle.dj_model.specs.trusted.Linking.{is_plain}
+use Rattle.dj_declared.specs.trusted.Files.{desc_in}
 use Rattle.dj_linking.specs.Numbers.{method_found}
 use Rattle.dj_linking.proofs.Marking.{none_here}
 use Rattle.dj_linking.proofs.find_numbered.plain_method_if.Goals as goal

@@ -1,6 +1,6 @@
 use Rattle.std.proofs.Common.{Some, ap, ◌∙◌, inl, inr}
 use Rattle.std.specs.Option.{option_map}
-use Rattle.dj_declared.specs.Files.{desc_in}
+use Rattle.dj_declared.specs.trusted.Files.{desc_in}
 use Rattle.dj_linking.proofs.Finding.{plain_there, plain_not_there, private_set, static_set}
 use Rattle.dj_classes.specs.Tables.{method_there}
 use Rattle.dj_linking.proofs.Numbered.{method_found_at, no_plain_told}

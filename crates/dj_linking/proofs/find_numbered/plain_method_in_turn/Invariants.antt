@@ -1,6 +1,6 @@
 use Rattle.std.proofs.Common.{ℕ, List}
-use Rattle.dj_model.specs.Linking.{is_plain}
-use Rattle.dj_declared.specs.Files.{desc_in}
+use Rattle.dj_model.specs.trusted.Linking.{is_plain}
+use Rattle.dj_declared.specs.trusted.Files.{desc_in}
 use Rattle.dj_linking.specs.Numbered.{AreTexts}
 use Rattle.dj_linking.specs.Numbers.{method_found}
 use Rattle.dj_linking.proofs.Finding.{IsSearched}

@@ -1,6 +1,6 @@
 use Rattle.std.proofs.Common.{ℕ, List, length, subst, sym, ◌∙◌}
-use Rattle.dj_model.specs.Linking.{is_plain}
-use Rattle.dj_declared.specs.Files.{desc_in}
+use Rattle.dj_model.specs.trusted.Linking.{is_plain}
+use Rattle.dj_declared.specs.trusted.Files.{desc_in}
 use Rattle.dj_linking.specs.Marked.{IsCovered}
 use Rattle.dj_linking.specs.Numbers.{method_found}
 use Rattle.dj_linking.proofs.Marking.{methods_covered, no_methods}
@@ -13,4 +13,4 @@ returns-then-is_empty c n d h =
 pub plain_method_in_turn-requires-2-clause-marked : goal.plain_method_in_turn-requires-2-clause-marked
 plain_method_in_turn-requires-2-clause-marked c n d h =
     subst (λ (words : List ℕ). IsCovered (method_found c.args.directory.now.program is_plain n (desc_in d)) (length c.args.directory.now.program) words) (sym c.as_slice.ensures)
-    (methods_covered c.args.directory.now.program n (desc_in d) c.methods_of-rows.result.now c.mark_plain.new.marks (c.methods_of-rows.ensures.declare n d h.name_is h.desc_is h.described) c.mark_plain.ensures.marked)
+    (methods_covered c.args.directory.now.program n (desc_in d) c.methods_of-rows.result.now c.mark_plain.new.marks (c.methods_of-rows.ensures.declare n d h.name_is h.desc_is h.described) c.mark_plain.ensures.marks.marked)

@@ -1,7 +1,7 @@
 use Rattle.std.proofs.Common.{ℕ, List, Some, length, subst, sym, ◌∙◌, ap, arith}
 use Rattle.std.specs.Option.{option_map}
-use Rattle.dj_model.specs.Linking.{is_plain}
-use Rattle.dj_declared.specs.Files.{desc_in}
+use Rattle.dj_model.specs.trusted.Linking.{is_plain}
+use Rattle.dj_declared.specs.trusted.Files.{desc_in}
 use Rattle.dj_linking.specs.Numbers.{AreBelow, first_some, lists_of, method_found, once_above}
 use Rattle.dj_linking.proofs.Chained.{list_told, rows_below}
 use Rattle.dj_linking.proofs.Listed.{methods_found}

@@ -1,6 +1,6 @@
 use Rattle.std.proofs.Common.{◌+◌, Some, get_or, subst, sym}
 use Rattle.std.proofs.lemmas.List.{get_or_default}
-use Rattle.dj_model.specs.Linking.{most_classes}
+use Rattle.dj_model.specs.trusted.Linking.{most_classes}
 use Rattle.dj_directory.specs.declared.rows.MemberRow.{MemberRow}
 use Rattle.dj_linking.specs.Nearest.{IsNearest}
 use Rattle.dj_linking.specs.Numbers.{numbers_up}

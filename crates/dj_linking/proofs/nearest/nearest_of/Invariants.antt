@@ -1,4 +1,4 @@
-use Rattle.dj_model.specs.Linking.{most_classes}
+use Rattle.dj_model.specs.trusted.Linking.{most_classes}
 use Rattle.std.proofs.Common.{Some}
 use Rattle.dj_linking.specs.Nearest.{IsNearest}
 use Rattle.dj_linking.specs.Numbers.{numbers_up}

@@ -1,7 +1,7 @@
 use Rattle.std.proofs.Common.{ℕ, ◌<◌, ◌≡◌, true, List, length, slice_get, subst, ap, arith}
 use Rattle.std.specs.Global.{Vec}
 use Rattle.std.proofs.lemmas.List.{length-map}
-use Rattle.dj_model.specs.Program.{interfaces_of}
+use Rattle.dj_model.specs.trusted.Program.{interfaces_of}
 use Rattle.dj_linking.specs.Numbers.{has}
 use Rattle.dj_linking.proofs.Marks.{numbers_below}
 use Rattle.dj_linking.proofs.order.classes_below.Goals as goal

@@ -1,5 +1,5 @@
-use Rattle.dj_model.specs.Linking.{is_plain, most_classes}
-use Rattle.dj_declared.specs.Files.{desc_in}
+use Rattle.dj_model.specs.trusted.Linking.{is_plain, most_classes}
+use Rattle.dj_declared.specs.trusted.Files.{desc_in}
 use Rattle.dj_linking.specs.Numbers.{method_found}
 use Rattle.dj_linking.proofs.Climbs.{IsClimbed}
 use Rattle.dj_linking.proofs.select.plain_method_from.Given as goal

@@ -1,6 +1,6 @@
 use Rattle.std.proofs.Common.{Some}
 use Rattle.std.specs.Option.{option_map}
-use Rattle.dj_model.specs.Linking.{most_classes}
+use Rattle.dj_model.specs.trusted.Linking.{most_classes}
 use Rattle.dj_classes.specs.Tables.{methods_at, method_there}
 use Rattle.dj_linking.specs.Numbers.{numbers_up}
 use Rattle.dj_linking.proofs.Selections.{descriptor_there, is_private_there, not_private_there, named_there, taken_private, taken_above}

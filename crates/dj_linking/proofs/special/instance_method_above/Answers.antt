@@ -1,7 +1,7 @@
 use Rattle.std.proofs.Common.{◌<◌, ◌≤◌, ℕ, Option, IfSome, length, sym, ◌∙◌, ap, subst}
 use Rattle.std.specs.Option.{option_map}
-use Rattle.dj_model.specs.Linking.{is_not_static}
-use Rattle.dj_declared.specs.Files.{desc_in}
+use Rattle.dj_model.specs.trusted.Linking.{is_not_static}
+use Rattle.dj_declared.specs.trusted.Files.{desc_in}
 use Rattle.dj_classes.specs.Tables.{method_there, super_number}
 use Rattle.dj_linking.specs.Numbers.{method_found, most_above}
 use Rattle.dj_linking.proofs.Climbs.{IsClimbed, climb_begun, climbed_here, climbed_more, climbed_off, climbed_out, most_above_is}

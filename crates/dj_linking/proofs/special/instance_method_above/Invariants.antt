@@ -1,5 +1,5 @@
-use Rattle.dj_model.specs.Linking.{is_not_static}
-use Rattle.dj_declared.specs.Files.{desc_in}
+use Rattle.dj_model.specs.trusted.Linking.{is_not_static}
+use Rattle.dj_declared.specs.trusted.Files.{desc_in}
 use Rattle.dj_classes.specs.Tables.{super_number}
 use Rattle.dj_linking.specs.Numbers.{method_found, most_above}
 use Rattle.dj_linking.proofs.Climbs.{IsClimbed}

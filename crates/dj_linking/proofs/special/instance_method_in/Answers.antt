@@ -1,4 +1,4 @@
-use Rattle.dj_declared.specs.Files.{desc_in}
+use Rattle.dj_declared.specs.trusted.Files.{desc_in}
 use Rattle.dj_linking.proofs.Climbs.{instance_there, static_there}
 use Rattle.dj_linking.proofs.special.instance_method_in.Goals as goal
 

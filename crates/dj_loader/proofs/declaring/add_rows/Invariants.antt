@@ -1,6 +1,6 @@
 use Rattle.std.proofs.Common.{◌≡◌, ◌++◌, map, take}
 use Rattle.dj_natives.specs.Views.{library_view}
-use Rattle.dj_model.specs.Libraries.{library_class}
+use Rattle.dj_model.specs.trusted.Libraries.{library_class}
 use Rattle.dj_loader.proofs.declaring.add_rows.Given as goal
 
 abbrev pub invariant-loop-row : goal.invariant-loop-row

@@ -1,6 +1,6 @@
 use Rattle.std.proofs.Common.{map, take}
 use Rattle.dj_class.specs.Members.{member_of}
-use Rattle.dj_program.specs.Programs.{AreSideBySide}
+use Rattle.dj_program.specs.trusted.Programs.{AreSideBySide}
 use Rattle.dj_loader.specs.Filed.{IsCodeFor}
 use Rattle.dj_loader.proofs.file_parts.codes_of.Given as goal
 

@@ -1,6 +1,6 @@
 use Rattle.std.proofs.Common.{◌≡◌, ℕ, set, Some, sym, ap, ◌∙◌, arith}
 use Rattle.dj_class.specs.Views.{class_of}
-use Rattle.dj_rules.specs.Violations.{this_name}
+use Rattle.dj_rules.specs.trusted.Violations.{this_name}
 use Rattle.dj_classes.specs.Tables.{class_number}
 use Rattle.dj_classes.proofs.Numbered.{class_number-within}
 use Rattle.dj_loader.proofs.Owned.{owners_more}

@@ -1,5 +1,5 @@
 use Rattle.std.proofs.Common.{sym, subst}
-use Rattle.dj_pool.specs.Pool.{IsPool}
+use Rattle.dj_pool.specs.trusted.Pool.{IsPool}
 use Rattle.dj_loader.proofs.BareFacts.{no_constants}
 use Rattle.dj_loader.proofs.parts.bare_parts.Goals as goal
 

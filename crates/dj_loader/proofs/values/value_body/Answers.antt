@@ -2,8 +2,8 @@ use Rattle.std.proofs.Common.{ℕ, List, [], get_or, ap, ◌∙◌, sym, codes}
 use Rattle.std.specs.Prelude.{slice_get}
 use Rattle.std.proofs.lemmas.List.{get_or_default}
 use Rattle.dj_class.specs.declared.class.Attribute.{Attribute}
-use Rattle.dj_class.specs.ClassFile.{AttributeInfo}
-use Rattle.dj_check.specs.Attributes.{bodies_of}
+use Rattle.dj_class.specs.trusted.ClassFile.{AttributeInfo}
+use Rattle.dj_check.specs.trusted.Attributes.{bodies_of}
 use Rattle.dj_loader.proofs.FieldValues.{still_none, first_body}
 use Rattle.dj_loader.proofs.values.value_body.Goals as goal
 

@@ -1,6 +1,6 @@
 use Rattle.std.proofs.Common.{◌≡◌, map, take}
 use Rattle.dj_class.specs.Members.{member_of}
-use Rattle.dj_program.specs.Naming.{constant_in}
+use Rattle.dj_program.specs.trusted.Naming.{constant_in}
 use Rattle.dj_loader.specs.Filed.{told_value}
 use Rattle.dj_loader.proofs.values.values_of.Given as goal
 

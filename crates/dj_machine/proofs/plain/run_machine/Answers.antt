@@ -1,4 +1,4 @@
-use Rattle.dj_host.specs.Hosted.{given_since}
+use Rattle.dj_host.specs.trusted.Hosted.{given_since}
 use Rattle.dj_machine.proofs.EngineLaws.{ended_on, spent_on}
 use Rattle.dj_machine.proofs.plain.run_machine.Goals as goal
 

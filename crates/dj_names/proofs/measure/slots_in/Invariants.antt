@@ -1,5 +1,5 @@
 use Rattle.std.proofs.Common.{◌≡◌, sum_by, take}
-use Rattle.dj_names.specs.Descriptors.{type_slots}
+use Rattle.dj_names.specs.trusted.Descriptors.{type_slots}
 use Rattle.dj_names.proofs.measure.slots_in.Given as goal
 
 -- the slots of the types so far

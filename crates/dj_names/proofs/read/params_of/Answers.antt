@@ -2,8 +2,9 @@ use Rattle.std.proofs.Common.{◌≡◌, ◌+◌, ◌-◌, ◌<◌, ◌≤◌, �
 use Rattle.std.proofs.lemmas.Result.{err_from_is_err_and}
 use Rattle.dj_bytes.specs.Options.{Fails}
 use Rattle.dj_names.specs.declared.descriptor.Ty.{Ty}
-use Rattle.dj_names.specs.Descriptors.{type_slots}
-use Rattle.dj_names.specs.DescReading.{params_read, is_memory}
+use Rattle.dj_names.specs.trusted.Descriptors.{type_slots}
+use Rattle.dj_names.specs.trusted.DescReading.{params_read}
+use Rattle.dj_names.specs.DescReading.{is_memory}
 use Rattle.dj_names.proofs.DescLaws.{with_front, read_one_more, read_fails, read_is_full}
 use Rattle.dj_names.proofs.read.params_of.Goals as goal
 

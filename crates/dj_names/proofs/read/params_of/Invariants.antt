@@ -1,5 +1,5 @@
 use Rattle.std.proofs.Common.{◌≡◌, ◌≤◌, ◌-◌, length}
-use Rattle.dj_names.specs.DescReading.{params_read}
+use Rattle.dj_names.specs.trusted.DescReading.{params_read}
 use Rattle.dj_names.proofs.DescLaws.{with_front}
 use Rattle.dj_names.proofs.read.params_of.Given as goal
 

@@ -1,5 +1,5 @@
 use Rattle.std.proofs.Common.{length}
-use Rattle.dj_names.specs.ModifiedUtf8.{IsModifiedUtf8}
+use Rattle.dj_names.specs.trusted.ModifiedUtf8.{IsModifiedUtf8}
 use Rattle.dj_names.proofs.text.spells_units.Given as goal
 
 -- the rest decides

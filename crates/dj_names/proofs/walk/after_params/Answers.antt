@@ -1,7 +1,8 @@
 use Rattle.std.proofs.Common.{◌≡◌, ◌+◌, ◌-◌, ◌≤◌, ℕ, length, sym, ap, ◌∙◌, arith}
 use Rattle.dj_names.specs.declared.descriptor.Ty.{Ty}
-use Rattle.dj_names.specs.Descriptors.{type_slots}
-use Rattle.dj_names.specs.DescReading.{element_of, params_read}
+use Rattle.dj_names.specs.trusted.Descriptors.{type_slots}
+use Rattle.dj_names.specs.trusted.DescReading.{params_read}
+use Rattle.dj_names.specs.DescReading.{element_of}
 use Rattle.dj_names.proofs.DescLaws.{after_all, walk_goes_on}
 use Rattle.dj_names.proofs.walk.after_params.Goals as goal
 

@@ -1,6 +1,6 @@
 use Rattle.std.proofs.Common.{◌≡◌, ◌≤◌, ◌-◌, length}
 use Rattle.std.specs.Prelude.{option_map}
-use Rattle.dj_names.specs.DescReading.{params_read}
+use Rattle.dj_names.specs.trusted.DescReading.{params_read}
 use Rattle.dj_names.proofs.walk.after_params.Given as goal
 
 -- the rest decides, with the slots so far before it

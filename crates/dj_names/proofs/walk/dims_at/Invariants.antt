@@ -1,5 +1,5 @@
 use Rattle.std.proofs.Common.{◌≡◌, length}
-use Rattle.dj_names.specs.DescReading.{dims_read}
+use Rattle.dj_names.specs.trusted.DescReading.{dims_read}
 use Rattle.dj_names.proofs.walk.dims_at.Given as goal
 
 -- the rest decides

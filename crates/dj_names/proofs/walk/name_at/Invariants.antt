@@ -1,5 +1,5 @@
 use Rattle.std.proofs.Common.{◌≡◌, ◌≤◌, length, take, drop, []}
-use Rattle.dj_names.specs.DescReading.{name_read}
+use Rattle.dj_names.specs.trusted.DescReading.{name_read}
 use Rattle.dj_names.proofs.walk.name_at.Given as goal
 
 -- the rest decides

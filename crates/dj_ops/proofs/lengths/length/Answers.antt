@@ -1,7 +1,7 @@
 use Rattle.std.proofs.Common.{◌≡◌, ℕ, ◌+◌, ◌*◌, ℤ, List, length, sym, ap, ◌∙◌, arith}
 use Rattle.dj_ops.specs.declared.instruction.Instr.{Instr}
 use Rattle.dj_ops.specs.declared.instruction.Instr.TheVariants as instrs
-use Rattle.dj_ops.specs.Instructions.{padding_count, length_at}
+use Rattle.dj_ops.specs.trusted.Instructions.{padding_count, length_at}
 use Rattle.dj_ops.proofs.Sizes.{table_length, lookup_length}
 use Rattle.dj_ops.proofs.lengths.length.Goals as goal
 

@@ -1,8 +1,9 @@
 use Rattle.std.proofs.Common.{◌∷◌, ℤ, FitsSigned, List, ℕ, w64, to_z, of_z, sym, subst, arith}
 use Rattle.std.specs.Int.{w16}
 use Rattle.std.proofs.lemmas.Int.{to_z-of_z}
-use Rattle.dj_ops.specs.Forms.{Form, form_of}
-use Rattle.dj_ops.specs.Instructions.{signed_bytes, IsOffset, offset, Appended}
+use Rattle.dj_ops.specs.trusted.Forms.{Form, form_of}
+use Rattle.dj_ops.specs.trusted.Instructions.{signed_bytes, IsOffset, offset}
+use Rattle.dj_ops.specs.Instructions.{Appended}
 use Rattle.dj_ops.proofs.FormFacts.{short_form, long_form}
 use Rattle.dj_ops.proofs.write.write_branch.Goals as goal
 

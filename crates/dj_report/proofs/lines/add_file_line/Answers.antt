@@ -1,6 +1,7 @@
 use Rattle.std.proofs.Common.{◌≡◌, None, subst, ◌∙◌}
 use Rattle.dj_report.specs.declared.report.Violation.{Violation}
-use Rattle.dj_report.specs.Lines.{file_line, Adds}
+use Rattle.dj_report.specs.trusted.Lines.{file_line}
+use Rattle.dj_report.specs.Lines.{Adds}
 use Rattle.dj_report.proofs.Adding.{on_ok}
 use Rattle.dj_report.proofs.lines.add_file_line.Goals as goal
 

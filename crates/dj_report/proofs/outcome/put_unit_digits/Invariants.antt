@@ -1,6 +1,6 @@
 use Rattle.std.proofs.Common.{◌≡◌, ◌++◌, take}
 use Rattle.std.specs.List.{flat_map}
-use Rattle.dj_report.specs.Outcomes.{unit_hex}
+use Rattle.dj_report.specs.trusted.Outcomes.{unit_hex}
 use Rattle.dj_report.proofs.outcome.put_unit_digits.Given as goal
 
 abbrev pub invariant-loop-unit : goal.invariant-loop-unit

@@ -1,6 +1,6 @@
 use Rattle.std.proofs.Common.{◌≡◌, ◌++◌, take}
 use Rattle.std.specs.List.{flat_map}
-use Rattle.dj_report.specs.Text.{violation_text}
+use Rattle.dj_report.specs.trusted.Text.{violation_text}
 use Rattle.dj_report.proofs.put.put_violations.Given as goal
 
 abbrev pub invariant-loop-violation : goal.invariant-loop-violation

@@ -1,6 +1,6 @@
 use Rattle.std.proofs.Common.{ℕ, ◌≡◌, ◌∙◌, List, get_or, map, sym, ap, subst}
 use Rattle.std.proofs.lemmas.List.{take_all}
-use Rattle.dj_pool.specs.Pool.{text_at}
+use Rattle.dj_pool.specs.trusted.Pool.{text_at}
 use Rattle.dj_rules.specs.Lines.{texts_of, turned_texts_of}
 use Rattle.dj_rules.proofs.PairTexts.{turned_more}
 use Rattle.dj_rules.proofs.texts.turned.Goals as goal

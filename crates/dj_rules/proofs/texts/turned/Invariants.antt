@@ -1,5 +1,5 @@
 use Rattle.std.proofs.Common.{◌≡◌, map, take}
-use Rattle.dj_pool.specs.Pool.{text_at}
+use Rattle.dj_pool.specs.trusted.Pool.{text_at}
 use Rattle.dj_rules.specs.Lines.{texts_of, turned_texts_of}
 use Rattle.dj_rules.proofs.texts.turned.Given as goal
 

@@ -1,7 +1,7 @@
 use Rattle.std.proofs.Common.{◌≡◌, List, ℕ, subst, sym}
 use Rattle.dj_class.specs.Views.{class_of}
-use Rattle.dj_report.specs.Lines.{file_line}
-use Rattle.dj_rules.specs.Violations.{IsNamedAs, this_name}
+use Rattle.dj_report.specs.trusted.Lines.{file_line}
+use Rattle.dj_rules.specs.trusted.Violations.{IsNamedAs, this_name}
 use Rattle.dj_report.proofs.Adding.{adds_when, not_both}
 use Rattle.dj_rules.proofs.whole.add_name_lines.Goals as goal
 

@@ -1,7 +1,7 @@
 use Rattle.std.proofs.Common.{◌≡◌}
 use Rattle.dj_class.specs.Views.{class_of}
-use Rattle.dj_report.specs.Lines.{file_line}
-use Rattle.dj_rules.specs.Violations.{HasOtherVersion}
+use Rattle.dj_report.specs.trusted.Lines.{file_line}
+use Rattle.dj_rules.specs.trusted.Violations.{HasOtherVersion}
 use Rattle.dj_report.proofs.Adding.{adds_when}
 use Rattle.dj_rules.proofs.whole.add_version_lines.Goals as goal
 

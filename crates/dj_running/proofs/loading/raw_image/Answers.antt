@@ -1,8 +1,8 @@
 use Rattle.std.proofs.Common.{◌≡◌, map, subst, sym, ◌∙◌, arith}
-use Rattle.dj_names.specs.Library.{Library, raw_library}
+use Rattle.dj_names.specs.trusted.Library.{Library, raw_library}
 use Rattle.dj_natives.specs.Views.{library_view}
 use Rattle.dj_class.specs.Views.{class_of}
-use Rattle.dj_program.specs.Programs.{IsProgramIn}
+use Rattle.dj_program.specs.trusted.Programs.{IsProgramIn}
 use Rattle.dj_image.specs.Imaged.{program_of}
 use Rattle.dj_loader.specs.declared.error.LoadError.TheVariants as errors
 use Rattle.dj_sandbox.proofs.LateLaws.{ok_mapped}

@@ -1,10 +1,10 @@
 use Rattle.std.proofs.Common.{IfOk, sym, subst, arith}
-use Rattle.dj_model.specs.Types.{Declared}
+use Rattle.dj_model.specs.trusted.Types.{Declared}
 use Rattle.dj_model.specs.Standing.{IsEntry}
 use Rattle.dj_image.specs.Imaged.{program_of}
-use Rattle.dj_host.specs.Hosted.{given_since}
+use Rattle.dj_host.specs.trusted.Hosted.{given_since}
 use Rattle.dj_machine.specs.Engines.{RunsPlainly}
-use Rattle.dj_sandbox.specs.Limits.{most_heap_bytes}
+use Rattle.dj_sandbox.specs.trusted.Limits.{most_heap_bytes}
 use Rattle.dj_running.specs.Runs.{no_limits}
 use Rattle.dj_running.proofs.raw_run.run_image.Goals as goal
 

@@ -2,7 +2,7 @@ use Rattle.std.proofs.Common.{◌≤◌, List, map, length, sym, subst}
 use Rattle.dj_class.specs.declared.class.ClassView.{ClassView}
 use Rattle.dj_class.specs.Views.{class_of}
 use Rattle.dj_rules.specs.Views.{path_file_view}
-use Rattle.dj_sandbox.specs.Checked.{AreGoodFiles}
+use Rattle.dj_sandbox.specs.trusted.Checked.{AreGoodFiles}
 use Rattle.dj_running.proofs.LoadingLaws.{good_of, whole_files, valid_views, whole_views, few_views, loadable_views}
 use Rattle.dj_running.proofs.RunLaws.{image_is}
 use Rattle.dj_running.proofs.running.image_of_files.Goals as goal

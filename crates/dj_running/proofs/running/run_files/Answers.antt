@@ -1,7 +1,7 @@
 use Rattle.std.proofs.Common.{map}
 use Rattle.std.proofs.lemmas.Result.{err_from_is_err_and}
 use Rattle.dj_rules.specs.Views.{path_file_view}
-use Rattle.dj_host.specs.Hosted.{given_since}
+use Rattle.dj_host.specs.trusted.Hosted.{given_since}
 use Rattle.dj_running.proofs.GivenNothing.{gave_nothing}
 use Rattle.dj_running.proofs.RunLaws.{image_sound, image_entry, runs_unstopped, runs_raw, adds_told, adds_nothing}
 use Rattle.dj_running.proofs.running.run_files.Goals as goal

@@ -1,7 +1,7 @@
 use Rattle.std.proofs.Common.{ℕ, ◌==◌, if◌then◌else◌, ap, ◌∙◌}
 use Rattle.std.proofs.lemmas.List.{take_all}
-use Rattle.dj_names.specs.ModifiedUtf8.{units_text}
-use Rattle.dj_sandbox.specs.Entry.{with_slashes}
+use Rattle.dj_names.specs.trusted.ModifiedUtf8.{units_text}
+use Rattle.dj_sandbox.specs.trusted.Entry.{with_slashes}
 use Rattle.dj_sandbox.proofs.Entries.{spelled_more}
 use Rattle.dj_sandbox.proofs.entry.entry_name.Goals as goal
 

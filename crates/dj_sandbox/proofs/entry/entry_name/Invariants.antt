@@ -1,6 +1,6 @@
 use Rattle.std.proofs.Common.{◌≡◌, take}
-use Rattle.dj_names.specs.ModifiedUtf8.{units_text}
-use Rattle.dj_sandbox.specs.Entry.{with_slashes}
+use Rattle.dj_names.specs.trusted.ModifiedUtf8.{units_text}
+use Rattle.dj_sandbox.specs.trusted.Entry.{with_slashes}
 use Rattle.dj_sandbox.proofs.entry.entry_name.Given as goal
 
 abbrev pub invariant-loop-unit : goal.invariant-loop-unit

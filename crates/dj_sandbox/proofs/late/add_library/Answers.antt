@@ -1,7 +1,7 @@
 use Rattle.std.proofs.Common.{◌++◌, ◌∙◌, List, map, sym, ap, subst}
 use Rattle.dj_natives.specs.Views.{library_view}
-use Rattle.dj_model.specs.Program.{Class}
-use Rattle.dj_model.specs.Libraries.{library_class}
+use Rattle.dj_model.specs.trusted.Program.{Class}
+use Rattle.dj_model.specs.trusted.Libraries.{library_class}
 use Rattle.dj_report.proofs.Adding.{on_ok}
 use Rattle.dj_sandbox.specs.Late.{IsJudging}
 use Rattle.dj_sandbox.proofs.LateLaws.{rows_mapped}

@@ -1,5 +1,5 @@
 use Rattle.std.proofs.Common.{◌+◌, List, map, take, sym, subst}
-use Rattle.dj_model.specs.Program.{Class}
+use Rattle.dj_model.specs.trusted.Program.{Class}
 use Rattle.dj_rules.specs.Views.{path_file_view}
 use Rattle.dj_sandbox.specs.Late.{IsDeclaredFrom, AreDeclared}
 use Rattle.dj_sandbox.proofs.LateLaws.{one_more_declared, has_malformed}

@@ -1,7 +1,7 @@
 use Rattle.std.proofs.Common.{List, [], ap, ◌∙◌}
 use Rattle.dj_edge.proofs.Lists.{ok_so}
-use Rattle.dj_model.specs.Program.{Class}
-use Rattle.dj_model.specs.Libraries.{joined}
+use Rattle.dj_model.specs.trusted.Program.{Class}
+use Rattle.dj_model.specs.trusted.Libraries.{joined}
 use Rattle.dj_loader.proofs.Moved.{rise_of_table}
 use Rattle.dj_natives.specs.Views.{library_view}
 use Rattle.dj_sandbox.specs.Late.{IsLinkOf, AreLinksOf}

@@ -3,7 +3,7 @@ use Rattle.std.specs.Option.{option_map}
 use Rattle.std.specs.Global.{Vec}
 use Rattle.dj_edge.proofs.Lists.{ok_so}
 use Rattle.dj_natives.specs.Views.{library_view}
-use Rattle.dj_model.specs.Program.{Class}
+use Rattle.dj_model.specs.trusted.Program.{Class}
 use Rattle.dj_rules.specs.Views.{path_file_view}
 use Rattle.dj_sandbox.specs.Late.{AreDeclaredOrNot, AreLinksOf, AreLinks}
 use Rattle.dj_sandbox.proofs.LateLaws.{few_declared, are_links}

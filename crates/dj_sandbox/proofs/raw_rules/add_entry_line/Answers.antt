@@ -1,9 +1,10 @@
 use Rattle.std.proofs.Common.{◌≡◌, ◌++◌, ◌∙◌, IsFalse, codes, sym, subst}
 use Rattle.dj_report.specs.declared.report.Violation.{Violation}
-use Rattle.dj_report.specs.Lines.{file_line, Adds}
+use Rattle.dj_report.specs.trusted.Lines.{file_line}
+use Rattle.dj_report.specs.Lines.{Adds}
 use Rattle.dj_report.proofs.Adding.{adds_nothing, adds_when, not_both}
 use Rattle.dj_sandbox.specs.RawEntry.{EntryLine}
-use Rattle.dj_sandbox.specs.RawRules.{runs_entry}
+use Rattle.dj_sandbox.specs.trusted.RawRules.{runs_entry}
 use Rattle.dj_sandbox.proofs.raw_rules.add_entry_line.Goals as goal
 
 pub returns-then-runs_entry : goal.returns-then-runs_entry

@@ -2,7 +2,7 @@ use Rattle.std.proofs.Common.{[]}
 use Rattle.dj_edge.proofs.Lists.{ok_so}
 use Rattle.dj_report.specs.Lines.{Adds}
 use Rattle.dj_sandbox.specs.RawEntry.{EntryLine}
-use Rattle.dj_sandbox.specs.RawRules.{IsRawLine}
+use Rattle.dj_sandbox.specs.trusted.RawRules.{IsRawLine}
 use Rattle.dj_sandbox.proofs.RawLaws.{raw_found, raw_broken}
 use Rattle.dj_sandbox.proofs.raw_rules.raw_lines.Goals as goal
 

@@ -1,7 +1,7 @@
 use Rattle.std.proofs.Common.{List, Option, map, subst, sym}
 use Rattle.dj_straight.specs.declared.program.StraightMethod.{StraightMethod}
 use Rattle.dj_straight.specs.declared.program.StraightClass.{StraightClass}
-use Rattle.dj_sandbox.specs.Entry.{IsShapeLine, IsShapeLineOf}
+use Rattle.dj_sandbox.specs.trusted.Entry.{IsShapeLine, IsShapeLineOf}
 use Rattle.dj_report.specs.Lines.{Adds}
 use Rattle.dj_straight.specs.Methods.{method_view, program_view}
 use Rattle.dj_rules.specs.Views.{path_file_view}

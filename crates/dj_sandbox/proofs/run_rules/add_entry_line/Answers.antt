@@ -1,9 +1,10 @@
 use Rattle.std.proofs.Common.{◌≡◌, ◌++◌, ℕ, List, None, IsFalse, codes, ap, sym, subst, ◌∙◌}
 use Rattle.dj_report.specs.declared.report.Violation.{Violation}
-use Rattle.dj_report.specs.Lines.{file_line, Adds}
+use Rattle.dj_report.specs.trusted.Lines.{file_line}
+use Rattle.dj_report.specs.Lines.{Adds}
 use Rattle.dj_report.proofs.Adding.{adds_when}
 use Rattle.dj_straight.specs.Methods.{program_view}
-use Rattle.dj_sandbox.specs.Entry.{has_entry}
+use Rattle.dj_sandbox.specs.trusted.Entry.{has_entry}
 use Rattle.dj_sandbox.proofs.run_rules.add_entry_line.Goals as goal
 
 pub returns : goal.returns

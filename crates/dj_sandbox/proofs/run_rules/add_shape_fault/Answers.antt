@@ -1,7 +1,8 @@
 use Rattle.std.proofs.Common.{◌≡◌, ◌++◌, ℕ, List, Some, ap, subst, ◌∙◌}
 use Rattle.dj_report.specs.declared.report.Violation.{Violation}
 use Rattle.dj_report.specs.Lines.{Adds}
-use Rattle.dj_straight.specs.Methods.{straight_descriptor, method_view}
+use Rattle.dj_straight.specs.trusted.Methods.{straight_descriptor}
+use Rattle.dj_straight.specs.Methods.{method_view}
 use Rattle.dj_sandbox.specs.Shaped.{shape_line}
 use Rattle.dj_sandbox.proofs.run_rules.add_shape_fault.Goals as goal
 

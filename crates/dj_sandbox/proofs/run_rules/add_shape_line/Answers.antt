@@ -1,7 +1,8 @@
 use Rattle.std.proofs.Common.{ℕ, Some, arith}
 use Rattle.std.proofs.lemmas.Option.{MatchOption-at_none, MatchOption-at_some}
-use Rattle.dj_straight.specs.Shape.{IsShapeFault}
-use Rattle.dj_straight.specs.Methods.{code_view, straight_signature}
+use Rattle.dj_straight.specs.trusted.Shape.{IsShapeFault}
+use Rattle.dj_straight.specs.trusted.Methods.{straight_signature}
+use Rattle.dj_straight.specs.Methods.{code_view}
 use Rattle.dj_sandbox.specs.Shaped.{IsShaped}
 use Rattle.dj_report.proofs.Adding.{on_ok}
 use Rattle.dj_sandbox.proofs.RunRules.{adds_fault, adds_no_fault}

@@ -1,7 +1,7 @@
 use Rattle.std.proofs.Common.{List, map, subst, ◌∙◌}
 use Rattle.std.proofs.lemmas.List.{length-map}
 use Rattle.dj_report.specs.declared.report.Violation.{Violation}
-use Rattle.dj_sandbox.specs.Entry.{IsShapeLineOf}
+use Rattle.dj_sandbox.specs.trusted.Entry.{IsShapeLineOf}
 use Rattle.dj_report.specs.Lines.{Adds}
 use Rattle.dj_straight.specs.Methods.{program_view}
 use Rattle.dj_rules.specs.Views.{path_file_view}

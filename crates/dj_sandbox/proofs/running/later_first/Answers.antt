@@ -3,8 +3,8 @@ use Rattle.std.specs.Prelude.{slice_get}
 use Rattle.std.specs.Option.{option_copied}
 use Rattle.dj_report.specs.declared.report.PathFile.{PathFile}
 use Rattle.dj_report.specs.declared.report.Report.TheVariants.{Later}
-use Rattle.dj_straight.specs.Straight.{IsNotStraight}
-use Rattle.dj_sandbox.specs.Judging.{IsFirstPath}
+use Rattle.dj_straight.specs.trusted.Straight.{IsNotStraight}
+use Rattle.dj_sandbox.specs.trusted.Judging.{IsFirstPath}
 use Rattle.dj_rules.specs.Views.{path_file_view}
 use Rattle.dj_edge.proofs.Lists.{ok_so}
 use Rattle.dj_sandbox.proofs.running.later_first.Goals as goal

@@ -1,7 +1,7 @@
 use Rattle.std.proofs.Common.{List, subst}
-use Rattle.dj_edge.specs.Held.{File}
-use Rattle.dj_report.specs.Stages.{IsDecided}
-use Rattle.dj_sandbox.specs.Judging.{run_stages}
+use Rattle.dj_edge.specs.trusted.Held.{File}
+use Rattle.dj_report.specs.trusted.Stages.{IsDecided}
+use Rattle.dj_sandbox.specs.trusted.Judging.{run_stages}
 use Rattle.dj_sandbox.proofs.Lending.{lent_view, lent_short}
 use Rattle.dj_sandbox.proofs.running.verify.Goals as goal
 

@@ -1,14 +1,14 @@
 use Rattle.std.proofs.Common.{◌≡◌, ◌≢◌, ◌==◌, List, [], ◌∷◌, map, length, ap, false, true≢false, ◌∙◌, refl, sym, subst, inl, inr}
 use Rattle.std.proofs.lemmas.List.{length-map}
-use Rattle.dj_edge.specs.Held.{File}
-use Rattle.dj_straight.specs.Program.{Program}
-use Rattle.dj_straight.specs.Straight.{IsStraightSet}
+use Rattle.dj_edge.specs.trusted.Held.{File}
+use Rattle.dj_straight.specs.trusted.Program.{Program}
+use Rattle.dj_straight.specs.trusted.Straight.{IsStraightSet}
 use Rattle.dj_edge.proofs.Lists.{nil_of_empty}
-use Rattle.dj_rules.specs.Violations.{AreViolations}
+use Rattle.dj_rules.specs.trusted.Violations.{AreViolations}
 use Rattle.dj_rules.specs.Views.{path_file_view}
 use Rattle.dj_straight.specs.Methods.{program_view}
 use Rattle.dj_straight.proofs.Straights.{no_initialisers}
-use Rattle.dj_sandbox.specs.Entry.{AreRunViolations}
+use Rattle.dj_sandbox.specs.trusted.Entry.{AreRunViolations}
 use Rattle.dj_sandbox.proofs.RunRules.{entry_is_there}
 use Rattle.dj_sandbox.proofs.running.verify_files.Goals as goal
 

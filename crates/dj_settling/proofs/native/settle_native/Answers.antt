@@ -1,7 +1,7 @@
 use Rattle.std.proofs.Common.{◌≡◌, Some, subst, sym}
 use Rattle.std.specs.Prelude.{Ok, IfOk}
 use Rattle.dj_names.specs.declared.run.Outcome.TheVariants as outcomes
-use Rattle.dj_model.specs.State.{Goes, Next, End}
+use Rattle.dj_model.specs.trusted.State.{Goes, Next, End}
 use Rattle.dj_calls.specs.Calls.{flow_told, given}
 use Rattle.dj_calls.specs.declared.answer.NativeAnswer.{NativeAnswer}
 use Rattle.dj_image.specs.Imaged.{program_of}

@@ -1,5 +1,5 @@
 use Rattle.std.proofs.Common.{◌++◌, refl}
-use Rattle.dj_names.specs.Values.{raised_class}
+use Rattle.dj_names.specs.trusted.Values.{raised_class}
 use Rattle.dj_settling.proofs.RaiseLaws.{class_lacks, class_told}
 use Rattle.dj_settling.proofs.raising.class_of.Goals as goal
 

@@ -1,5 +1,5 @@
 use Rattle.std.proofs.Common.{ap, sym, ◌∙◌}
-use Rattle.dj_program.specs.Naming.{instruction_in}
+use Rattle.dj_program.specs.trusted.Naming.{instruction_in}
 use Rattle.dj_shape.specs.Works.{work_of}
 use Rattle.dj_shape.proofs.Told.{member_done}
 use Rattle.dj_shape.proofs.apply.effect_of.Goals as goal

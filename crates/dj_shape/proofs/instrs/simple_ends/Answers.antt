@@ -1,5 +1,5 @@
 use Rattle.std.proofs.Common.{◌∙◌, ap, sym}
-use Rattle.dj_model.specs.Instructions.{Instruction, Nothing, ends}
+use Rattle.dj_model.specs.trusted.Instructions.{Instruction, Nothing, ends}
 use Rattle.dj_shape.proofs.Forms.{early, late}
 use Rattle.dj_shape.proofs.instrs.simple_ends.Goals as goal
 

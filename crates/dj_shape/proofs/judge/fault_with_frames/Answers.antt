@@ -1,11 +1,11 @@
 use Rattle.std.proofs.Common.{◌∙◌, List, Some, map, ap, sym}
 use Rattle.dj_ops.specs.declared.instruction.Instr.{Instr}
 use Rattle.dj_ops.specs.declared.frames.Frame.{Frame}
-use Rattle.dj_program.specs.Naming.{instruction_in}
-use Rattle.dj_program.specs.Codes.{code_in}
-use Rattle.dj_model.specs.Instructions.{makes_uninitialised}
+use Rattle.dj_program.specs.trusted.Naming.{instruction_in}
+use Rattle.dj_program.specs.trusted.Codes.{code_in}
+use Rattle.dj_model.specs.trusted.Instructions.{makes_uninitialised}
 use Rattle.dj_program.specs.Views.{parts_of}
-use Rattle.dj_model.specs.Kinds.{entry_slots}
+use Rattle.dj_model.specs.trusted.Kinds.{entry_slots}
 use Rattle.dj_shape.specs.Reading.{signature_with}
 use Rattle.dj_shape.proofs.Works.{ok_more}
 use Rattle.dj_shape.proofs.Judging.{unfit, unfit_fault, fit_and_first, slots_same, in_code, err_fault, ok_fault}

@@ -1,8 +1,8 @@
 use Rattle.std.proofs.Common.{◌∙◌, List, ap, map, sym}
 use Rattle.dj_ops.specs.declared.instruction.Instr.{Instr}
 use Rattle.dj_labels.specs.declared.labelled.Protected.{Protected}
-use Rattle.dj_program.specs.Naming.{instruction_in}
-use Rattle.dj_program.specs.Codes.{range_in}
+use Rattle.dj_program.specs.trusted.Naming.{instruction_in}
+use Rattle.dj_program.specs.trusted.Codes.{range_in}
 use Rattle.dj_shape.proofs.Works.{ok_more}
 use Rattle.dj_shape.proofs.judge.judge.Goals as goal
 

@@ -1,7 +1,7 @@
 use Rattle.std.proofs.Common.{◌∙◌, Option, sym, subst}
-use Rattle.dj_model.specs.Kinds.{call_signature}
-use Rattle.dj_declared.specs.Files.{desc_in, name_in}
-use Rattle.dj_program.specs.Codes.{code_in}
+use Rattle.dj_model.specs.trusted.Kinds.{call_signature}
+use Rattle.dj_declared.specs.trusted.Files.{desc_in, name_in}
+use Rattle.dj_program.specs.trusted.Codes.{code_in}
 use Rattle.dj_program.specs.Views.{parts_of}
 use Rattle.dj_shape.specs.declared.judge.ShapeFault.{ShapeFault}
 use Rattle.dj_shape.specs.Rule.{IsShapeAnswer}

@@ -1,9 +1,9 @@
 use Rattle.std.proofs.Common.{◌≡◌, ◌+◌, ℕ, List, Option, length, arith, ap, ◌∙◌}
 use Rattle.dj_names.specs.declared.descriptor.Kind.{Kind}
 use Rattle.dj_names.specs.declared.descriptor.Kind.TheVariants as kinds
-use Rattle.dj_model.specs.Kinds.{kind_slots}
-use Rattle.dj_model.specs.Numbers.{is_wide}
-use Rattle.dj_model.specs.Values.{last_slot, stored}
+use Rattle.dj_model.specs.trusted.Kinds.{kind_slots}
+use Rattle.dj_model.specs.trusted.Numbers.{is_wide}
+use Rattle.dj_model.specs.trusted.Values.{last_slot, stored}
 use Rattle.dj_shape.proofs.States.{seam, stored_kept}
 use Rattle.dj_shape.proofs.kinds.store_in.Goals as goal
 

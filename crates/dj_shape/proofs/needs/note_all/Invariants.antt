@@ -1,6 +1,6 @@
 use Rattle.std.proofs.Common.{◌≡◌, ℕ, ◌<◌, ◌≤◌, List, ◌++◌, Option, length}
 use Rattle.dj_names.specs.declared.descriptor.Kind.{Kind}
-use Rattle.dj_model.specs.Values.{local_at}
+use Rattle.dj_model.specs.trusted.Values.{local_at}
 use Rattle.dj_shape.specs.Needs.{need_at, raised}
 use Rattle.dj_shape.proofs.needs.note_all.Given as goal
 

@@ -1,5 +1,5 @@
 use Rattle.std.proofs.Common.{◌≡◌, drop}
-use Rattle.dj_model.specs.Members.{kinds_of}
+use Rattle.dj_model.specs.trusted.Members.{kinds_of}
 use Rattle.dj_shape.proofs.Keeping.{prefixed}
 use Rattle.dj_shape.proofs.pool.kinds_of.Given as goal
 

@@ -3,7 +3,7 @@ use Rattle.std.proofs.lemmas.List.{take_more, take_all}
 use Rattle.dj_names.specs.declared.descriptor.Kind.{Kind}
 use Rattle.dj_ops.specs.declared.frames.VType.{VType}
 use Rattle.dj_ops.specs.declared.frames.VType.TheVariants as types
-use Rattle.dj_model.specs.Kinds.{entries_of}
+use Rattle.dj_model.specs.trusted.Kinds.{entries_of}
 use Rattle.dj_shape.specs.Reading.{Gains, frame_code, entry_view}
 use Rattle.dj_shape.proofs.Entries.{entries_more, entries_none}
 use Rattle.dj_shape.proofs.reading.add_entries.Goals as goal

@@ -1,5 +1,5 @@
 use Rattle.std.proofs.Common.{ℕ, true, take}
-use Rattle.dj_model.specs.Kinds.{entries_of}
+use Rattle.dj_model.specs.trusted.Kinds.{entries_of}
 use Rattle.dj_shape.specs.Reading.{Gains, frame_code}
 use Rattle.dj_shape.proofs.reading.add_entries.Given as goal
 

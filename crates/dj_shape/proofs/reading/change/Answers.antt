@@ -3,7 +3,7 @@ use Rattle.dj_names.specs.declared.descriptor.Kind.{Kind}
 use Rattle.dj_ops.specs.declared.frames.VType.{VType}
 use Rattle.dj_ops.specs.declared.frames.Form.{Form}
 use Rattle.dj_ops.specs.declared.frames.Form.TheVariants as forms
-use Rattle.dj_model.specs.Kinds.{entries_of, form_entries, stack_of}
+use Rattle.dj_model.specs.trusted.Kinds.{entries_of, form_entries, stack_of}
 use Rattle.dj_shape.specs.Reading.{ChangesTo, frame_code}
 use Rattle.dj_shape.proofs.Entries.{appended, full}
 use Rattle.dj_shape.proofs.Works.{ok_more}

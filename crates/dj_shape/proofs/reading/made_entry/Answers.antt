@@ -1,6 +1,6 @@
 use Rattle.std.proofs.Common.{◌∙◌, Bool, Some, if◌then◌else◌, ap, sym}
 use Rattle.dj_names.specs.declared.descriptor.Kind.TheVariants as kinds
-use Rattle.dj_model.specs.Kinds.{Of, NoEntry}
+use Rattle.dj_model.specs.trusted.Kinds.{Of, NoEntry}
 use Rattle.dj_shape.proofs.Entries.{made_at}
 use Rattle.dj_shape.proofs.reading.made_entry.Goals as goal
 

@@ -1,6 +1,6 @@
 use Rattle.std.proofs.Common.{◌∙◌, List, Option, ◌++◌, ap}
 use Rattle.dj_names.specs.declared.descriptor.Kind.{Kind}
-use Rattle.dj_model.specs.Kinds.{entries_of, stack_of}
+use Rattle.dj_model.specs.trusted.Kinds.{entries_of, stack_of}
 use Rattle.dj_shape.specs.Reading.{frame_code}
 use Rattle.dj_shape.proofs.Works.{ok_more}
 use Rattle.dj_shape.proofs.Entries.{some_operands}

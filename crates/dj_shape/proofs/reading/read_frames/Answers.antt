@@ -1,7 +1,7 @@
 use Rattle.std.proofs.Common.{◌∙◌, ℕ, ◌+◌, List, [], None, Option, refl, ap, sym, subst, drop}
 use Rattle.std.proofs.lemmas.List.{drop_all}
 use Rattle.dj_ops.specs.declared.frames.Frame.{Frame}
-use Rattle.dj_model.specs.Kinds.{frames_after}
+use Rattle.dj_model.specs.trusted.Kinds.{frames_after}
 use Rattle.dj_shape.specs.Told.{Told, IsKept, IsToldAs, told_in}
 use Rattle.dj_shape.specs.Reading.{frame_code, with_all}
 use Rattle.dj_shape.proofs.FrameLaws.{read_more, after_none, after_end, all_faulty, all_read, drop_at}

@@ -1,5 +1,5 @@
 use Rattle.std.proofs.Common.{◌≡◌, List, drop}
-use Rattle.dj_model.specs.Kinds.{Placed, frames_after}
+use Rattle.dj_model.specs.trusted.Kinds.{Placed, frames_after}
 use Rattle.dj_shape.specs.Told.{AreTold}
 use Rattle.dj_shape.specs.Reading.{IsReading, frame_code, with_all}
 use Rattle.dj_shape.proofs.reading.read_frames.Given as goal

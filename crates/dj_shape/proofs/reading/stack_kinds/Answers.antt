@@ -1,7 +1,7 @@
 use Rattle.std.proofs.Common.{◌∙◌, List, Option, [], ◌∷◌, ◌++◌, Some, None, take, ap, sym}
 use Rattle.std.proofs.lemmas.List.{take_more}
 use Rattle.dj_names.specs.declared.descriptor.Kind.{Kind}
-use Rattle.dj_model.specs.Kinds.{stack_of}
+use Rattle.dj_model.specs.trusted.Kinds.{stack_of}
 use Rattle.dj_shape.proofs.Entries.{stack_more, stack_none}
 use Rattle.dj_shape.proofs.reading.stack_kinds.Goals as goal
 

@@ -1,5 +1,5 @@
 use Rattle.std.proofs.Common.{◌≡◌, take, Some}
-use Rattle.dj_model.specs.Kinds.{stack_of}
+use Rattle.dj_model.specs.trusted.Kinds.{stack_of}
 use Rattle.dj_shape.proofs.reading.stack_kinds.Given as goal
 
 abbrev pub invariant-loop-entry : goal.invariant-loop-entry

@@ -1,5 +1,5 @@
 use Rattle.std.proofs.lemmas.Result.{err_from_is_err_and}
-use Rattle.dj_source.specs.Lines.{Operation, Does}
+use Rattle.dj_source.specs.trusted.Lines.{Operation, Does}
 use Rattle.dj_source.specs.LineReading.{operation}
 use Rattle.dj_tokens.specs.Views.{left_of}
 use Rattle.dj_source.proofs.TypeLists.{stop_map}

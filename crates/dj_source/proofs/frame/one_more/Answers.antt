@@ -1,6 +1,6 @@
 use Rattle.std.proofs.Common.{List, subst}
 use Rattle.std.proofs.lemmas.Result.{err_from_is_err_and}
-use Rattle.dj_source.specs.Lines.{FrameType}
+use Rattle.dj_source.specs.trusted.Lines.{FrameType}
 use Rattle.dj_source.specs.Reading.{Read}
 use Rattle.dj_tokens.specs.Views.{left_of}
 use Rattle.dj_source.specs.TypeViews.{type_view}

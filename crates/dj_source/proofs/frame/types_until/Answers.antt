@@ -1,6 +1,6 @@
 use Rattle.std.proofs.Common.{◌≡◌, ◌++◌, List, sym, subst}
 use Rattle.std.proofs.lemmas.Result.{err_from_is_err_and}
-use Rattle.dj_source.specs.Lines.{FrameType}
+use Rattle.dj_source.specs.trusted.Lines.{FrameType}
 use Rattle.dj_source.specs.Reading.{read_map}
 use Rattle.dj_source.specs.LineReading.{types_until}
 use Rattle.dj_tokens.specs.Views.{left_of}

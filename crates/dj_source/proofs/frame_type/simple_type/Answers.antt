@@ -1,4 +1,4 @@
-use Rattle.dj_tokens.specs.Words.{word_units}
+use Rattle.dj_tokens.specs.trusted.Words.{word_units}
 use Rattle.dj_source.proofs.FrameWords.{simple_found}
 use Rattle.dj_source.proofs.frame_type.simple_type.Goals as goal
 

@@ -1,8 +1,8 @@
 use Rattle.std.proofs.Common.{◌≡◌, ℤ, map, drop}
 use Rattle.std.specs.List.{list_all}
-use Rattle.dj_source.specs.Lines.{Label}
+use Rattle.dj_source.specs.trusted.Lines.{Label}
 use Rattle.dj_source.specs.PairViews.{pair_view}
-use Rattle.dj_source.specs.Labels.{AtInstruction}
+use Rattle.dj_source.specs.trusted.Labels.{AtInstruction}
 use Rattle.dj_source.specs.LabelReading.{is_met}
 use Rattle.dj_source.proofs.labelling.pairs_are_met.Given as goal
 

@@ -1,7 +1,7 @@
 use Rattle.std.proofs.Common.{◌≡◌, map, drop}
 use Rattle.std.specs.List.{list_all}
 use Rattle.dj_tokens.specs.Views.{units_of}
-use Rattle.dj_source.specs.Labels.{AtInstruction}
+use Rattle.dj_source.specs.trusted.Labels.{AtInstruction}
 use Rattle.dj_source.specs.LabelReading.{is_met}
 use Rattle.dj_source.proofs.labelling.targets_are_met.Given as goal
 

@@ -1,7 +1,7 @@
 use Rattle.std.proofs.Common.{◌≡◌, map, drop}
 use Rattle.std.specs.List.{list_all, flat_map}
 use Rattle.dj_source.specs.TypeViews.{type_view}
-use Rattle.dj_source.specs.Labels.{type_uses}
+use Rattle.dj_source.specs.trusted.Labels.{type_uses}
 use Rattle.dj_source.specs.LabelReading.{is_met}
 use Rattle.dj_source.proofs.labelling.types_are_met.Given as goal
 

@@ -1,12 +1,16 @@
 use Rattle.std.proofs.Common.{ℕ}
+use Rattle.std.proofs.lemmas.Result.{err_from_is_err_and}
 use Rattle.std.specs.Bool.{⊤}
-use Rattle.dj_source.specs.Lines.{Array}
+use Rattle.dj_source.specs.trusted.Lines.{Array}
 use Rattle.dj_source.specs.Reading.{read_then}
 use Rattle.dj_source.specs.LineReading.{base, line_end}
 use Rattle.dj_tokens.specs.Views.{left_of}
 use Rattle.dj_source.proofs.TypeLists.{stop_map, then_stops}
 use Rattle.dj_source.proofs.operand.array.Goals as goal
 
-pub returns-in-Err : goal.returns-in-Err
-returns-in-Err c =
-    stop_map (λ (x : ℕ × ⊤). Array x.0) c.in-Err.stop (read_then (base (left_of c.args.at)) line_end) (then_stops c.in-Err.stop (base (left_of c.args.at)) line_end c.in-Err.ensures)
+pub returns-in_err-base : goal.returns-in_err-base
+returns-in_err-base c =
+    let p = err_from_is_err_and c.from_residual.result c.from_residual.ensures.1 in
+    let stop = c.in_err-base.field-0.0 in
+    rw (p.1, p.2)
+    (stop_map (λ (x : ℕ × ⊤). Array x.0) stop (read_then (base (left_of c.args.at)) line_end) (then_stops stop (base (left_of c.args.at)) line_end c.in_err-base.ensures))

@@ -1,4 +1,4 @@
-use Rattle.dj_tokens.specs.Words.{word_units}
+use Rattle.dj_tokens.specs.trusted.Words.{word_units}
 use Rattle.dj_source.proofs.Directives.{directives_are}
 use Rattle.dj_source.proofs.start.directive_of.Goals as goal
 

@@ -2,7 +2,7 @@ use Rattle.std.proofs.Common.{◌≡◌, ◌++◌, List, ℤ, None, sym, subst, 
 use Rattle.std.specs.Int.{w32}
 use Rattle.std.proofs.lemmas.Int.{to_z-of_z}
 use Rattle.std.proofs.lemmas.Result.{err_from_is_err_and}
-use Rattle.dj_source.specs.Lines.{Label}
+use Rattle.dj_source.specs.trusted.Lines.{Label}
 use Rattle.dj_source.specs.Reading.{read_map}
 use Rattle.dj_source.specs.LineReading.{Pairs, pairs_after}
 use Rattle.dj_tokens.specs.Views.{units_of, left_of}

@@ -1,5 +1,5 @@
 use Rattle.std.proofs.Common.{◌≡◌, ◌++◌, List, length}
-use Rattle.dj_source.specs.Lines.{Label}
+use Rattle.dj_source.specs.trusted.Lines.{Label}
 use Rattle.dj_source.specs.Reading.{read_map}
 use Rattle.dj_source.specs.LineReading.{targets}
 use Rattle.dj_tokens.specs.Views.{left_of}

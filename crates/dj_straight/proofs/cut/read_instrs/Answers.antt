@@ -1,5 +1,5 @@
 use Rattle.std.proofs.Common.{arith}
-use Rattle.dj_straight.specs.StraightInstrs.{IsStraightAt}
+use Rattle.dj_straight.specs.trusted.StraightInstrs.{IsStraightAt}
 use Rattle.dj_straight.proofs.Cuts.{other_tells, up_to_next, up_to_end, up_to_none, refusal_tells}
 use Rattle.dj_straight.proofs.cut.read_instrs.Goals as goal
 

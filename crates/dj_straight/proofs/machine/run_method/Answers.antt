@@ -3,8 +3,9 @@ use Rattle.std.proofs.lemmas.List.{length-map}
 use Rattle.dj_straight.specs.declared.program.Action.{Action}
 use Rattle.dj_straight.specs.declared.program.Action.TheVariants.{Nop}
 use Rattle.dj_straight.proofs.Shapes.{all_hold}
-use Rattle.dj_straight.specs.Methods.{code_view, action_view, straight_signature}
-use Rattle.dj_straight.specs.declared.machine.turns.Turns.{Turns}
+use Rattle.dj_straight.specs.trusted.Methods.{straight_signature}
+use Rattle.dj_straight.specs.Methods.{code_view, action_view}
+use Rattle.dj_straight.specs.declared.machine.turns.Advance.{Advance}
 use Rattle.dj_straight.specs.Machines.{machine_view}
 use Rattle.dj_straight.specs.Turns.{TurnsDo, GoesWithin}
 use Rattle.dj_straight.proofs.Linked.{first_linked, next_linked, end_linked, action_null}
@@ -40,14 +41,14 @@ returns-in-End-clause-runs c =
     (action_at c.as_slice-action-items.result.now c.loop-action.action-index Nop c.loop-action-test.true) in
     runs_to code c.args.input.now c.args.thresholds c.loop-action.action-index (action_view action) (machine_view c.loop-action.machine) c.loop-action.costs
     refl (all_hold straight_signature code refl c.requires.shape) c.loop-action.invariant.reached at (machine_view c.turns.new.self) c.in-End.ending
-    (subst (λ (r : Turns). TurnsDo c.args.thresholds c.loop-action.costs (action_view action) (machine_view c.loop-action.machine) (machine_view c.turns.new.self) r) c.in-End.is
+    (subst (λ (r : Advance). TurnsDo c.args.thresholds c.loop-action.costs (action_view action) (machine_view c.loop-action.machine) (machine_view c.turns.new.self) r) c.in-End.is
     c.in_ok-paid.ensures.turns)
 
 pub returns-in-End-clause-kinds : goal.returns-in-End-clause-kinds
 returns-in-End-clause-kinds c =
     let action = slice_index_or c.as_slice-action-items.result.now c.loop-action.action-index Nop in
     straight_end c.args.thresholds c.loop-action.costs (action_view action) (machine_view c.loop-action.machine) (machine_view c.turns.new.self) c.in-End.ending
-    (subst (λ (r : Turns). TurnsDo c.args.thresholds c.loop-action.costs (action_view action) (machine_view c.loop-action.machine) (machine_view c.turns.new.self) r) c.in-End.is
+    (subst (λ (r : Advance). TurnsDo c.args.thresholds c.loop-action.costs (action_view action) (machine_view c.loop-action.machine) (machine_view c.turns.new.self) r) c.in-End.is
     c.in_ok-paid.ensures.turns)
 
 pub returns-in-End-clause-linked : goal.returns-in-End-clause-linked
@@ -56,7 +57,7 @@ returns-in-End-clause-linked c = λ null.
     end_linked c.args.thresholds c.loop-action.costs action (machine_view c.loop-action.machine) (machine_view c.turns.new.self) c.in-End.ending
     (action_null c.args.method.now.actions.items c.as_slice-action-items.result.now c.loop-action.action-index Nop c.as_slice-action-items.ensures.value c.loop-action-test.true null)
     (c.loop-action.invariant.linked null)
-    (subst (λ (r : Turns). TurnsDo c.args.thresholds c.loop-action.costs (action_view action) (machine_view c.loop-action.machine) (machine_view c.turns.new.self) r) c.in-End.is
+    (subst (λ (r : Advance). TurnsDo c.args.thresholds c.loop-action.costs (action_view action) (machine_view c.loop-action.machine) (machine_view c.turns.new.self) r) c.in-End.is
     c.in_ok-paid.ensures.turns)
 
 pub loop-action-preserved : goal.loop-action-preserved
@@ -65,12 +66,12 @@ loop-action-preserved c =
     let action = slice_index_or c.as_slice-action-items.result.now c.loop-action.action-index Nop in
     let at = subst (λ (xs : List Action). slice_get (map action_view xs) c.loop-action.action-index ≡ Some (action_view action)) c.as_slice-action-items.ensures.value
     (action_at c.as_slice-action-items.result.now c.loop-action.action-index Nop c.loop-action-test.true) in
-    let turns = subst (λ (r : Turns). TurnsDo c.args.thresholds c.loop-action.costs (action_view action) (machine_view c.loop-action.machine) (machine_view c.turns.new.self) r) c.in-Go.is
+    let turns = subst (λ (r : Advance). TurnsDo c.args.thresholds c.loop-action.costs (action_view action) (machine_view c.loop-action.machine) (machine_view c.turns.new.self) r) c.in-Go.is
     c.in_ok-paid.ensures.turns in
     record {
       reached = reached_next code c.args.input.now c.args.thresholds c.loop-action.action-index (action_view action) (machine_view c.loop-action.machine) c.loop-action.costs
           refl (all_hold straight_signature code refl c.requires.shape) c.loop-action.invariant.reached at (machine_view c.turns.new.self) c.in-Go.paid
-          turns (subst (λ (r : Turns). GoesWithin c.args.thresholds r) c.in-Go.is (c.in_ok-paid.ensures.within c.loop-action.invariant.reached.within));
+          turns (subst (λ (r : Advance). GoesWithin c.args.thresholds r) c.in-Go.is (c.in_ok-paid.ensures.within c.loop-action.invariant.reached.within));
       linked = λ null. next_linked c.args.thresholds c.loop-action.costs c.in-Go.paid action (machine_view c.loop-action.machine) (machine_view c.turns.new.self)
           (action_null c.args.method.now.actions.items c.as_slice-action-items.result.now c.loop-action.action-index Nop c.as_slice-action-items.ensures.value c.loop-action-test.true null)
           (c.loop-action.invariant.linked null) turns;

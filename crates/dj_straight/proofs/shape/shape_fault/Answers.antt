@@ -1,10 +1,11 @@
 use Rattle.std.proofs.Common.{◌<◌, [], length, below_more, refl, ap, arith}
 use Rattle.std.proofs.lemmas.List.{length-map}
 use Rattle.std.proofs.lemmas.Option.{slice_get-get_or}
-use Rattle.dj_straight.specs.Shape.{ParametersFit, Holds}
+use Rattle.dj_straight.specs.trusted.Shape.{ParametersFit, Holds}
 use Rattle.dj_straight.proofs.Shapes.{has_shape, is_fault}
 use Rattle.dj_straight.specs.declared.program.Action.TheVariants.{Nop}
-use Rattle.dj_straight.specs.Methods.{action_view, code_view, straight_signature}
+use Rattle.dj_straight.specs.trusted.Methods.{straight_signature}
+use Rattle.dj_straight.specs.Methods.{action_view, code_view}
 use Rattle.dj_straight.proofs.Shaping.{stands_next, viewed_at}
 use Rattle.dj_straight.proofs.shape.shape_fault.Goals as goal
 use Rattle.dj_straight.proofs.shape.shape_fault.Goals.{then-ended-via-then-ended, then-ended-via-else-ended+in_ok-holds+then-not-branch}

@@ -1,6 +1,7 @@
 use Rattle.std.proofs.Common.{ℕ, ◌<◌, []}
-use Rattle.dj_straight.specs.Shape.{Holds}
-use Rattle.dj_straight.specs.Methods.{code_view, straight_signature}
+use Rattle.dj_straight.specs.trusted.Shape.{Holds}
+use Rattle.dj_straight.specs.trusted.Methods.{straight_signature}
+use Rattle.dj_straight.specs.Methods.{code_view}
 use Rattle.dj_straight.specs.Shaping.{HasRoomOf, StandsBefore}
 use Rattle.dj_straight.proofs.shape.shape_fault.Given as goal
 

@@ -1,9 +1,9 @@
 use Rattle.std.proofs.Common.{subst}
 use Rattle.dj_class.specs.Views.{class_of}
-use Rattle.dj_class.specs.ClassFile.{IsClassFile, IsMalformed}
+use Rattle.dj_class.specs.trusted.ClassFile.{IsClassFile, IsMalformed}
 use Rattle.dj_rules.specs.Reads.{IsViewOf}
 use Rattle.dj_straight.specs.Methods.{class_view}
-use Rattle.dj_straight.specs.Straight.{IsStraightClass, IsStraightFile}
+use Rattle.dj_straight.specs.trusted.Straight.{IsStraightClass, IsStraightFile}
 use Rattle.dj_straight.proofs.StraightCode.{ok_finds}
 use Rattle.dj_straight.proofs.Straights.{file_class}
 use Rattle.dj_straight.proofs.straight.class_of_file.Goals as goal

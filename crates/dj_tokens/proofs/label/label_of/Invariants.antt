@@ -1,9 +1,9 @@
 use Rattle.std.proofs.Common.{◌≡◌, ◌≤◌, ◌-◌, drop, length}
-use Rattle.dj_tokens.specs.Words.{word_units}
+use Rattle.dj_tokens.specs.trusted.Words.{word_units}
 use Rattle.dj_tokens.specs.Colons.{ends_colon}
 use Rattle.dj_tokens.proofs.label.label_of.Given as goal
 
--- the rest tells whether a colon ends the word
+-- the rest says whether a colon ends the word
 abbrev pub invariant-loop-at : goal.invariant-loop-at
 invariant-loop-at l = record {
   within : l.at ≤ length l.bytes;

@@ -1,7 +1,7 @@
 use Rattle.std.proofs.Common.{sym, ap, inl, inr, arith}
 use Rattle.std.proofs.lemmas.Bool.{cases_lt}
 use Rattle.dj_tokens.proofs.TableLaws.{no_rows}
-use Rattle.dj_tokens.specs.Mnemonics.{mnemonics}
+use Rattle.dj_tokens.specs.trusted.Mnemonics.{mnemonics}
 use Rattle.dj_tokens.specs.Tables.{rows_of_length}
 use Rattle.dj_tokens.proofs.mnemonic.rows.Goals as goal
 

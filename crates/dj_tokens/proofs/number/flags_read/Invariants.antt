@@ -1,5 +1,5 @@
 use Rattle.std.proofs.Common.{◌≡◌, ◌≤◌, ◌<◌, length}
-use Rattle.dj_tokens.specs.Words.{word_units}
+use Rattle.dj_tokens.specs.trusted.Words.{word_units}
 use Rattle.dj_tokens.specs.Numbers.{flags_from}
 use Rattle.dj_tokens.proofs.number.flags_read.Given as goal
 

@@ -1,6 +1,6 @@
 use Rattle.std.proofs.Common.{◌≡◌, ◌+◌, not, length}
 use Rattle.std.specs.List.{prefix_len}
-use Rattle.dj_tokens.specs.Words.{is_blank}
+use Rattle.dj_tokens.specs.trusted.Words.{is_blank}
 use Rattle.dj_tokens.proofs.piece.word_size.Given as goal
 
 -- the rest decides

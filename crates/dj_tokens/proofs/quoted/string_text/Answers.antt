@@ -1,6 +1,6 @@
 use Rattle.std.proofs.Common.{◌≡◌, ◌++◌, sym, ap, ◌∙◌}
-use Rattle.dj_names.specs.ModifiedUtf8.{unit_text, units_text}
-use Rattle.dj_tokens.specs.Words.{string_units}
+use Rattle.dj_names.specs.trusted.ModifiedUtf8.{unit_text, units_text}
+use Rattle.dj_tokens.specs.trusted.Words.{string_units}
 use Rattle.dj_tokens.specs.Strings.{Unit, string_step}
 use Rattle.dj_tokens.specs.Views.{opened_units}
 use Rattle.dj_tokens.proofs.QuotedLaws.{still_closed, text_follows, at_end, join, nothing_more}

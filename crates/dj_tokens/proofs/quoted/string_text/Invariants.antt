@@ -1,6 +1,6 @@
 use Rattle.std.proofs.Common.{◌≡◌, ◌++◌, true, is_some, length}
-use Rattle.dj_names.specs.ModifiedUtf8.{units_text}
-use Rattle.dj_tokens.specs.Words.{string_units}
+use Rattle.dj_names.specs.trusted.ModifiedUtf8.{units_text}
+use Rattle.dj_tokens.specs.trusted.Words.{string_units}
 use Rattle.dj_tokens.specs.Views.{opened_units}
 use Rattle.dj_tokens.proofs.quoted.string_text.Given as goal
 

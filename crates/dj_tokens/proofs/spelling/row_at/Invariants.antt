@@ -1,5 +1,5 @@
 use Rattle.std.proofs.Common.{◌≡◌, drop, map}
-use Rattle.dj_tokens.specs.Words.{word_units}
+use Rattle.dj_tokens.specs.trusted.Words.{word_units}
 use Rattle.dj_tokens.specs.WordReading.{row_of}
 use Rattle.dj_tokens.specs.Tables.{row_view}
 use Rattle.dj_tokens.proofs.spelling.row_at.Given as goal

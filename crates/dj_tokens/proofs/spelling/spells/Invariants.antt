@@ -1,5 +1,5 @@
 use Rattle.std.proofs.Common.{◌≡◌, length, bytes_eq}
-use Rattle.dj_tokens.specs.Words.{word_units}
+use Rattle.dj_tokens.specs.trusted.Words.{word_units}
 use Rattle.dj_tokens.proofs.spelling.spells.Given as goal
 
 -- the rest decides

@@ -1,5 +1,5 @@
 use Rattle.std.proofs.Common.{◌≡◌, ◌+◌, ◌≤◌, length}
-use Rattle.dj_tokens.specs.Words.{word_units}
+use Rattle.dj_tokens.specs.trusted.Words.{word_units}
 use Rattle.dj_tokens.proofs.spelling.unit_count.Given as goal
 
 abbrev pub invariant-loop-after : goal.invariant-loop-after

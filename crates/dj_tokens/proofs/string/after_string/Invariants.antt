@@ -1,6 +1,6 @@
 use Rattle.std.proofs.Common.{◌≡◌, ◌≤◌, length}
 use Rattle.std.specs.Prelude.{option_map}
-use Rattle.dj_tokens.specs.Words.{string_units}
+use Rattle.dj_tokens.specs.trusted.Words.{string_units}
 use Rattle.dj_tokens.proofs.string.after_string.Given as goal
 
 -- the rest decides

@@ -1,6 +1,6 @@
 use Rattle.std.proofs.Common.{◌≡◌, ◌++◌, length}
-use Rattle.dj_names.specs.ModifiedUtf8.{units_text}
-use Rattle.dj_tokens.specs.Words.{word_units}
+use Rattle.dj_names.specs.trusted.ModifiedUtf8.{units_text}
+use Rattle.dj_tokens.specs.trusted.Words.{word_units}
 use Rattle.dj_tokens.proofs.text.encoded.Given as goal
 
 -- what is left follows

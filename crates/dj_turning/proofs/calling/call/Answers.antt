@@ -1,9 +1,9 @@
 use Rattle.std.proofs.Common.{◌≡◌, ◌<◌, length, sym, subst}
 use Rattle.std.specs.Prelude.{IfOk}
-use Rattle.dj_model.specs.Instructions.{Invoke}
+use Rattle.dj_model.specs.trusted.Instructions.{Invoke}
 use Rattle.dj_stack.specs.Frames.{top_method}
 use Rattle.dj_linking.specs.Linked.{class_name}
-use Rattle.dj_host.specs.Hosted.{given_since}
+use Rattle.dj_host.specs.trusted.Hosted.{given_since}
 use Rattle.dj_image.specs.Imaged.{program_of}
 use Rattle.dj_activations.specs.Activations.{declared_at}
 use Rattle.dj_initialising.specs.Preparing.{parts}

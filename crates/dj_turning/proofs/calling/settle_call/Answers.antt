@@ -1,5 +1,5 @@
 use Rattle.std.proofs.Common.{[], Option, subst, sym}
-use Rattle.dj_host.specs.Hosted.{given_since}
+use Rattle.dj_host.specs.trusted.Hosted.{given_since}
 use Rattle.dj_invoking.specs.declared.answers.Invoked.TheVariants as invoked
 use Rattle.dj_settling.specs.Settling.{Settles, raising}
 use Rattle.dj_initialising.specs.Preparing.{parts}
@@ -7,7 +7,7 @@ use Rattle.dj_initialising.specs.Store.{store}
 use Rattle.std.specs.Prelude.{IfOk}
 use Rattle.dj_names.specs.declared.run.Charge.{Charge}
 use Rattle.dj_names.specs.declared.run.Outcome.TheVariants as outcomes
-use Rattle.dj_model.specs.Instructions.{Invoke}
+use Rattle.dj_model.specs.trusted.Instructions.{Invoke}
 use Rattle.dj_settling.specs.declared.settled.Settled.TheVariants as settles
 use Rattle.dj_turning.specs.Running.{Running}
 use Rattle.dj_turning.specs.Doing.{TurnsBy, doing}

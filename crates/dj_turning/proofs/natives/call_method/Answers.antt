@@ -2,7 +2,7 @@ use Rattle.std.proofs.Common.{◌<◌, List, Option, length, subst, sym, ◌∙�
 use Rattle.std.specs.Prelude.{IfOk}
 use Rattle.dj_names.specs.declared.run.Charge.{Charge}
 use Rattle.dj_names.specs.declared.run.Value.{Value}
-use Rattle.dj_host.specs.Hosted.{given_since}
+use Rattle.dj_host.specs.trusted.Hosted.{given_since}
 use Rattle.dj_initialising.specs.Preparing.{parts}
 use Rattle.dj_initialising.specs.Store.{store}
 use Rattle.dj_settling.specs.Settling.{IsStop}

@@ -1,6 +1,6 @@
 use Rattle.std.proofs.Common.{◌≡◌, Some, subst, sym, ◌∙◌}
 use Rattle.std.specs.Prelude.{IfOk}
-use Rattle.dj_model.specs.Instructions.{Instruction}
+use Rattle.dj_model.specs.trusted.Instructions.{Instruction}
 use Rattle.dj_activations.specs.Instructions.{instruction_of_number}
 use Rattle.dj_initialising.specs.Preparing.{parts}
 use Rattle.dj_initialising.specs.Store.{store}

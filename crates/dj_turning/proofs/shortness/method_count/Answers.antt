@@ -1,6 +1,6 @@
 use Rattle.std.proofs.Common.{◌≡◌, ◌∙◌, length, refl, ap, arith}
 use Rattle.std.proofs.lemmas.List.{length-map}
-use Rattle.dj_model.specs.Program.{Class}
+use Rattle.dj_model.specs.trusted.Program.{Class}
 use Rattle.dj_declared.specs.Files.{bare_class}
 use Rattle.dj_linking.specs.Linked.{Linked}
 use Rattle.dj_types.specs.Members.{all_methods}

@@ -1,5 +1,5 @@
-use Rattle.std.proofs.Common.{ℕ, ◌<◌, subst, ap, ◌∙◌, ◌++◌, ◌∷◌, [], List}
-use Rattle.dj_names.specs.Types.{Name}
+use Rattle.std.proofs.Common.{ℕ, ◌<◌, subst, ap, ◌∙◌, ◌++◌, ◌∷◌, []}
+use Rattle.dj_names.specs.trusted.Types.{Name}
 use Rattle.dj_names.specs.declared.descriptor.Of.TheVariants as ofs
 use Rattle.dj_types.specs.Kept.{whole_text}
 use Rattle.dj_types.proofs.Wholes.{whole_more}

@@ -1,5 +1,5 @@
 use Rattle.std.proofs.Common.{◌≡◌, ℕ, ◌<◌, false, Some}
-use Rattle.dj_names.specs.Types.{Name}
+use Rattle.dj_names.specs.trusted.Types.{Name}
 use Rattle.dj_classes.specs.Tables.{name_at}
 use Rattle.dj_types.specs.Typed.{begins_array}
 use Rattle.dj_types.proofs.arrays.check_names.Given as goal

@@ -1,4 +1,4 @@
-use Rattle.std.proofs.Common.{ap, ◌∙◌, Some, List, ℕ}
+use Rattle.std.proofs.Common.{ap, ◌∙◌, Some}
 use Rattle.dj_types.proofs.Wholes.{component_deep}
 use Rattle.dj_types.proofs.arrays.component_text.Goals as goal
 

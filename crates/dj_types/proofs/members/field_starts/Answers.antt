@@ -1,6 +1,6 @@
 use Rattle.std.proofs.Common.{◌≡◌, ℕ, ◌+◌, ◌<◌, length, sym, ap, ◌∙◌, arith}
 use Rattle.std.proofs.lemmas.List.{length-map}
-use Rattle.dj_model.specs.Program.{fields_of}
+use Rattle.dj_model.specs.trusted.Program.{fields_of}
 use Rattle.dj_types.specs.Members.{fields_in}
 use Rattle.dj_types.specs.Numbered.{counts_of}
 use Rattle.dj_types.proofs.Starts.{summed_more, summed_all, count_there, counts_length}

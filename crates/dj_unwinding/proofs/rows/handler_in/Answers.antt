@@ -4,7 +4,7 @@ use Rattle.std.proofs.lemmas.Option.{slice_get-get_or}
 use Rattle.dj_labels.specs.declared.labelled.Protected.{Protected}
 use Rattle.dj_types.specs.Typed.{type_at}
 use Rattle.dj_image.specs.Imaged.{typed_of}
-use Rattle.dj_unwinding.specs.Rows.{IsRowOf}
+use Rattle.dj_unwinding.specs.HandlerRows.{IsRowOf}
 use Rattle.dj_unwinding.proofs.Catching.{found_here, passed_here, found_nowhere}
 use Rattle.dj_unwinding.proofs.rows.handler_in.Goals as goal
 

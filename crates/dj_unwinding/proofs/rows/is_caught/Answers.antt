@@ -1,6 +1,6 @@
 use Rattle.std.proofs.Common.{Some, None, ◌∙◌}
-use Rattle.dj_model.specs.Program.{Range}
-use Rattle.dj_program.specs.Codes.{range_in}
+use Rattle.dj_model.specs.trusted.Program.{Range}
+use Rattle.dj_program.specs.trusted.Codes.{range_in}
 use Rattle.dj_unwinding.proofs.Catching.{row_told, caught_is, caught_known}
 use Rattle.dj_unwinding.proofs.Numbering.{caught_within, caught_told}
 use Rattle.dj_unwinding.proofs.rows.is_caught.Goals as goal

@@ -1,6 +1,6 @@
 use Rattle.std.proofs.Common.{sym, ap, ◌∙◌}
 use Rattle.std.specs.Prelude.{option_and_then}
-use Rattle.dj_words.specs.DoneJobs.{done}
+use Rattle.dj_words.specs.trusted.DoneJobs.{done}
 use Rattle.dj_words.specs.Views.{texts, values_view}
 use Rattle.dj_words.proofs.Done.{job_of_raw, job_of_assemble, job_of_others}
 use Rattle.dj_words.proofs.command.command_named.Goals as goal

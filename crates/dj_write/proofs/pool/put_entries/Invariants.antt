@@ -1,6 +1,6 @@
 use Rattle.std.proofs.Common.{◌≡◌, ◌++◌, take, map}
 use Rattle.std.specs.List.{flat_map}
-use Rattle.dj_pool.specs.Pool.{constant_bytes}
+use Rattle.dj_pool.specs.trusted.Pool.{constant_bytes}
 use Rattle.dj_pool.specs.Views.{constant_of}
 use Rattle.dj_write.proofs.pool.put_entries.Given as goal
 

@@ -1,6 +1,6 @@
 use Rattle.std.proofs.Common.{◌≡◌, ◌++◌, take, map}
 use Rattle.std.specs.List.{flat_map}
-use Rattle.dj_class.specs.ClassFile.{attribute_bytes}
+use Rattle.dj_class.specs.trusted.ClassFile.{attribute_bytes}
 use Rattle.dj_class.specs.Parts.{attribute_of}
 use Rattle.dj_write.proofs.write.put_attribute_list.Given as goal
 

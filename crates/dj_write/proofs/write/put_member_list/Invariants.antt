@@ -1,6 +1,6 @@
 use Rattle.std.proofs.Common.{◌≡◌, ◌++◌, take, map}
 use Rattle.std.specs.List.{flat_map}
-use Rattle.dj_class.specs.ClassFile.{member_bytes}
+use Rattle.dj_class.specs.trusted.ClassFile.{member_bytes}
 use Rattle.dj_class.specs.Members.{member_of}
 use Rattle.dj_write.proofs.write.put_member_list.Given as goal
 

@@ -1,5 +1,5 @@
 use Rattle.std.proofs.Common.{IsTrue, subst, sym}
-use Rattle.dj_edge.specs.Held.{is_class_path}
+use Rattle.dj_edge.specs.trusted.Held.{is_class_path}
 use Rattle.djvm_cli.proofs.Folders.{cut_after_folder}
 use Rattle.djvm_cli.proofs.cut.cut_folder.Goals as goal
 

@@ -1,9 +1,9 @@
 use Rattle.std.proofs.Common.{length, map, map-id, IsTrue, string_bytes, rules, sym, ap, ◌∙◌}
 use Rattle.std.proofs.lemmas.Iterator.Adapters.{YieldsList-from_vec}
 use Rattle.std.proofs.lemmas.Iterator.Consumers.{YieldsList-turn, YieldsList-end}
-use Rattle.dj_edge.specs.Held.{is_class_path}
+use Rattle.dj_edge.specs.trusted.Held.{is_class_path}
 use Rattle.djvm_cli.specs.declared.load.SourceFile.{SourceFile}
-use Rattle.djvm_cli.specs.Report.{within_folder}
+use Rattle.djvm_cli.specs.trusted.Report.{within_folder}
 use Rattle.djvm_cli.specs.Views.{source_view}
 use Rattle.djvm_cli.proofs.Cutting.{at_turn, cut_more}
 use Rattle.djvm_cli.proofs.cut.cut_folders.Goals as goal

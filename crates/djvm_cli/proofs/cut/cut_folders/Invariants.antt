@@ -1,6 +1,6 @@
 use Rattle.std.proofs.Common.{◌≡◌, map}
 use Rattle.dj_edge.specs.InMemory.{files_in}
-use Rattle.djvm_cli.specs.Report.{within_folder}
+use Rattle.djvm_cli.specs.trusted.Report.{within_folder}
 use Rattle.djvm_cli.specs.Views.{source_view}
 use Rattle.djvm_cli.proofs.cut.cut_folders.Given as goal
 

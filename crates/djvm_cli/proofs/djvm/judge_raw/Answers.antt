@@ -1,10 +1,10 @@
 use Rattle.std.proofs.Common.{◌≡◌, subst, ◌∙◌}
 use Rattle.std.proofs.lemmas.Result.{err_from_is_err_and}
-use Rattle.dj_names.specs.Types.{Name}
-use Rattle.dj_report.specs.Stages.{IsDecided}
-use Rattle.dj_host.specs.Hosted.{given_since}
-use Rattle.dj_sandbox.specs.Entry.{entry_name}
-use Rattle.dj_sandbox.specs.Judging.{raw_stages}
+use Rattle.dj_names.specs.trusted.Types.{Name}
+use Rattle.dj_report.specs.trusted.Stages.{IsDecided}
+use Rattle.dj_host.specs.trusted.Hosted.{given_since}
+use Rattle.dj_sandbox.specs.trusted.Entry.{entry_name}
+use Rattle.dj_sandbox.specs.trusted.Judging.{raw_stages}
 use Rattle.djvm_cli.proofs.Leaving.{raw_unmade, raw_told, raw_stopped}
 use Rattle.djvm_cli.proofs.djvm.judge_raw.Goals as goal
 

@@ -1,5 +1,5 @@
 use Rattle.std.proofs.Common.{◌≡◌, ◌∙◌, sym, ap, subst, Option, Some, None, map, option_map, string_bytes}
-use Rattle.dj_words.specs.DoneJobs.{DoneJob, done_job_of}
+use Rattle.dj_words.specs.trusted.DoneJobs.{DoneJob, done_job_of}
 use Rattle.dj_words.specs.Views.{job_view}
 use Rattle.djvm_cli.specs.Engine.{LeavesJob}
 use Rattle.djvm_cli.proofs.Allowed.{done_job_allowed}

@@ -1,11 +1,11 @@
 use Rattle.std.proofs.Common.{◌≡◌, ℕ, List, None, IfSome, map, All, IsTrue, string_bytes, refl, sym, ap, ◌∙◌, subst, arith}
 use Rattle.std.proofs.lemmas.Result.{err_from_is_err_and}
-use Rattle.dj_edge.specs.Held.{is_class_path}
+use Rattle.dj_edge.specs.trusted.Held.{is_class_path}
 use Rattle.dj_edge.proofs.Lists.{told_so, ok_so}
-use Rattle.dj_report.specs.Stages.{IsDecided}
-use Rattle.dj_host.specs.Hosted.{given_since}
+use Rattle.dj_report.specs.trusted.Stages.{IsDecided}
+use Rattle.dj_host.specs.trusted.Hosted.{given_since}
 use Rattle.djvm_cli.specs.declared.load.SourceFile.{SourceFile}
-use Rattle.djvm_cli.specs.Report.{FindsInput, judging, within_folder, input_of}
+use Rattle.djvm_cli.specs.trusted.Report.{FindsInput, judging, within_folder, input_of}
 use Rattle.dj_words.specs.Views.{folder_job_view}
 use Rattle.djvm_cli.specs.Views.{source_view}
 use Rattle.djvm_cli.proofs.Leaving.{IsReached, stopped, unreached, reached}

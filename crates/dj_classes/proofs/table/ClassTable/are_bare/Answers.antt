@@ -1,5 +1,5 @@
 use Rattle.std.proofs.Common.{◌≡◌, map, subst}
-use Rattle.dj_model.specs.Program.{Program}
+use Rattle.dj_model.specs.trusted.Program.{Program}
 use Rattle.dj_declared.specs.Files.{bare_class}
 use Rattle.dj_classes.proofs.table.ClassTable.are_bare.Goals as goal
 

@@ -1,7 +1,7 @@
 use Rattle.std.proofs.Common.{◌≡◌, ℕ, ◌<◌, List, Some, length, ap, ◌∙◌, sym, subst}
 use Rattle.std.specs.Prelude.{◌||◌, slice_get, nat_lt}
 use Rattle.std.specs.Option.{option_map}
-use Rattle.dj_model.specs.Program.{Program}
+use Rattle.dj_model.specs.trusted.Program.{Program}
 use Rattle.dj_classes.specs.Tables.{lacks_above}
 use Rattle.dj_classes.proofs.Lacking.{lacks_there, both_told}
 use Rattle.dj_classes.proofs.table.ClassTable.lacks_above.Goals as goal

@@ -1,5 +1,5 @@
-use Rattle.dj_names.specs.Descriptors.{Describes}
-use Rattle.dj_declared.specs.Rows.{row_field}
+use Rattle.dj_names.specs.trusted.Descriptors.{Describes}
+use Rattle.dj_declared.specs.MemberRows.{row_field}
 use Rattle.dj_declared.proofs.CountLaws.{sound_at, holds_at, described}
 use Rattle.dj_declared.proofs.tables.ClassMembers.field_desc.Goals as goal
 

@@ -1,4 +1,4 @@
-use Rattle.dj_declared.specs.Rows.{row_field}
+use Rattle.dj_declared.specs.MemberRows.{row_field}
 use Rattle.dj_declared.specs.Members.{field_name}
 use Rattle.dj_declared.proofs.CountLaws.{sound_at, told_at}
 use Rattle.dj_declared.proofs.tables.ClassMembers.field_name.Goals as goal

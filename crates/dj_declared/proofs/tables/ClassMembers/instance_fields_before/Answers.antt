@@ -1,7 +1,7 @@
 use Rattle.std.proofs.Common.{◌≡◌, ℕ, ◌<◌, false, length, get_or, Some, IfSome, sym, subst, ◌∙◌, arith}
 use Rattle.std.specs.Prelude.{slice_get}
 use Rattle.std.proofs.lemmas.List.{get_or_read}
-use Rattle.dj_model.specs.Linking.{fields_before}
+use Rattle.dj_model.specs.trusted.Linking.{fields_before}
 use Rattle.dj_declared.specs.Tables.{fields_of}
 use Rattle.dj_declared.proofs.CountLaws.{first_within, first_there, fields_before_first}
 use Rattle.dj_declared.proofs.TextLaws.{leads_back}

@@ -1,7 +1,7 @@
 use Rattle.std.proofs.Common.{true, false, sym, ap, inl, inr}
-use Rattle.dj_model.specs.Linking.{has_body}
+use Rattle.dj_model.specs.trusted.Linking.{has_body}
 use Rattle.dj_declared.specs.declared.members.MemberBody.{MemberBody}
-use Rattle.dj_declared.specs.Rows.{row_method, body_of}
+use Rattle.dj_declared.specs.MemberRows.{row_method, body_of}
 use Rattle.dj_declared.specs.Members.{method_has_body}
 use Rattle.dj_declared.proofs.CountLaws.{told_at}
 use Rattle.dj_declared.proofs.tables.ClassMembers.method_has_body.Goals as goal

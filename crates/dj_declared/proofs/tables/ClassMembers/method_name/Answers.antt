@@ -1,4 +1,4 @@
-use Rattle.dj_declared.specs.Rows.{row_method}
+use Rattle.dj_declared.specs.MemberRows.{row_method}
 use Rattle.dj_declared.specs.Members.{method_name}
 use Rattle.dj_declared.proofs.CountLaws.{sound_at, told_at}
 use Rattle.dj_declared.proofs.tables.ClassMembers.method_name.Goals as goal

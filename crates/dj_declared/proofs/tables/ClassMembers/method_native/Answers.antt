@@ -1,6 +1,6 @@
 use Rattle.std.proofs.Common.{Some, None, sym, ap, inl, inr}
 use Rattle.dj_declared.specs.declared.members.MemberBody.{MemberBody}
-use Rattle.dj_declared.specs.Rows.{row_method, body_of}
+use Rattle.dj_declared.specs.MemberRows.{row_method, body_of}
 use Rattle.dj_declared.specs.Members.{native_in, method_native}
 use Rattle.dj_declared.proofs.CountLaws.{told_at}
 use Rattle.dj_declared.proofs.tables.ClassMembers.method_native.Goals as goal

@@ -1,5 +1,5 @@
 use Rattle.dj_declared.specs.Named.{IsNamedBy}
-use Rattle.dj_declared.specs.Rows.{row_method}
+use Rattle.dj_declared.specs.MemberRows.{row_method}
 use Rattle.dj_declared.proofs.CountLaws.{sound_at, holds_at}
 use Rattle.dj_declared.proofs.LookupLaws.{named_by}
 use Rattle.dj_declared.proofs.tables.ClassMembers.method_texts.Goals as goal

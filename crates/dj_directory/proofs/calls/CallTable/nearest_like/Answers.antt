@@ -1,6 +1,3 @@
-use Rattle.std.proofs.Common.{List, subst}
-use Rattle.dj_directory.specs.declared.rows.MemberRow.{MemberRow}
-use Rattle.dj_directory.specs.Calls.{IsRowAt}
 use Rattle.dj_directory.proofs.CallLaws.{marked_is, nearest_instance, nearest_plain}
 use Rattle.dj_directory.proofs.calls.CallTable.nearest_like.Goals as goal
 
@@ -10,11 +7,11 @@ nearest-requires c = (marked_is c.args.table.now c.args.self.now c.requires c.in
 pub returns-then-private_too : goal.returns-then-private_too
 returns-then-private_too c =
     nearest_instance c.args.table.now c.args.self.now c.requires c.args.class c.args.member c.args.below c.start-start.result c.in_ok-row.row c.in-Some.marked c.nearest.result c.args.private_too c.if-private_too.true
-    (subst (λ (rows : List MemberRow). IsRowAt rows c.args.class c.args.member c.in_ok-row.row) c.deref.ensures.value c.in_ok-row.ensures)
+    c.in_ok-row.ensures.some
     (marked_is c.args.table.now c.args.self.now c.requires c.in-Some.marked c.in-Some.is) c.start-start.ensures c.nearest.ensures
 
 pub returns-else-private_too : goal.returns-else-private_too
 returns-else-private_too c =
     nearest_plain c.args.table.now c.args.self.now c.requires c.args.class c.args.member c.args.below c.start-start.result c.in_ok-row.row c.in-Some.marked c.nearest-else-private_too.result c.args.private_too c.if-private_too.false
-    (subst (λ (rows : List MemberRow). IsRowAt rows c.args.class c.args.member c.in_ok-row.row) c.deref.ensures.value c.in_ok-row.ensures)
+    c.in_ok-row.ensures.some
     (marked_is c.args.table.now c.args.self.now c.requires c.in-Some.marked c.in-Some.is) c.start-start.ensures c.nearest-else-private_too.ensures

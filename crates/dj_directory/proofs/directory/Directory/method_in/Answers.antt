@@ -2,7 +2,7 @@ use Rattle.std.proofs.Common.{◌<◌, IfSome, List, length, sym, subst}
 use Rattle.dj_classes.specs.Tables.{methods_at}
 use Rattle.dj_directory.specs.declared.rows.MemberRow.{MemberRow}
 use Rattle.dj_directory.specs.Numberings.{Numbering}
-use Rattle.dj_directory.specs.Rows.{IsTold}
+use Rattle.dj_directory.specs.DirectoryRows.{IsTold}
 use Rattle.dj_directory.proofs.PlaceLaws.{IsFirstMethod, first_method, method_within}
 use Rattle.dj_directory.proofs.directory.Directory.method_in.Goals as goal
 

@@ -1,8 +1,12 @@
-use Rattle.std.proofs.Common.{◌<◌, List, Contains, length, subst}
+use Rattle.std.proofs.Common.{◌≡◌, ℕ, ◌<◌, List, Contains, Some, length, subst, sym}
+use Rattle.dj_names.specs.declared.descriptor.Desc.{Desc}
+use Rattle.dj_names.specs.trusted.Types.{Name}
+use Rattle.dj_declared.specs.Members.{method_place}
+use Rattle.dj_classes.specs.Tables.{methods_at}
 use Rattle.dj_directory.specs.declared.rows.MemberRow.{MemberRow}
 use Rattle.dj_directory.specs.Numberings.{Numbering, number_of}
-use Rattle.dj_directory.specs.Rows.{IsRow, methods_named}
-use Rattle.dj_directory.proofs.PlaceLaws.{method_row, method_there}
+use Rattle.dj_directory.specs.DirectoryRows.{AreInOrder, IsRow, IsThere, RowsDiffer, methods_named}
+use Rattle.dj_directory.proofs.PlaceLaws.{first_method_there, method_row, method_there}
 use Rattle.dj_directory.proofs.directory.Directory.method_rows.Goals as goal
 
 pub returns-clause-there : goal.returns-clause-there
@@ -16,3 +20,15 @@ returns-clause-named c =
     subst (λ (d : Numbering). (row : MemberRow) → Contains c.deref.result.now row → IsRow (number_of d) (methods_named d.program) row) c.self.view_is
     (λ row there. method_row c.self.inside.table.now c.self.inside.numbers c.self.inside.methods.items c.self.inside.fields.items c.self.inside.first_methods.items c.self.inside.first_fields.items c.self.invariant row
     (c.self.invariant.first_methods_are.within row (subst (λ (rows : List MemberRow). Contains rows row) c.deref.ensures.value there)))
+
+pub returns-clause-whole : goal.returns-clause-whole
+returns-clause-whole c =
+    subst (λ (d : Numbering). (class place : ℕ) (name : Name) (desc : Desc) → class < length d.program → method_place (methods_at d.program class) name desc ≡ Some place → IsThere c.deref.result.now class place) c.self.view_is
+    (λ class place name desc less told. subst (λ (rows : List MemberRow). IsThere rows class place) (sym c.deref.ensures.value)
+    (first_method_there c.self.inside.table.now c.self.inside.numbers c.self.inside.methods.items c.self.inside.fields.items c.self.inside.first_methods.items c.self.inside.first_fields.items c.self.invariant class place name desc less told))
+
+pub returns-clause-once : goal.returns-clause-once
+returns-clause-once c = subst RowsDiffer (sym c.deref.ensures.value) c.self.invariant.first_methods_are.once
+
+pub returns-clause-order : goal.returns-clause-order
+returns-clause-order c = subst AreInOrder (sym c.deref.ensures.value) c.self.invariant.first_methods_are.order

@@ -1,10 +1,10 @@
 use Rattle.std.proofs.Common.{◌≡◌, ◌<◌, ℕ, List, Contains, Some, length, subst}
-use Rattle.dj_declared.specs.Files.{desc_in}
+use Rattle.dj_declared.specs.trusted.Files.{desc_in}
 use Rattle.dj_declared.specs.Members.{IsDescriptor}
 use Rattle.dj_classes.specs.Tables.{methods_at}
 use Rattle.dj_directory.specs.declared.rows.MemberRow.{MemberRow}
 use Rattle.dj_directory.specs.Numberings.{DeclareMethods, Numbering, number_of}
-use Rattle.dj_directory.specs.Rows.{AreRowsWith}
+use Rattle.dj_directory.specs.DirectoryRows.{AreRowsWith}
 use Rattle.dj_directory.proofs.FirstLaws.{classes_differ}
 use Rattle.dj_directory.proofs.PlaceLaws.{method_at, method_there, methods_declared}
 use Rattle.dj_directory.proofs.directory.Directory.methods_of.Goals as goal

@@ -1,4 +1,4 @@
-use Rattle.dj_directory.specs.Rows.{IsGathering}
+use Rattle.dj_directory.specs.DirectoryRows.{IsGathering}
 use Rattle.dj_directory.proofs.directory.Directory.of.Given as goal
 
 -- what is gathered so far

@@ -1,5 +1,5 @@
 use Rattle.std.proofs.Common.{IfOk, sym, subst}
-use Rattle.dj_entries.specs.Entries.{Entry}
+use Rattle.dj_entries.specs.trusted.Entries.{Entry}
 use Rattle.dj_entries.specs.Pooling.{keyed_entries, PutsOne, IsKeyOf}
 use Rattle.dj_entries.proofs.PoolChains.{add_fields, add_puts}
 use Rattle.dj_entries.proofs.pool.PoolBuilder.add.Goals as goal

@@ -1,4 +1,4 @@
-use Rattle.dj_entries.specs.Entries.{Class}
+use Rattle.dj_entries.specs.trusted.Entries.{Class}
 use Rattle.dj_entries.proofs.FoundEntries.{class_sought}
 use Rattle.dj_entries.proofs.pool.PoolBuilder.class_index.Goals as goal
 

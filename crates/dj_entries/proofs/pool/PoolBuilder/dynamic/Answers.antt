@@ -1,5 +1,5 @@
 use Rattle.std.proofs.Common.{subst}
-use Rattle.dj_entries.specs.Entries.{NameAndType, Dynamic}
+use Rattle.dj_entries.specs.trusted.Entries.{NameAndType, Dynamic}
 use Rattle.dj_entries.specs.Pooling.{Puts}
 use Rattle.dj_entries.proofs.PoolChains.{dynamic_key}
 use Rattle.dj_entries.proofs.pool.PoolBuilder.dynamic.Goals as goal

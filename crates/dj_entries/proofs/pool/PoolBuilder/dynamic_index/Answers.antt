@@ -1,4 +1,4 @@
-use Rattle.dj_entries.specs.Entries.{Dynamic}
+use Rattle.dj_entries.specs.trusted.Entries.{Dynamic}
 use Rattle.dj_entries.proofs.FoundEntries.{dynamic_sought}
 use Rattle.dj_entries.proofs.pool.PoolBuilder.dynamic_index.Goals as goal
 

@@ -1,4 +1,4 @@
-use Rattle.dj_entries.specs.Entries.{Field}
+use Rattle.dj_entries.specs.trusted.Entries.{Field}
 use Rattle.dj_entries.proofs.FoundEntries.{field_sought}
 use Rattle.dj_entries.proofs.pool.PoolBuilder.field_index.Goals as goal
 

@@ -1,5 +1,5 @@
 use Rattle.std.proofs.Common.{refl}
-use Rattle.dj_entries.specs.Entries.{Integer}
+use Rattle.dj_entries.specs.trusted.Entries.{Integer}
 use Rattle.dj_entries.proofs.pool.PoolBuilder.integer.Goals as goal
 
 pub add-requires : goal.add-requires

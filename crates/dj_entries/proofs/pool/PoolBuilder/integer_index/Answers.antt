@@ -1,6 +1,6 @@
 use Rattle.std.proofs.Common.{ℤ, ap, ◌∙◌, w32, to_z, of_z, SFits, rules}
 use Rattle.std.proofs.lemmas.Int.{to_z-of_z}
-use Rattle.dj_entries.specs.Entries.{Integer}
+use Rattle.dj_entries.specs.trusted.Entries.{Integer}
 use Rattle.dj_entries.specs.Pooling.{found_index}
 use Rattle.dj_entries.proofs.FoundEntries.{integer_sought}
 use Rattle.dj_entries.proofs.pool.PoolBuilder.integer_index.Goals as goal

@@ -1,4 +1,4 @@
-use Rattle.dj_entries.specs.Entries.{InterfaceMethod}
+use Rattle.dj_entries.specs.trusted.Entries.{InterfaceMethod}
 use Rattle.dj_entries.proofs.FoundEntries.{interface_sought}
 use Rattle.dj_entries.proofs.pool.PoolBuilder.interface_method_index.Goals as goal
 

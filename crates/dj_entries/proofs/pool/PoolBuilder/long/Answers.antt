@@ -1,5 +1,5 @@
 use Rattle.std.proofs.Common.{refl}
-use Rattle.dj_entries.specs.Entries.{Long}
+use Rattle.dj_entries.specs.trusted.Entries.{Long}
 use Rattle.dj_entries.proofs.pool.PoolBuilder.long.Goals as goal
 
 pub add-requires : goal.add-requires

@@ -1,6 +1,6 @@
 use Rattle.std.proofs.Common.{ℤ, ap, ◌∙◌, w64, to_z, of_z, SFits, rules}
 use Rattle.std.proofs.lemmas.Int.{to_z-of_z}
-use Rattle.dj_entries.specs.Entries.{Long}
+use Rattle.dj_entries.specs.trusted.Entries.{Long}
 use Rattle.dj_entries.specs.Pooling.{found_index}
 use Rattle.dj_entries.proofs.FoundEntries.{long_sought}
 use Rattle.dj_entries.proofs.pool.PoolBuilder.long_index.Goals as goal

@@ -1,5 +1,5 @@
 use Rattle.std.proofs.Common.{subst}
-use Rattle.dj_entries.specs.Entries.{Class, NameAndType}
+use Rattle.dj_entries.specs.trusted.Entries.{Class, NameAndType}
 use Rattle.dj_entries.specs.Pooling.{Puts}
 use Rattle.dj_entries.proofs.PoolChains.{member_put, member_stop_last}
 use Rattle.dj_entries.proofs.pool.PoolBuilder.member.Goals as goal

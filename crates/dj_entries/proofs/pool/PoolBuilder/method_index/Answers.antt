@@ -1,4 +1,4 @@
-use Rattle.dj_entries.specs.Entries.{Method}
+use Rattle.dj_entries.specs.trusted.Entries.{Method}
 use Rattle.dj_entries.proofs.FoundEntries.{method_sought}
 use Rattle.dj_entries.proofs.pool.PoolBuilder.method_index.Goals as goal
 

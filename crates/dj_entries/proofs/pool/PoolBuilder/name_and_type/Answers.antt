@@ -1,5 +1,5 @@
 use Rattle.std.proofs.Common.{subst}
-use Rattle.dj_entries.specs.Entries.{NameAndType}
+use Rattle.dj_entries.specs.trusted.Entries.{NameAndType}
 use Rattle.dj_entries.proofs.PoolChains.{PutsTexts, names_key}
 use Rattle.dj_entries.proofs.pool.PoolBuilder.name_and_type.Goals as goal
 

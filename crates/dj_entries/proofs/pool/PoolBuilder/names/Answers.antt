@@ -1,5 +1,5 @@
 use Rattle.std.proofs.Common.{subst}
-use Rattle.dj_entries.specs.Entries.{Utf8}
+use Rattle.dj_entries.specs.trusted.Entries.{Utf8}
 use Rattle.dj_entries.specs.Pooling.{PutsOne}
 use Rattle.dj_entries.proofs.PoolChains.{texts_put}
 use Rattle.dj_entries.proofs.pool.PoolBuilder.names.Goals as goal

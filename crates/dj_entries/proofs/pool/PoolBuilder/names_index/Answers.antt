@@ -1,4 +1,4 @@
-use Rattle.dj_entries.specs.Entries.{NameAndType}
+use Rattle.dj_entries.specs.trusted.Entries.{NameAndType}
 use Rattle.dj_entries.proofs.FoundEntries.{names_sought}
 use Rattle.dj_entries.proofs.pool.PoolBuilder.names_index.Goals as goal
 

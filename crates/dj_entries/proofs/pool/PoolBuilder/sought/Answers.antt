@@ -1,5 +1,5 @@
 use Rattle.std.proofs.Common.{◌≡◌, ◌∙◌, subst}
-use Rattle.dj_entries.specs.Entries.{Entry}
+use Rattle.dj_entries.specs.trusted.Entries.{Entry}
 use Rattle.dj_entries.specs.Pooling.{found_index, IsSought}
 use Rattle.dj_entries.proofs.FoundEntries.{sought_found}
 use Rattle.dj_entries.proofs.pool.PoolBuilder.sought.Goals as goal

@@ -1,4 +1,4 @@
-use Rattle.dj_entries.specs.Entries.{Text}
+use Rattle.dj_entries.specs.trusted.Entries.{Text}
 use Rattle.dj_entries.proofs.FoundEntries.{string_sought}
 use Rattle.dj_entries.proofs.pool.PoolBuilder.string_index.Goals as goal
 

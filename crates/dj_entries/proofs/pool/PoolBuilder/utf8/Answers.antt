@@ -1,5 +1,5 @@
 use Rattle.std.proofs.Common.{IfOk, None, sym, ◌∙◌, subst}
-use Rattle.dj_entries.specs.Entries.{Utf8}
+use Rattle.dj_entries.specs.trusted.Entries.{Utf8}
 use Rattle.dj_entries.specs.Pooling.{AreKeysOf, keyed_entries, PutsOne}
 use Rattle.dj_entries.proofs.PoolChains.{text_fields, text_puts, new_fields, new_puts}
 use Rattle.dj_entries.proofs.PoolEntries.{full_test}

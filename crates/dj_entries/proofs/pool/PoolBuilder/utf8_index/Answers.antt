@@ -1,5 +1,5 @@
 use Rattle.std.proofs.Common.{◌≡◌, ◌∙◌, subst}
-use Rattle.dj_entries.specs.Entries.{Utf8}
+use Rattle.dj_entries.specs.trusted.Entries.{Utf8}
 use Rattle.dj_entries.specs.Pooling.{found_index}
 use Rattle.dj_entries.proofs.FoundEntries.{text_found, no_text_found}
 use Rattle.dj_entries.proofs.pool.PoolBuilder.utf8_index.Goals as goal

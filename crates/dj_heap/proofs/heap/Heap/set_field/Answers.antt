@@ -1,6 +1,6 @@
 use Rattle.std.proofs.Common.{set, sym, ap, ◌∙◌}
 use Rattle.dj_heap.specs.declared.object.Object.TheVariants as objects
-use Rattle.dj_names.specs.Heaps as heaps
+use Rattle.dj_names.specs.trusted.Heaps as heaps
 use Rattle.dj_heap.specs.Heaps.{with_field}
 use Rattle.dj_heap.proofs.Replacing.{replaces}
 use Rattle.dj_heap.proofs.heap.Heap.set_field.Goals as goal

@@ -1,5 +1,5 @@
 use Rattle.std.proofs.Common.{◌≡◌, map, ap, ◌∙◌, subst}
-use Rattle.dj_model.specs.Program.{Program}
+use Rattle.dj_model.specs.trusted.Program.{Program}
 use Rattle.dj_declared.specs.Files.{bare_class}
 use Rattle.dj_linking.specs.Linked.{Linked}
 use Rattle.dj_image.proofs.Standing.{stands, bare_linked}

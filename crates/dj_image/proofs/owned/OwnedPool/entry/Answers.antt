@@ -1,5 +1,5 @@
 use Rattle.std.proofs.Common.{Some, ap, ◌∙◌, sym, List, arith}
-use Rattle.dj_pool.specs.Pool.{Constant, constant_at}
+use Rattle.dj_pool.specs.trusted.Pool.{Constant, constant_at}
 use Rattle.dj_image.specs.declared.owned.OwnedEntry.{OwnedEntry}
 use Rattle.dj_image.specs.Owned.{constant_of_owned}
 use Rattle.dj_image.proofs.OwnedFacts.{entry_found, entry_missing}

@@ -1,8 +1,8 @@
 use Rattle.std.proofs.Common.{◌≡◌, ◌<◌, ℕ, map, length, Some, slice_get}
 use Rattle.dj_names.specs.declared.native.NativeId.{NativeId}
-use Rattle.dj_names.specs.Types.{parameters_of}
-use Rattle.dj_model.specs.Program.{Native}
-use Rattle.dj_model.specs.Linking.{FoundMethod}
+use Rattle.dj_names.specs.trusted.Types.{parameters_of}
+use Rattle.dj_model.specs.trusted.Program.{Native}
+use Rattle.dj_model.specs.trusted.Linking.{FoundMethod}
 use Rattle.dj_types.specs.Members.{all_methods}
 use Rattle.dj_image.specs.Imaged.{program_of, typed_of}
 use Rattle.dj_invoking.specs.Natives.{AreClasses, row_at}

@@ -1,7 +1,7 @@
 use Rattle.std.proofs.Common.{◌≡◌, ◌<◌, ◌≤◌, ℕ, List, [], length, get_or, slice_get, refl, sym, ◌∙◌, ap, subst, arith}
 use Rattle.std.specs.Global.{Vec}
 use Rattle.std.proofs.lemmas.List.{length-map}
-use Rattle.dj_model.specs.Program.{interfaces_of}
+use Rattle.dj_model.specs.trusted.Program.{interfaces_of}
 use Rattle.dj_classes.specs.Tables.{interface_numbers}
 use Rattle.dj_linking.specs.Bits.{words_for}
 use Rattle.dj_linking.specs.Numbers.{AreBelow, lists_of}

@@ -1,5 +1,5 @@
 use Rattle.std.proofs.Common.{◌≡◌, ◌<◌, length, sym, ◌∙◌, subst}
-use Rattle.dj_model.specs.Linking.{chain, is_among}
+use Rattle.dj_model.specs.trusted.Linking.{chain, is_among}
 use Rattle.dj_linking.specs.Linked.{Linked, class_name}
 use Rattle.dj_linking.proofs.Subclasses.{chain_numbers}
 use Rattle.dj_linking.proofs.linker.Linker.is_own_or_superclass.Goals as goal

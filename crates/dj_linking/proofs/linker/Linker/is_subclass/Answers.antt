@@ -1,6 +1,6 @@
 use Rattle.std.proofs.Common.{◌≡◌, ◌<◌, List, ℕ, length, sym, ◌∙◌, subst}
 use Rattle.std.specs.Global.{Vec}
-use Rattle.dj_model.specs.Linking.{is_subclass}
+use Rattle.dj_model.specs.trusted.Linking.{is_subclass}
 use Rattle.dj_linking.specs.Linked.{Linked, class_name}
 use Rattle.dj_linking.specs.Numbers.{AreAbove, lists_of}
 use Rattle.dj_linking.proofs.Subclasses.{subclass_numbers}

@@ -2,7 +2,7 @@ use Rattle.std.proofs.Common.{◌≡◌, ◌<◌, ℕ, List, Some, length, sym, 
 use Rattle.std.specs.Global.{Vec}
 use Rattle.std.specs.Option.{option_map}
 use Rattle.dj_classes.specs.Tables.{method_there}
-use Rattle.dj_model.specs.Types.{object_name}
+use Rattle.dj_model.specs.trusted.Types.{object_name}
 use Rattle.dj_linking.specs.Linked.{Linked, prefix_of, resolved_method}
 use Rattle.dj_linking.specs.Numbers.{AreAbove, lists_of}
 use Rattle.dj_linking.proofs.Resolution.{method_here, method_above, object_within}

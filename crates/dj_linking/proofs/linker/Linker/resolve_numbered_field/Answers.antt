@@ -1,8 +1,8 @@
 use Rattle.std.proofs.Common.{◌≡◌, ◌<◌, ℕ, List, Some, length, sym, ◌∙◌, ap, subst}
 use Rattle.std.specs.Global.{Vec}
 use Rattle.std.specs.Option.{option_map}
-use Rattle.dj_model.specs.Program.{Program}
-use Rattle.dj_declared.specs.Files.{desc_in}
+use Rattle.dj_model.specs.trusted.Program.{Program}
+use Rattle.dj_declared.specs.trusted.Files.{desc_in}
 use Rattle.dj_classes.specs.Tables.{field_there}
 use Rattle.dj_linking.specs.Linked.{Linked, prefix_of, resolved_field}
 use Rattle.dj_linking.specs.Chained.{AreFieldChains}

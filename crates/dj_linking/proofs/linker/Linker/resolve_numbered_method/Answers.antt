@@ -1,9 +1,9 @@
 use Rattle.std.proofs.Common.{◌≡◌, ◌<◌, ℕ, List, Some, None, IfSome, length, sym, ◌∙◌, ap, subst}
 use Rattle.std.specs.Global.{Vec}
 use Rattle.std.specs.Option.{option_map}
-use Rattle.dj_model.specs.Program.{Program}
-use Rattle.dj_model.specs.Types.{object_name}
-use Rattle.dj_declared.specs.Files.{desc_in}
+use Rattle.dj_model.specs.trusted.Program.{Program}
+use Rattle.dj_model.specs.trusted.Types.{object_name}
+use Rattle.dj_declared.specs.trusted.Files.{desc_in}
 use Rattle.dj_classes.specs.Tables.{method_there}
 use Rattle.dj_linking.specs.Linked.{Linked, prefix_of, resolved_method}
 use Rattle.dj_linking.specs.Chained.{AreMethodChains}

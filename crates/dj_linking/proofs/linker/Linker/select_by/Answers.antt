@@ -1,6 +1,6 @@
 use Rattle.std.proofs.Common.{◌≡◌, ◌<◌, ℕ, Option, Some, IfSome, length, sym, ap, subst}
 use Rattle.dj_names.specs.declared.descriptor.Ty.{Ty}
-use Rattle.dj_model.specs.Linking.{FoundMethod, member_class, select}
+use Rattle.dj_model.specs.trusted.Linking.{FoundMethod, member_class, select}
 use Rattle.dj_classes.specs.Tables.{class_number, methods_at, method_there}
 use Rattle.dj_directory.specs.Calls.{IsCallTable}
 use Rattle.dj_linking.specs.Linked.{Linked, prefix_of}

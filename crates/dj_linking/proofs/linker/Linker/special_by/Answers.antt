@@ -1,8 +1,8 @@
 use Rattle.std.proofs.Common.{◌≡◌, ◌<◌, List, ℕ, Bool, true, false, Some, length, slice_get, refl, sym, ◌∙◌, ap, subst, inl, inr}
 use Rattle.std.specs.Option.{option_map}
-use Rattle.dj_names.specs.Types.{Name, same_name}
-use Rattle.dj_model.specs.Types.{constructor_name}
-use Rattle.dj_model.specs.Linking.{FoundMethod, special_method}
+use Rattle.dj_names.specs.trusted.Types.{Name, same_name}
+use Rattle.dj_model.specs.trusted.Types.{constructor_name}
+use Rattle.dj_model.specs.trusted.Linking.{FoundMethod, special_method}
 use Rattle.dj_declared.specs.Members.{method_name}
 use Rattle.dj_classes.specs.Tables.{methods_at, method_there}
 use Rattle.dj_directory.specs.Calls.{IsCallTable}

@@ -1,8 +1,8 @@
 use Rattle.std.proofs.Common.{◌≡◌, ◌<◌, List, ℕ, true, false, Some, length, sym, ◌∙◌, subst, inl, inr}
 use Rattle.std.specs.Option.{option_map}
-use Rattle.dj_names.specs.Types.{same_name}
-use Rattle.dj_model.specs.Linking.{FoundMethod, special_method}
-use Rattle.dj_declared.specs.Files.{desc_in}
+use Rattle.dj_names.specs.trusted.Types.{same_name}
+use Rattle.dj_model.specs.trusted.Linking.{FoundMethod, special_method}
+use Rattle.dj_declared.specs.trusted.Files.{desc_in}
 use Rattle.dj_classes.specs.Tables.{method_there}
 use Rattle.dj_linking.specs.Linked.{Linked, class_name}
 use Rattle.dj_linking.specs.Numbers.{IsNamed, TellsMethod}

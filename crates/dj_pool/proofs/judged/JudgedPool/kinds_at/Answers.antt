@@ -1,6 +1,6 @@
 use Rattle.std.proofs.Common.{◌-◌, ◌<◌, ◌≤◌, List, length, Some, ap, ◌∙◌, arith}
 use Rattle.std.specs.Prelude.{option_map}
-use Rattle.dj_pool.specs.Pool.{Constant, constant_at}
+use Rattle.dj_pool.specs.trusted.Pool.{Constant, constant_at}
 use Rattle.dj_pool.specs.Tests.{kinds_of}
 use Rattle.dj_pool.proofs.Found.{kinds_found, kinds_missing}
 use Rattle.dj_pool.proofs.judged.JudgedPool.kinds_at.Goals as goal

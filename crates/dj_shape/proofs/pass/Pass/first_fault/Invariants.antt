@@ -1,5 +1,5 @@
 use Rattle.std.proofs.Common.{ℕ, ◌<◌}
-use Rattle.dj_model.specs.Shape.{Holds}
+use Rattle.dj_model.specs.trusted.Shape.{Holds}
 use Rattle.dj_shape.specs.Passing.{Before, Case, IsCase}
 use Rattle.dj_shape.proofs.pass.Pass.first_fault.Given as goal
 

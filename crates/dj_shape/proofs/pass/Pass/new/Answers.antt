@@ -1,5 +1,5 @@
 use Rattle.std.proofs.Common.{ap, sym, Some, arith}
-use Rattle.dj_model.specs.Kinds.{Kinds}
+use Rattle.dj_model.specs.trusted.Kinds.{Kinds}
 use Rattle.dj_shape.proofs.pass.Pass.new.Goals as goal
 
 pub returns : goal.returns

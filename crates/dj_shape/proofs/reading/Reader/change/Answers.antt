@@ -1,6 +1,6 @@
 use Rattle.std.proofs.Common.{◌≡◌, ◌∙◌, ℕ, List, Option, Some, length, take, ap, sym, subst, arith}
 use Rattle.dj_names.specs.declared.descriptor.Kind.{Kind}
-use Rattle.dj_model.specs.Kinds.{form_entries}
+use Rattle.dj_model.specs.trusted.Kinds.{form_entries}
 use Rattle.dj_shape.specs.declared.arena.Place.{Place}
 use Rattle.dj_shape.specs.Reading.{ArePlaces, ChangesTo, frame_code, kept_entries}
 use Rattle.dj_shape.proofs.Places.{kept_few, kept_same, length_take, places_kept}

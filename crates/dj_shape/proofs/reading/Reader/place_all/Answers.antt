@@ -1,6 +1,6 @@
 use Rattle.std.proofs.Common.{◌≡◌, ◌∙◌, ◌<◌, ℕ, suc, List, [], ◌∷◌, get_or, length, take, ap, sym, subst, arith}
 use Rattle.std.proofs.lemmas.List.{length-append}
-use Rattle.dj_model.specs.Kinds.{entry_slots}
+use Rattle.dj_model.specs.trusted.Kinds.{entry_slots}
 use Rattle.dj_shape.specs.declared.arena.Place.{Place}
 use Rattle.dj_shape.specs.Arena.{IsAt}
 use Rattle.dj_shape.specs.Reading.{ArePlaces}

@@ -1,5 +1,5 @@
 use Rattle.std.proofs.Common.{◌≡◌, ◌≤◌, ◌<◌, length, ap, refl, arith}
-use Rattle.dj_model.specs.Kinds.{depth, entry_slots, form_entries}
+use Rattle.dj_model.specs.trusted.Kinds.{depth, entry_slots, form_entries}
 use Rattle.dj_shape.specs.Reading.{frame_code}
 use Rattle.dj_shape.specs.Told.{told_in}
 use Rattle.dj_shape.proofs.FrameLaws.{none_read, many_read, deep_read, some_read, low_so, deep_so}

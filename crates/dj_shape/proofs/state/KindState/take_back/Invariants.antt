@@ -1,5 +1,5 @@
 use Rattle.std.proofs.Common.{◌≡◌, length, reverse}
-use Rattle.dj_model.specs.Shape.{taken}
+use Rattle.dj_model.specs.trusted.Shape.{taken}
 use Rattle.dj_shape.specs.Standing.{SameLocals}
 use Rattle.dj_shape.proofs.state.KindState.take_back.Given as goal
 

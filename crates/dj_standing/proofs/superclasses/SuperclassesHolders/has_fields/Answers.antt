@@ -1,5 +1,5 @@
 use Rattle.std.proofs.Common.{◌∙◌, length, ap, arith, inl, inr}
-use Rattle.dj_model.specs.Program.{Class}
+use Rattle.dj_model.specs.trusted.Program.{Class}
 use Rattle.dj_standing.proofs.Holding.{array_told, class_told, counted}
 use Rattle.dj_standing.proofs.superclasses.SuperclassesHolders.has_fields.Goals as goal
 

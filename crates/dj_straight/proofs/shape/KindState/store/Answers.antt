@@ -1,6 +1,6 @@
 use Rattle.std.proofs.Common.{◌≡◌, ℕ, List, Option, Some, length, [], ap, sym, ◌∙◌, arith}
 use Rattle.dj_names.specs.declared.descriptor.Kind.{Kind}
-use Rattle.dj_straight.specs.Shape.{set_kind, without_long_before}
+use Rattle.dj_straight.specs.trusted.Shape.{set_kind, without_long_before}
 use Rattle.dj_straight.specs.Shaping.{Standing, room}
 use Rattle.dj_straight.proofs.Shaping.{seam, stored, not_stored, stored_past}
 use Rattle.dj_straight.proofs.shape.KindState.store.Goals as goal

@@ -1,5 +1,5 @@
 use Rattle.std.proofs.Common.{◌≡◌, drop}
-use Rattle.dj_straight.specs.Shape.{taken}
+use Rattle.dj_straight.specs.trusted.Shape.{taken}
 use Rattle.dj_straight.specs.Shaping.{SameLocals}
 use Rattle.dj_straight.proofs.shape.KindState.take_all.Given as goal
 

@@ -1,6 +1,6 @@
 use Rattle.std.proofs.Common.{◌++◌, ◌∷◌, [], map, ap, ◌∙◌, arith}
 use Rattle.std.proofs.lemmas.List.{take_all, map_push, length-map}
-use Rattle.dj_straight.specs.Instructions.{instruction_of}
+use Rattle.dj_straight.specs.trusted.Instructions.{instruction_of}
 use Rattle.dj_straight.specs.Methods.{action_view}
 use Rattle.dj_edge.proofs.Lists.{mapped_more}
 use Rattle.dj_straight.proofs.straight.code.actions_of.Goals as goal

@@ -1,5 +1,5 @@
 use Rattle.std.proofs.Common.{◌≡◌, map, take}
-use Rattle.dj_straight.specs.Instructions.{instruction_of}
+use Rattle.dj_straight.specs.trusted.Instructions.{instruction_of}
 use Rattle.dj_straight.specs.Methods.{action_view}
 use Rattle.dj_straight.proofs.straight.code.actions_of.Given as goal
 

@@ -2,7 +2,7 @@ use Rattle.std.proofs.Common.{◌≡◌, ◌++◌, [], get_or, map, ap, ◌∙�
 use Rattle.std.proofs.lemmas.List.{take_all}
 use Rattle.dj_class.specs.declared.class.Attribute.{Attribute}
 use Rattle.dj_class.specs.Parts.{attribute_of}
-use Rattle.dj_straight.specs.Straight.{bodies_of}
+use Rattle.dj_straight.specs.trusted.Straight.{bodies_of}
 use Rattle.dj_straight.proofs.StraightCode.{body_if, body_more, pushed_body, same_bodies}
 use Rattle.dj_straight.specs.Finds.{now_of}
 use Rattle.dj_straight.proofs.straight.code.bodies_named.Goals.{then-is_named+in_ok-push, else-is_named}

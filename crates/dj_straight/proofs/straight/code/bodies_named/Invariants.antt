@@ -1,6 +1,6 @@
 use Rattle.std.proofs.Common.{◌≡◌, map, take}
 use Rattle.dj_class.specs.Parts.{attribute_of}
-use Rattle.dj_straight.specs.Straight.{bodies_of}
+use Rattle.dj_straight.specs.trusted.Straight.{bodies_of}
 use Rattle.dj_straight.proofs.straight.code.bodies_named.Given as goal
 
 -- the bodies so far

@@ -1,7 +1,7 @@
 use Rattle.std.proofs.Common.{◌≡◌, ◌∷◌, [], ℕ, List, Bor, map, get_or, sym, ap, ◌∙◌, codes, arith}
 use Rattle.dj_class.specs.Parts.{attribute_of}
 use Rattle.dj_straight.specs.Finds.{found_code}
-use Rattle.dj_straight.specs.Straight.{bodies_of, IsStraightBody, HasStraightCode}
+use Rattle.dj_straight.specs.trusted.Straight.{bodies_of, IsStraightBody, HasStraightCode}
 use Rattle.dj_straight.proofs.StraightCode.{ok_finds, body_attributes, body_short, only_body}
 use Rattle.dj_straight.proofs.straight.code.code_of_attributes.Goals as goal
 

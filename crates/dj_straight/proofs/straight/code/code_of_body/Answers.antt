@@ -1,7 +1,7 @@
 use Rattle.std.proofs.Common.{sym, ◌∙◌}
 use Rattle.dj_class.specs.CodeViews.{code_of}
 use Rattle.dj_straight.specs.Finds.{found_code}
-use Rattle.dj_straight.specs.Straight.{IsStraightCode, IsStraightBody}
+use Rattle.dj_straight.specs.trusted.Straight.{IsStraightCode, IsStraightBody}
 use Rattle.dj_straight.proofs.StraightCode.{ok_finds, code_body}
 use Rattle.dj_straight.proofs.Unread.{no_code}
 use Rattle.dj_straight.proofs.straight.code.code_of_body.Goals as goal

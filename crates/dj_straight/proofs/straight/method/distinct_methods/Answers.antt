@@ -1,9 +1,9 @@
 use Rattle.std.proofs.Common.{ℕ, List, map, sym, subst, ◌∙◌, ap}
 use Rattle.std.proofs.lemmas.Bool.{true≢false}
-use Rattle.dj_edge.specs.Counts.{AllDiffer}
+use Rattle.dj_edge.specs.trusted.Counts.{AllDiffer}
 use Rattle.dj_class.specs.Members.{member_of}
 use Rattle.dj_straight.specs.Finds.{now_of, methods_view}
-use Rattle.dj_straight.specs.Straight.{AreStraightMethods, AreDistinctMethods}
+use Rattle.dj_straight.specs.trusted.Straight.{AreStraightMethods, AreDistinctMethods}
 use Rattle.dj_straight.proofs.StraightCode.{ok_finds}
 use Rattle.dj_straight.proofs.StraightNames.{distinct, not_distinct, some_names, method_names, none_found}
 use Rattle.dj_straight.proofs.straight.method.distinct_methods.Goals as goal

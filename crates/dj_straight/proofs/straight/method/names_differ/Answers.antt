@@ -2,7 +2,7 @@ use Rattle.std.proofs.Common.{List, ℕ, map, take, refl, sym, subst, arith}
 use Rattle.std.proofs.lemmas.Bool.{true≢false}
 use Rattle.std.proofs.lemmas.List.{take_all, length-map}
 use Rattle.std.specs.BTreeSet as sorted
-use Rattle.dj_edge.specs.Counts.{AllDiffer}
+use Rattle.dj_edge.specs.trusted.Counts.{AllDiffer}
 use Rattle.dj_straight.specs.Finds.{now_of}
 use Rattle.dj_straight.proofs.StraightNames.{key_cmp, AreSeen, none_seen, one_more_seen, was_seen, names_more, name_again}
 use Rattle.dj_straight.proofs.straight.method.names_differ.Goals as goal

@@ -1,10 +1,11 @@
 use Rattle.std.proofs.Common.{◌≡◌, ◌+◌, ◌<◌, ◌++◌, ◌∷◌, [], ℕ, List, length, map, take, refl, sym, ap, ◌∙◌, subst, arith}
 use Rattle.std.proofs.lemmas.List.{length-map, map_push}
-use Rattle.dj_class.specs.ClassFile.{MemberInfo}
+use Rattle.dj_class.specs.trusted.ClassFile.{MemberInfo}
 use Rattle.dj_class.specs.Members.{member_of}
 use Rattle.dj_edge.proofs.Lists.{mapped_at, mapped_more}
 use Rattle.dj_straight.specs.Finds.{now_of}
-use Rattle.dj_straight.specs.Straight.{IsPlainMethod, ArePlainNames}
+use Rattle.dj_straight.specs.trusted.Straight.{IsPlainMethod}
+use Rattle.dj_straight.specs.Straight.{ArePlainNames}
 use Rattle.dj_straight.proofs.StraightNames.{name_push, no_names}
 use Rattle.dj_straight.proofs.straight.method.plain_names.Goals as goal
 

@@ -1,6 +1,6 @@
 use Rattle.std.proofs.Common.{List, subst, sym}
-use Rattle.dj_class.specs.ClassFile.{AttributeInfo}
-use Rattle.dj_straight.specs.Straight.{HasStraightCode}
+use Rattle.dj_class.specs.trusted.ClassFile.{AttributeInfo}
+use Rattle.dj_straight.specs.trusted.Straight.{HasStraightCode}
 use Rattle.dj_straight.proofs.straight.method.straight_method.Goals as goal
 
 pub returns-in-None : goal.returns-in-None

@@ -1,11 +1,11 @@
 use Rattle.std.proofs.Common.{◌≡◌, ◌+◌, ◌<◌, ◌++◌, ◌∷◌, [], List, length, map, take, refl, sym, ap, ◌∙◌, subst, arith}
 use Rattle.std.proofs.lemmas.List.{take_all, length-map, map_push}
 use Rattle.std.proofs.lemmas.List.Elements.{All-from_recursion}
-use Rattle.dj_class.specs.ClassFile.{MemberInfo, IsMethod}
+use Rattle.dj_class.specs.trusted.ClassFile.{MemberInfo, IsMethod}
 use Rattle.dj_class.specs.Members.{member_of}
-use Rattle.dj_straight.specs.Program.{Method}
+use Rattle.dj_straight.specs.trusted.Program.{Method}
 use Rattle.dj_straight.specs.Methods.{method_view}
-use Rattle.dj_straight.specs.Straight.{IsStraightMethod, AreStraightMethods}
+use Rattle.dj_straight.specs.trusted.Straight.{IsStraightMethod, AreStraightMethods}
 use Rattle.dj_edge.proofs.Lists.{mapped_at, mapped_more}
 use Rattle.dj_straight.proofs.Straights.{straight_push, no_methods}
 use Rattle.dj_straight.proofs.straight.method.straight_methods.Goals as goal

@@ -1,7 +1,7 @@
 use Rattle.std.proofs.Common.{map, take}
 use Rattle.dj_class.specs.Members.{member_of}
 use Rattle.dj_straight.specs.Methods.{method_view}
-use Rattle.dj_straight.specs.Straight.{AreStraightMethods}
+use Rattle.dj_straight.specs.trusted.Straight.{AreStraightMethods}
 use Rattle.dj_straight.proofs.straight.method.straight_methods.Given as goal
 
 -- the methods so far are straight

@@ -1,5 +1,5 @@
 use Rattle.std.proofs.Common.{◌≡◌, ◌+◌, length}
-use Rattle.dj_tokens.specs.Words.{tokens_after}
+use Rattle.dj_tokens.specs.trusted.Words.{tokens_after}
 use Rattle.dj_tokens.proofs.place.Place.at_word.Given as goal
 
 -- the rest has the tokens

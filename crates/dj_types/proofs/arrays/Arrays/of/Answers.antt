@@ -1,9 +1,5 @@
-use Rattle.std.proofs.Common.{◌≡◌, List, map, ap, ◌∙◌, refl, sym, subst}
-use Rattle.std.proofs.lemmas.List.{length-map}
-use Rattle.dj_names.specs.Types.{Name}
-use Rattle.dj_names.specs.Descriptors.{type_text}
-use Rattle.dj_model.specs.Program.{Program}
-use Rattle.dj_types.specs.declared.arrays.Arrays.{Arrays}
+use Rattle.std.proofs.Common.{List, map, ap, ◌∙◌}
+use Rattle.dj_names.specs.trusted.Types.{Name}
 use Rattle.dj_types.specs.declared.shapes.Shape.{Shape}
 use Rattle.dj_types.specs.Shapes.{shape_type}
 use Rattle.dj_types.specs.Kept.{component_in, text_in}

@@ -1,6 +1,6 @@
 use Rattle.std.proofs.Common.{ℕ, ◌+◌, ◌<◌, Some, length, sym, ap, subst, ◌∙◌, arith}
 use Rattle.std.proofs.lemmas.Option.{none-some, same_Some}
-use Rattle.dj_model.specs.Program.{Program}
+use Rattle.dj_model.specs.trusted.Program.{Program}
 use Rattle.dj_classes.specs.Tables.{fields_at}
 use Rattle.dj_types.specs.Typed.{Typed}
 use Rattle.dj_types.specs.Members.{fields_before}

@@ -1,7 +1,7 @@
 use Rattle.std.proofs.Common.{ℕ, ◌+◌, Some, sym, ap, subst, ◌∙◌, arith}
 use Rattle.std.proofs.lemmas.Option.{none-some, same_Some}
-use Rattle.dj_model.specs.Program.{Program}
-use Rattle.dj_declared.specs.Files.{desc_in}
+use Rattle.dj_model.specs.trusted.Program.{Program}
+use Rattle.dj_declared.specs.trusted.Files.{desc_in}
 use Rattle.dj_linking.proofs.Resolution.{DoNamesDiffer}
 use Rattle.dj_types.specs.Typed.{Typed}
 use Rattle.dj_types.specs.Members.{fields_before}

@@ -1,6 +1,6 @@
 use Rattle.std.proofs.Common.{◌≡◌, length, ap, subst, ◌∙◌, arith}
-use Rattle.dj_model.specs.Types.{object_name}
-use Rattle.dj_model.specs.Program.{Program}
+use Rattle.dj_model.specs.trusted.Types.{object_name}
+use Rattle.dj_model.specs.trusted.Program.{Program}
 use Rattle.dj_classes.specs.Tables.{class_number}
 use Rattle.dj_linking.proofs.Resolution.{DoNamesDiffer, object_within}
 use Rattle.dj_types.specs.Typed.{Typed, AreArrays}

@@ -1,7 +1,7 @@
 use Rattle.std.proofs.Common.{◌≡◌, Some, None, ap, subst, ◌∙◌}
 use Rattle.std.specs.Option.{option_map}
 use Rattle.dj_names.specs.declared.descriptor.Ty.{Ty}
-use Rattle.dj_model.specs.Linking.{FoundMethod, member_class, select}
+use Rattle.dj_model.specs.trusted.Linking.{FoundMethod, member_class, select}
 use Rattle.dj_classes.specs.Tables.{class_number, method_there}
 use Rattle.dj_linking.specs.Numbers.{TellsMethod}
 use Rattle.dj_types.specs.Typed.{Typed, type_at}

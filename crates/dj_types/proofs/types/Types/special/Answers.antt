@@ -1,6 +1,6 @@
 use Rattle.std.proofs.Common.{◌≡◌, Some, None, ap, subst, ◌∙◌}
 use Rattle.std.specs.Option.{option_map}
-use Rattle.dj_model.specs.Linking.{FoundMethod, special_method}
+use Rattle.dj_model.specs.trusted.Linking.{FoundMethod, special_method}
 use Rattle.dj_classes.specs.Tables.{method_there}
 use Rattle.dj_linking.specs.Linked.{class_name}
 use Rattle.dj_linking.specs.Numbers.{TellsMethod}

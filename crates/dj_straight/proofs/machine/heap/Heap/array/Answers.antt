@@ -1,8 +1,8 @@
 use Rattle.std.proofs.Common.{◌≡◌, get_or, sym, ap, ◌∙◌, ◌<◌, ◌≤◌, ◌-◌, ℤ, List, length, codes, subst, arith}
 use Rattle.std.specs.Global.{Vec}
 use Rattle.dj_names.specs.declared.run.Element.TheVariants.{Byte}
-use Rattle.dj_straight.specs.State.{Heap as ModelHeap}
-use Rattle.dj_straight.specs.Effects.{array_at, IsArray}
+use Rattle.dj_straight.specs.trusted.State.{Heap as ModelHeap}
+use Rattle.dj_straight.specs.trusted.Effects.{array_at, IsArray}
 use Rattle.dj_straight.proofs.ArrayLaws.{array_found, array_missing}
 use Rattle.dj_straight.proofs.machine.heap.Heap.array.Goals as goal
 

@@ -1,7 +1,7 @@
 use Rattle.std.proofs.Common.{◌≡◌, ◌<◌, ℤ, List, length, unsigned_abs, ap, ◌∙◌, arith, w8, w32, to_z, of_z}
 use Rattle.std.proofs.lemmas.Int.{to_z-of_z}
-use Rattle.dj_straight.specs.State.{Heap as ModelHeap}
-use Rattle.dj_straight.specs.Effects.{array_at, with_object, with_element}
+use Rattle.dj_straight.specs.trusted.State.{Heap as ModelHeap}
+use Rattle.dj_straight.specs.trusted.Effects.{array_at, with_object, with_element}
 use Rattle.dj_straight.specs.Arrays.{byte_array}
 use Rattle.dj_straight.proofs.ArrayLaws.{found_bytes, index_within, stored_heap}
 use Rattle.dj_straight.proofs.machine.heap.Heap.store.Goals as goal

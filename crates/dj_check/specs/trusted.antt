@@ -1,0 +1,11 @@
+pub mod Attributes
+pub mod Floats
+pub mod Malformed
+pub mod Classes
+pub mod Code
+pub mod Members
+pub mod Opcodes
+pub mod Instructions
+pub mod Methods
+pub mod Heads
+pub mod Rules

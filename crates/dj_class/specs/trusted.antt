@@ -1,0 +1,3 @@
+pub mod ClassFile
+pub mod Code
+pub mod Access

@@ -1,0 +1,2 @@
+pub mod StackMaps
+pub mod Written

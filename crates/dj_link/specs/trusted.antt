@@ -1,0 +1,4 @@
+pub mod Named
+pub mod Foreign
+pub mod Unlinked
+pub mod Lines

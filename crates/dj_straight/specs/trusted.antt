@@ -1,0 +1,16 @@
+pub mod StraightInstrs
+pub mod Cuts
+pub mod Objects
+pub mod Instructions
+pub mod StackMaps
+pub mod Program
+pub mod State
+pub mod Effects
+pub mod Initialisation
+pub mod Step
+pub mod Charges
+pub mod Metered
+pub mod FrameKinds
+pub mod Shape
+pub mod Methods
+pub mod Straight

@@ -1,0 +1,4 @@
+pub mod Jobs
+pub mod Report
+pub mod Ends
+pub mod Engine

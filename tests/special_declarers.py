@@ -1,0 +1,89 @@
+"""Sets in which so many classes declare one method and one field that the program marks these classes, drawn at random, the same in each run.
+A class names the members as those of each class and of each interface; what is wanted is what reference.py says.
+
+In a chain of classes few declare the members, so that the nearest one is farther than a short walk. Of the interfaces that have the method most
+have a private or a static one, which isn't found. Whether a member is static tells which one was found.
+"""
+
+import os
+import random
+
+import harness
+import reference
+from class_files import ABSTRACT, OBJECT, PUBLIC, STATIC, Pool, class_file
+from harness import Outcome
+from link_rule_cases import GETFIELD, GETSTATIC, INTERFACE, PRIVATE, STATICALLY, VIRTUAL, members
+from rule_cases import A_CLASS, AN_INTERFACE
+
+# The classes that stand beside the others have both members, and are more than are looked at one by one.
+BESIDE = 70
+METHODS = [PUBLIC | ABSTRACT, PUBLIC | ABSTRACT | STATIC, PRIVATE | ABSTRACT, PRIVATE | ABSTRACT | STATIC]
+FIELDS = [PUBLIC, PUBLIC | STATIC, PRIVATE, PRIVATE | STATIC]
+
+# Of each set how many classes it has, how likely one is below the one before it, every how many of them declare the members (none where that
+# is 0), how many interfaces there are, how many of them a class lists at most, and how long the members' names are. Searches are long because of
+# a chain, of lists, or of names; the last set has none that is long, so nothing is marked.
+SETS = {
+    "long chains": (160, 0.99, 11, 20, 1, 1),
+    "long lists": (60, 0.3, 0, 150, 30, 1),
+    "long names": (60, 0.99, 10, 60, 12, 201),
+    "chains and lists": (120, 0.99, 12, 90, 20, 30),
+    "no long search": (60, 0.6, 9, 20, 2, 1),
+}
+
+
+class Drawn:
+    """A set as it is drawn: its files by the names of their classes."""
+
+    def __init__(self, draw, classes, together, every, faces, listed, length):
+        self.draw, self.names = draw, ("m" * length, "f" * length)
+        self.faces, self.classes = ["I%d" % number for number in range(faces)], ["C%d" % number for number in range(classes)]
+        self.files = {"D%d" % number: self.one("D%d" % number, AN_INTERFACE, True, True) for number in range(BESIDE)}
+        for number, name in enumerate(self.faces):
+            lists = draw.sample(self.faces[:number], min(number, draw.randrange(2)))
+            self.files[name] = self.one(name, AN_INTERFACE, draw.random() < 0.6, draw.random() < 0.04, lists, METHODS[:1] + METHODS[1:] * 8)
+        for number, name in enumerate(self.classes):
+            above = self.classes[number - 1] if number and draw.random() < together else OBJECT
+            has_members = every and number % every == 0
+            # They are static in every second of these classes.
+            methods, fields = (flags[number // every % 2 :: 2] if has_members else flags for flags in (METHODS, FIELDS))
+            lists = draw.sample(self.faces, draw.randrange(listed + 1))
+            self.files[name] = self.one(name, A_CLASS | ABSTRACT, has_members, has_members, lists, methods, fields, super_name=above)
+        self.files["User"] = self.user()
+
+    def one(self, name, flags, has_method, has_field, interfaces=(), of_methods=METHODS, of_fields=(PUBLIC | STATIC,), **more):
+        method, field = self.names
+        methods = [(method, "()V", self.draw.choice(of_methods))] if has_method else []
+        fields = [(field, "I", self.draw.choice(of_fields))] if has_field else []
+        return class_file(name, methods, fields, interfaces, flags=flags, **more)
+
+    def user(self):
+        """Names both members of all classes and interfaces but those beside them."""
+        pool, told = Pool(), {}
+        method, field = "%s " + self.names[0] + " ()V", "%s " + self.names[1] + " I"
+        for name in self.classes:
+            told["static" + name] = STATICALLY, method % name
+            told["virtual" + name] = VIRTUAL, method % name
+        for name in self.faces:
+            told["face" + name] = INTERFACE, method % name
+        for name in self.classes + self.faces:
+            told["got" + name] = GETSTATIC, field % name
+            told["of" + name] = GETFIELD, field % name
+        return class_file("User", members(pool, **told), pool=pool)
+
+
+def write(folder, files):
+    for name, data in files.items():
+        with open(os.path.join(folder, name + ".class"), "wb") as file:
+            file.write(data)
+
+
+def drawn_sets(program, results):
+    for name, sizes in SETS.items():
+        with harness.scratch() as folder:
+            top = os.path.join(folder, "c")
+            os.mkdir(top)
+            write(top, Drawn(random.Random(name), *sizes).files)
+            text, status = reference.report(["check", top])
+            lines = harness.difference(Outcome(status, text), harness.run(program, ["check", "c"], folder))
+        results.add("tests/special: many declarers, %s" % name, ["check", "c"], lines)
