@@ -1,6 +1,6 @@
 -- Local variables with a cell for each that was given a value.
-use Rattle.std.proofs.Common.{◌≡◌, ◌≢◌, ◌<◌, ◌≤◌, ◌+◌, ◌-◌, ◌⊎◌, ℕ, zero, suc, List, [], ◌∷◌, ◌++◌, get_or, set, map, replicate, length, Option, None, Some, slice_get, refl, ap, sym, subst, ◌∙◌, inl, inr, arith}
-use Rattle.std.proofs.lemmas.List.{get_or-set_same, get_or-set_other, get_or-map, get_or_push, get_or_append_left, get_or-replicate, get_or_past, ext_get_or, set-get_or, length-map, length-set, length-append}
+use Rattle.std.proofs.Common.{◌≡◌, ◌≢◌, ◌<◌, ◌≤◌, ◌-◌, ◌⊎◌, ℕ, zero, suc, List, [], ◌∷◌, ◌++◌, get_or, set, replicate, length, Option, None, Some, slice_get, refl, ap, sym, subst, ◌∙◌, inl, inr, arith}
+use Rattle.std.proofs.lemmas.List.{get_or-set_same, get_or-set_other, get_or-map, get_or_push, get_or_append_left, ext_get_or, set-get_or, length-map, length-set, length-append}
 use Rattle.std.proofs.lemmas.Option.{slice_get-get_or, get_or_from_slice_get}
 use Rattle.std.proofs.lemmas.Bool.{cases_eq}
 use Rattle.dj_names.specs.declared.run.Value.{Value}
@@ -48,6 +48,13 @@ none_shared n = record { all = used_none n; within = λ i. omega (arith, zero_ea
 pub all_none : (n : ℕ) (cells : List Parts) → variables_in (replicate n 0) cells ≡ replicate n None
 all_none zero cells = refl
 all_none (suc n) cells = ap (λ (rest : List (Option Value)). None ∷ rest) (all_none n cells)
+
+pub shared_by_none : (places : List ℕ) (cells : List Parts) (n : ℕ) → places ≡ replicate {A = ℕ} n 0 → cells ≡ [] → SharedOut places (length cells)
+shared_by_none places cells n zeros none =
+    subst (λ (ps : List ℕ). SharedOut ps (length cells)) (sym zeros) (subst (λ (cs : List Parts). SharedOut (replicate {A = ℕ} n 0) (length cs)) (sym none) (none_shared n))
+
+pub without_value : (places : List ℕ) (cells : List Parts) (n : ℕ) → places ≡ replicate {A = ℕ} n 0 → variables_in places cells ≡ replicate n None
+without_value places cells n zeros = ap (λ (ps : List ℕ). variables_in ps cells) zeros ∙ all_none n cells
 
 pub still_none : (places : List ℕ) (cells : List Parts) (at : ℕ) → at < length places → get_or places at 0 ≡ 0 → variables_in places cells ≡ set (variables_in places cells) at None
 still_none places cells at within none =

@@ -1,11 +1,9 @@
 -- Lists of parts that are kept apart.
-use Rattle.std.proofs.Common.{◌≡◌, ◌≢◌, ◌<◌, ℕ, zero, suc, List, [], ◌∷◌, ◌++◌, get_or, set, map, replicate, length, Option, None, Some, slice_get, refl, ap, subst, ◌∙◌, arith}
-use Rattle.std.proofs.lemmas.List.{get_or-set_same, get_or-set_other, map-set, map_push, length-map}
-use Rattle.dj_names.specs.declared.run.Value.{Value}
+use Rattle.std.proofs.Common.{◌≡◌, ◌≢◌, ◌<◌, ℕ, zero, suc, List, [], ◌∷◌, ◌++◌, get_or, set, length, Some, slice_get, refl, ap, subst, ◌∙◌, arith}
+use Rattle.std.proofs.lemmas.List.{get_or-set_same, get_or-set_other}
 use Rattle.dj_stack.specs.declared.parts.Kind.{Kind}
-use Rattle.dj_stack.specs.declared.parts.Kind.TheVariants as kinds
 use Rattle.dj_stack.specs.declared.parts.Parts.{Parts}
-use Rattle.dj_stack.specs.Parts.{part, parts_by, parts_in, at_zero, Put, local_of, value_of}
+use Rattle.dj_stack.specs.Parts.{part, parts_by, parts_in, at_zero, Put}
 use Rattle.dj_stack.proofs.Puts.{at_last, but_last}
 
 count : (ks : List Kind) (low high : ℕ → ℕ) → length (parts_by ks low high) ≡ length ks

@@ -1,8 +1,6 @@
 -- What a frame holds, as the definitions see it.
 use Rattle.std.specs.Prelude.{ℕ, List, Option}
 use Rattle.dj_names.specs.declared.run.Value.{Value}
-use Rattle.dj_stack.specs.declared.wide.WideLocals.{WideLocals}
-use Rattle.dj_stack.specs.declared.wide.WideOperands.{WideOperands}
 use Rattle.dj_stack.specs.declared.stacked.Stacked.{Stacked}
 use Rattle.dj_stack.specs.declared.variables.Locals.{Locals}
 use Rattle.dj_stack.specs.declared.variables.Locals.TheVariants as locals

@@ -4,6 +4,7 @@ ghost use Rattle.dj_stack.specs.Held.{locals_of, values_of, room_of};
 
 use crate::errors::PushError;
 use crate::operands::Operands;
+use crate::spares::Spares;
 use crate::variables::Locals;
 use dj_names::Value;
 use std::alloc::Global;
@@ -21,6 +22,7 @@ impl Frame {
     /// A frame at instruction 0, without operands, whose locals have no value.
     pub(crate) fn new(
         alloc: Global,
+        spares: &mut Spares,
         method: u32,
         locals: u16,
         room: u16,
@@ -30,8 +32,8 @@ impl Frame {
         ensures operands { IfOk result (λ frame. values_of frame.operands ≡ []) }
         ensures refused { IfErr result (λ e. e ≡ PushError.Memory) }
     {
-        let locals = Locals::new(alloc, locals)?;
-        let operands = Operands::with_room(alloc, room)?;
+        let locals = Locals::new(alloc, spares, locals)?;
+        let operands = Operands::with_room(alloc, spares, room)?;
         Ok(Frame {
             method,
             number: 0,

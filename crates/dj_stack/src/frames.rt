@@ -4,6 +4,7 @@ ghost use Rattle.dj_stack.specs.Frames.{StackFrame, most_frames, below_top, top_
 
 use crate::errors::PushError;
 use crate::frame::Frame;
+use crate::spares::Spares;
 use dj_names::Value;
 use std::alloc::Global;
 use std::marker::Model;
@@ -15,6 +16,7 @@ pub struct Frames {
     pub(crate) top: Option<Frame>,
     // The frames below the top, the lowest first.
     pub(crate) below: Vec<Frame>,
+    spares: Spares,
     pub ghost few: { length below.items < 1024 },
     pub ghost none: { top ≡ None → length below.items ≡ 0 },
 }
@@ -38,6 +40,7 @@ impl Frames {
             alloc,
             top: None,
             below: Vec::new(alloc),
+            spares: Spares::new(alloc),
         }
     }
 
@@ -51,8 +54,8 @@ impl Frames {
         if self.depth() == 1024 {
             return Err(PushError::TooDeep);
         }
-        let frame = Frame::new(self.alloc, method, locals, stack)?;
         self.below.reserve(1)?;
+        let frame = Frame::new(self.alloc, &mut self.spares, method, locals, stack)?;
         match self.top.replace(frame) {
             Some(old) => match self.below.push(old) {
                 Ok(()) => Ok(()),
@@ -67,6 +70,9 @@ impl Frames {
         requires { 0 < length self.old }
         ensures { self.new ≡ below_top self.old }
     {
+        if let Some(ended) = self.top.take() {
+            self.spares.keep(ended);
+        }
         self.top = self.below.pop();
     }
 

@@ -11,6 +11,7 @@ mod packed;
 mod packing;
 mod parts;
 mod places;
+mod spares;
 mod sparse;
 mod sparsely;
 mod stacked;

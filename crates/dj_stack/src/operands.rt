@@ -3,6 +3,7 @@ ghost use Rattle.dj_stack.specs.declared.errors.PushError.TheVariants as PushErr
 ghost use Rattle.dj_stack.specs.Held.{values_of, room_of};
 
 use crate::errors::PushError;
+use crate::spares::Spares;
 use crate::stacked::Stacked;
 use crate::wide::WideOperands;
 use dj_names::Value;
@@ -20,7 +21,11 @@ pub(crate) enum Operands {
 
 impl Operands {
     /// None yet, with room for this many.
-    pub(crate) fn with_room(alloc: Global, room: u16) -> Result<Operands, PushError>
+    pub(crate) fn with_room(
+        alloc: Global,
+        spares: &mut Spares,
+        room: u16,
+    ) -> Result<Operands, PushError>
         ensures operands { IfOk result (λ operands. values_of operands ≡ []) }
         ensures room { IfOk result (λ operands. room_of operands ≡ room) }
         ensures refused { IfErr result (λ e. e ≡ PushError.Memory) }
@@ -29,8 +34,7 @@ impl Operands {
             let items = Vec::with_capacity(alloc, usize::from(room))?;
             Ok(Operands::Wide(WideOperands { items, room }))
         } else {
-            let stacked = Stacked::with_room(alloc, room)?;
-            Ok(Operands::Stacked(Box::new(alloc, stacked)?))
+            Ok(Operands::Stacked(spares.operands(room)?))
         }
     }
 

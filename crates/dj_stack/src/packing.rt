@@ -28,6 +28,16 @@ impl Packed {
         })
     }
 
+    /// Takes all away.
+    pub(crate) fn clear(&mut self)
+        ensures parts { parts_of self.new ≡ [] }
+        ensures room { self.new.room ≡ self.old.room }
+    {
+        self.kinds.clear();
+        self.lows.clear();
+        self.highs.clear();
+    }
+
     /// How many there are.
     #[tactic(auto, using(crate::proofs::PartLists::count_of))]
     pub(crate) fn len(&self) -> u16

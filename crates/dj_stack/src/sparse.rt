@@ -1,4 +1,4 @@
-ghost use Rattle.std.specs.Prelude.{◌<◌, ◌≤◌, length};
+ghost use Rattle.std.specs.Prelude.{◌≡◌, ◌<◌, length};
 ghost use Rattle.dj_stack.specs.Cells.{parts_of, SharedOut};
 
 use crate::packed::Packed;
@@ -10,6 +10,6 @@ pub(crate) struct Sparse {
     pub(crate) places: Vec<u16>,
     pub(crate) cells: Packed,
     pub ghost shared: { SharedOut places.items (length (parts_of cells)) },
-    pub ghost room: { length places.items ≤ cells.room },
+    pub ghost room: { cells.room ≡ 65535 },
     pub ghost few: { length places.items < 65536 },
 }

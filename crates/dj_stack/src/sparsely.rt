@@ -1,4 +1,4 @@
-ghost use Rattle.std.specs.Prelude.{◌≡◌, ◌<◌, get_or, length, replicate, set, slice_get, None, Some, IfOk, IfErr};
+ghost use Rattle.std.specs.Prelude.{◌≡◌, ◌<◌, ◌≤◌, get_or, length, replicate, set, slice_get, None, Some, OnOk, IfErr};
 ghost use Rattle.dj_stack.specs.declared.errors.PushError.TheVariants as PushError;
 ghost use Rattle.dj_stack.specs.Cells.{parts_of, variables_in};
 
@@ -10,15 +10,23 @@ use dj_names::Value;
 use std::alloc::Global;
 
 impl Sparse {
-    /// This many without a value.
-    #[tactic(auto, using(crate::proofs::Cells::none_shared, crate::proofs::Cells::all_none))]
-    pub(crate) fn new(alloc: Global, count: u16) -> Result<Sparse, PushError>
-        ensures locals { IfOk result (λ sparse. variables_in sparse.places.items (parts_of sparse.cells) ≡ replicate count None) }
+    /// None yet, with memory for as many as a method has at most.
+    pub(crate) fn new(alloc: Global) -> Result<Sparse, PushError>
         ensures refused { IfErr result (λ e. e ≡ PushError.Memory) }
     {
-        let places = vec![in alloc; 0; usize::from(count)]?;
-        let cells = Packed::with_room(alloc, count)?;
+        let places = Vec::with_capacity(alloc, usize::from(u16::MAX))?;
+        let cells = Packed::with_room(alloc, u16::MAX)?;
         Ok(Sparse { places, cells })
+    }
+
+    /// Now this many without a value, in place of those that it had.
+    pub(crate) fn begin(&mut self, count: u16) -> Result<(), PushError>
+        ensures locals { OnOk result (variables_in self.new.places.items (parts_of self.new.cells) ≡ replicate count None) }
+        ensures refused { IfErr result (λ e. e ≡ PushError.Memory) }
+    {
+        self.cells.clear();
+        set_to_zeros(&mut self.places, count)?;
+        Ok(())
     }
 
     /// How many there are.
@@ -79,4 +87,16 @@ impl Sparse {
         self.cells.push(Parts::of_local(local));
         self.places[at] = self.cells.len();
     }
+}
+
+// This many zeros, or none where there is no memory.
+fn set_to_zeros(places: &mut Vec<u16>, count: u16) -> Result<(), PushError>
+    ensures count { OnOk result (places.new.items ≡ replicate count 0) }
+    ensures zeros { places.new.items ≡ replicate (length places.new.items) 0 }
+    ensures few { length places.new.items ≤ count }
+    ensures refused { IfErr result (λ e. e ≡ PushError.Memory) }
+{
+    places.clear();
+    places.resize(usize::from(count), 0)?;
+    Ok(())
 }

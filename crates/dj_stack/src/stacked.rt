@@ -18,7 +18,7 @@ pub(crate) struct Stacked {
     pub ghost ordered: { Ordered kinds.items words.items longs.items } by { InOrder-prop kinds.items (at_zero words.items) 0 (length longs.items) },
     pub ghost fits: { length kinds.items ≤ room },
     pub ghost narrow: { room < 65536 },
-    pub ghost kinds_room: { room ≤ vec_capacity kinds },
-    pub ghost words_room: { room ≤ vec_capacity words },
-    pub ghost longs_room: { room ≤ vec_capacity longs },
+    pub ghost kinds_room: { 65535 ≤ vec_capacity kinds },
+    pub ghost words_room: { 65535 ≤ vec_capacity words },
+    pub ghost longs_room: { 65535 ≤ vec_capacity longs },
 }

@@ -1,4 +1,4 @@
-ghost use Rattle.std.specs.Prelude.{◌≡◌, ◌+◌, ◌++◌, ◌∷◌, [], ◌<◌, ◌≤◌, length, drop, slice_get, Some, IfOk, IfErr};
+ghost use Rattle.std.specs.Prelude.{◌≡◌, ◌+◌, ◌++◌, ◌∷◌, [], ◌<◌, ◌≤◌, length, drop, slice_get, Some, IfErr};
 ghost use Rattle.std.specs.Int.{w32, cast_signed};
 ghost use Rattle.std.specs.Vec.{vec_capacity};
 ghost use Rattle.dj_names.specs.declared.run.Value.TheVariants as values;
@@ -15,21 +15,29 @@ use dj_names::Value;
 use std::alloc::Global;
 
 impl Stacked {
-    /// None yet, with room for this many.
-    pub(crate) fn with_room(alloc: Global, room: u16) -> Result<Stacked, PushError>
-        ensures values { IfOk result (λ stacked. stacked_values stacked ≡ []) }
-        ensures room { IfOk result (λ stacked. stacked.room ≡ room) }
+    /// None yet, with memory for as many as a method has at most.
+    pub(crate) fn new(alloc: Global) -> Result<Stacked, PushError>
         ensures refused { IfErr result (λ e. e ≡ PushError.Memory) }
     {
-        let kinds = Vec::with_capacity(alloc, usize::from(room))?;
-        let words = Vec::with_capacity(alloc, usize::from(room))?;
-        let longs = Vec::with_capacity(alloc, usize::from(room))?;
+        let kinds = Vec::with_capacity(alloc, usize::from(u16::MAX))?;
+        let words = Vec::with_capacity(alloc, usize::from(u16::MAX))?;
+        let longs = Vec::with_capacity(alloc, usize::from(u16::MAX))?;
         Ok(Stacked {
             kinds,
             words,
             longs,
-            room,
+            room: 0,
         })
+    }
+
+    /// Now none, with room for this many, in place of those that it had.
+    #[tactic(auto, using(crate::proofs::Stacks::count_of))]
+    pub(crate) fn begin(&mut self, room: u16)
+        ensures values { stacked_values self.new ≡ [] }
+        ensures room { self.new.room ≡ room }
+    {
+        self.clear();
+        self.room = room;
     }
 
     /// How many there are.

@@ -3,6 +3,7 @@ ghost use Rattle.dj_stack.specs.declared.errors.PushError.TheVariants as PushErr
 ghost use Rattle.dj_stack.specs.Held.{locals_of};
 
 use crate::errors::PushError;
+use crate::spares::Spares;
 use crate::sparse::Sparse;
 use crate::wide::WideLocals;
 use dj_names::Value;
@@ -20,7 +21,7 @@ pub(crate) enum Locals {
 
 impl Locals {
     /// This many that have no value.
-    pub(crate) fn new(alloc: Global, count: u16) -> Result<Locals, PushError>
+    pub(crate) fn new(alloc: Global, spares: &mut Spares, count: u16) -> Result<Locals, PushError>
         ensures locals { IfOk result (λ locals. locals_of locals ≡ replicate count None) }
         ensures refused { IfErr result (λ e. e ≡ PushError.Memory) }
     {
@@ -28,8 +29,7 @@ impl Locals {
             let items = vec![in alloc; None; usize::from(count)]?;
             Ok(Locals::Wide(WideLocals { items }))
         } else {
-            let sparse = Sparse::new(alloc, count)?;
-            Ok(Locals::Sparse(Box::new(alloc, sparse)?))
+            Ok(Locals::Sparse(spares.variables(count)?))
         }
     }
 

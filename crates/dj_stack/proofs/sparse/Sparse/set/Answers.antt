@@ -1,4 +1,4 @@
-use Rattle.std.proofs.Common.{◌≡◌, ◌<◌, ℕ, set, length, get_or, None, sym, ap, ◌∙◌, rules, arith}
+use Rattle.std.proofs.Common.{◌≡◌, ◌<◌, set, length, get_or, None, sym, ap, ◌∙◌, rules, arith}
 use Rattle.dj_stack.specs.Cells.{parts_of, variables_in}
 use Rattle.dj_stack.proofs.Cells.{still_none, count_of}
 use Rattle.dj_stack.proofs.sparse.Sparse.set.Goals as goal
