@@ -36,7 +36,7 @@ pub mod Standing
 pub mod SoundValues
 pub mod SoundEffects
 mod HeapFacts
-mod ReviewFacts
+mod NamingFacts
 mod SoundFacts
 pub mod SoundLinks
 pub mod SoundNatives
