@@ -1,7 +1,7 @@
 ghost use Rattle.std.specs.Prelude.{◌≡◌, ◌≤◌, ℕ, List, Option, Result, IfOk, map, string_bytes};
 ghost use Rattle.dj_edge.specs.trusted.Held.{Held};
 
-use std::alloc::Global;
+use std::alloc::{AllocError, AllocFailed, Global};
 use thiserror::Error;
 
 /// Why a folder was not listed.
@@ -13,6 +13,28 @@ pub enum ListError {
     /// There was no memory.
     #[error("out of memory")]
     Memory,
+}
+
+impl From<AllocError> for ListError {
+    ghost use Rattle.std.specs.Prelude.{◌≡◌};
+    ghost use Rattle.dj_edge.specs.declared.files.ListError.TheVariants.{Memory};
+
+    ghost from_gives = { λ _ e. e ≡ Memory };
+
+    fn from(_error: AllocError) -> ListError {
+        ListError::Memory
+    }
+}
+
+impl<T: Drop> From<AllocFailed<T>> for ListError {
+    ghost use Rattle.std.specs.Prelude.{◌≡◌};
+    ghost use Rattle.dj_edge.specs.declared.files.ListError.TheVariants.{Memory};
+
+    ghost from_gives = { λ _ e. e ≡ Memory };
+
+    fn from(_error: AllocFailed<T>) -> ListError {
+        ListError::Memory
+    }
 }
 
 /// Why a file was not read.
@@ -30,6 +52,17 @@ pub enum ReadError {
     /// There was no memory.
     #[error("out of memory")]
     Memory,
+}
+
+impl From<AllocError> for ReadError {
+    ghost use Rattle.std.specs.Prelude.{◌≡◌};
+    ghost use Rattle.dj_edge.specs.declared.files.ReadError.TheVariants.{Memory};
+
+    ghost from_gives = { λ _ e. e ≡ Memory };
+
+    fn from(_error: AllocError) -> ReadError {
+        ReadError::Memory
+    }
 }
 
 /// A store of files. Its calls only read.

@@ -59,8 +59,5 @@ pub fn list_folder<F: Folders>(
     ensures listing { IfOk result (λ paths. IsListing None folder.now most (map string_bytes paths.items)) }
 {
     let found = files_below(alloc, folders, folder)?;
-    match listing_of(alloc, folder, found, most) {
-        Ok(paths) => Ok(paths),
-        Err(_) => Err(ListError::Memory),
-    }
+    Ok(listing_of(alloc, folder, found, most)?)
 }

@@ -85,22 +85,14 @@ impl Files for MemFiles {
     {
         let fails = self.failing.contains(&self.calls);
         self.calls = self.calls.saturating_add(1);
-        let Ok(text) = String::from_str(alloc, folder) else {
-            return Err(ListError::Memory);
-        };
+        let text = String::from_str(alloc, folder)?;
         if fails {
-            let Ok(()) = ask(&mut self.asked, text) else {
-                return Err(ListError::Memory);
-            };
+            ask(&mut self.asked, text)?;
             self.faults = self.faults.saturating_add(1);
             return Err(ListError::Failed);
         }
-        let Ok(paths) = listing(alloc, &self.files, self.order, folder, most) else {
-            return Err(ListError::Memory);
-        };
-        let Ok(()) = ask(&mut self.asked, text) else {
-            return Err(ListError::Memory);
-        };
+        let paths = listing(alloc, &self.files, self.order, folder, most)?;
+        ask(&mut self.asked, text)?;
         Ok(paths)
     }
 
@@ -115,34 +107,22 @@ impl Files for MemFiles {
     {
         let fails = self.failing.contains(&self.calls);
         self.calls = self.calls.saturating_add(1);
-        let Ok(text) = String::from_str(alloc, path) else {
-            return Err(ReadError::Memory);
-        };
+        let text = String::from_str(alloc, path)?;
         if fails {
-            let Ok(()) = ask(&mut self.asked, text) else {
-                return Err(ReadError::Memory);
-            };
+            ask(&mut self.asked, text)?;
             self.faults = self.faults.saturating_add(1);
             return Err(ReadError::Failed);
         }
         let Some(bytes) = bytes_under(&self.files, path.as_bytes()) else {
-            let Ok(()) = ask(&mut self.asked, text) else {
-                return Err(ReadError::Memory);
-            };
+            ask(&mut self.asked, text)?;
             return Err(ReadError::Absent);
         };
         if bytes.len() as u64 > most {
-            let Ok(()) = ask(&mut self.asked, text) else {
-                return Err(ReadError::Memory);
-            };
+            ask(&mut self.asked, text)?;
             return Err(ReadError::TooLong);
         }
-        let Ok(copy) = Vec::from_slice(alloc, bytes) else {
-            return Err(ReadError::Memory);
-        };
-        let Ok(()) = ask(&mut self.asked, text) else {
-            return Err(ReadError::Memory);
-        };
+        let copy = Vec::from_slice(alloc, bytes)?;
+        ask(&mut self.asked, text)?;
         Ok(copy)
     }
 }

@@ -71,10 +71,10 @@ fn read_more<R: Read>(reader: &mut R, bytes: &mut Vec<u8>, most: u64) -> Result<
     };
     match reader.read(&mut chunk[..wanted]) {
         Ok(0) => Ok(Found::End),
-        Ok(taken) => match bytes.extend_from_slice(&chunk[..taken]) {
-            Ok(()) => Ok(Found::Some),
-            Err(_) => Err(ReadError::Memory),
-        },
+        Ok(taken) => {
+            bytes.extend_from_slice(&chunk[..taken])?;
+            Ok(Found::Some)
+        }
         Err(error) if error.kind() == ErrorKind::Interrupted => Ok(Found::Some),
         Err(error) => Err(read_error(error)),
     }
@@ -91,9 +91,7 @@ pub fn read_bounded<R: Read>(
     ensures reads { ReadsWithin (λ bytes. bytes.items) (R.remaining reader.old) most result }
     ensures takes { TakesAtMost (R.remaining reader.old) (R.remaining reader.new) (most + 1) }
 {
-    let Ok(mut bytes) = Vec::with_capacity(alloc, expected.min(most) as usize) else {
-        return Err(ReadError::Memory);
-    };
+    let mut bytes = Vec::with_capacity(alloc, expected.min(most) as usize)?;
     for _ in 0..u64::MAX {
         match read_more(reader, &mut bytes, most)? {
             Found::Some => {

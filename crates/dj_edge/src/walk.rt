@@ -81,13 +81,9 @@ fn keep(kept: &mut Vec<Entry>, entry: Entry) -> Result<(), ListError>
     ensures no_fault { IfErr result (λ error. error ≡ Memory) }
 {
     if entry.is_kept() {
-        match kept.push(entry) {
-            Ok(()) => Ok(()),
-            Err(_) => Err(ListError::Memory),
-        }
-    } else {
-        Ok(())
+        kept.push(entry)?;
     }
+    Ok(())
 }
 
 /// Reads a folder, which may have at most `most` entries. Those that a walk doesn't keep are only counted.
@@ -130,13 +126,8 @@ impl Walk {
             EntryKind::Folder => Ok(true),
             EntryKind::Other if is_class => Err(ListError::Failed),
             EntryKind::File if is_class => {
-                let Ok(path) = entry.path.clone() else {
-                    return Err(ListError::Memory);
-                };
-                match self.found.push(path) {
-                    Ok(()) => Ok(false),
-                    Err(_) => Err(ListError::Memory),
-                }
+                self.found.push(entry.path.clone()?)?;
+                Ok(false)
             }
             _ => Ok(false),
         }
@@ -179,9 +170,7 @@ pub fn files_below<F: Folders>(
     ensures unchanged { F.tree folders.new ≡ F.tree folders.old }
     ensures walks { Walks (λ found. map string_bytes found.items) (F.tree folders.old) folder.now result }
 {
-    let Ok(first) = format!(in alloc; "{folder}/") else {
-        return Err(ListError::Memory);
-    };
+    let first = format!(in alloc; "{folder}/")?;
     let mut walk = Walk {
         found: Vec::new(alloc),
         entries: 0,

@@ -65,10 +65,8 @@ impl<'a> Pool<'a> {
         ensures ok { OnOk result (self.new ≡ self.old ++ constant_of entry.entry ∷ []) }
         ensures err { IfErr result (λ e. (self.new ≡ self.old) × (e ≡ AppendError.Memory)) }
     {
-        match self.entries.push(entry) {
-            Ok(()) => Ok(()),
-            Err(_) => Err(AppendError::Memory),
-        }
+        self.entries.push(entry)?;
+        Ok(())
     }
 
     /// Appends an entry and the hole after it.
@@ -76,14 +74,8 @@ impl<'a> Pool<'a> {
         ensures ok { OnOk result (self.new ≡ self.old ++ constant_of entry.entry ∷ (Hole ∷ [])) }
         ensures err { IfErr result (λ e. (self.new ≡ self.old) × (e ≡ AppendError.Memory)) }
     {
-        match self.entries.reserve(2) {
-            Ok(()) => {}
-            Err(_) => return Err(AppendError::Memory),
-        }
-        match self.entries.push(entry) {
-            Ok(()) => {}
-            Err(_) => return Err(AppendError::Memory),
-        }
+        self.entries.reserve(2)?;
+        self.entries.push(entry)?;
         match self.entries.push(Entry::Hole) {
             Ok(()) => Ok(()),
             Err(_) => unreachable!(),
@@ -111,10 +103,8 @@ impl<'a> Pool<'a> {
         if LAST_INDEX - taken(&entry) < len {
             return Err(AppendError::Full);
         }
-        match self.push(entry) {
-            Ok(()) => Ok((len + 1) as u16),
-            Err(e) => Err(e),
-        }
+        self.push(entry)?;
+        Ok((len + 1) as u16)
     }
 
     /// Gives the class, the name and type or the method type at an index another text; of a name and type this is the descriptor.

@@ -60,10 +60,8 @@ impl Indexes {
         ensures ok { OnOk result (self.new ≡ self.old ++ item ∷ []) }
         ensures err { OnErr result (self.new ≡ self.old) }
     {
-        match self.items.push(item) {
-            Ok(()) => Ok(()),
-            Err(_) => Err(NoMemory::Memory),
-        }
+        self.items.push(item)?;
+        Ok(())
     }
 
     /// The indexes that a vector has.

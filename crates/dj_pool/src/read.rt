@@ -221,10 +221,8 @@ fn read_from<'a>(alloc: Global, file: &'a [u8], at: u32) -> Result<(Pool<'a>, u3
     requires { length file.now < 2 ^ 32 }
     ensures { Gives pool_is_memory (λ x. (x.0, x.1)) result (pool_from file.now at) }
 {
-    match read_judged_pool(alloc, Cursor::at(file, at)) {
-        Ok((judged, after)) => Ok((judged.into_pool(), after.place)),
-        Err(e) => Err(e),
-    }
+    let (judged, after) = read_judged_pool(alloc, Cursor::at(file, at))?;
+    Ok((judged.into_pool(), after.place))
 }
 
 /// The pool whose count is at the place, and the place after its last entry.

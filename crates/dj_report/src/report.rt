@@ -60,10 +60,7 @@ impl Violations {
         ensures ok { OnOk result (self.new ≡ self.old ++ item ∷ []) }
         ensures err { OnErr result (self.new ≡ self.old) }
     {
-        match self.items.push(item) {
-            Ok(()) => Ok(()),
-            Err(_) => Err(NoMemory::Memory),
-        }
+        Ok(self.items.push(item)?)
     }
 
     /// Appends violations.
@@ -71,10 +68,7 @@ impl Violations {
         ensures ok { OnOk result (self.new ≡ self.old ++ more) }
         ensures err { OnErr result (self.new ≡ self.old) }
     {
-        match self.items.append(&mut more.items) {
-            Ok(()) => Ok(()),
-            Err(_) => Err(NoMemory::Memory),
-        }
+        Ok(self.items.append(&mut more.items)?)
     }
 
     /// The violations, borrowed.

@@ -7,5 +7,5 @@ use Rattle.dj_edge.proofs.mem_files.MemFilesFiles.list.Goals as goal
 pub returns-clause-lists : goal.returns-clause-lists
 returns-clause-lists c =
     let m = c.args.self.now in
-    let is = c.in-Ok-listing.ensures ∙ ap (λ l. take c.args.most (in_order m.order (class_paths c.args.folder.now (files_in l)))) c.deref-2.ensures.value in
-    is_listing (files_of m) m.order c.args.folder.now c.args.most (map string_bytes c.in-Ok-listing.paths.items) m.differ is
+    let is = c.in_ok-paths.ensures ∙ ap (λ l. take c.args.most (in_order m.order (class_paths c.args.folder.now (files_in l)))) c.deref-2.ensures.value in
+    is_listing (files_of m) m.order c.args.folder.now c.args.most (map string_bytes c.in_ok-paths.paths.items) m.differ is
