@@ -1,3 +1,4 @@
 pub mod ClassFile
+pub mod Names
 pub mod Code
 pub mod Access

@@ -9,7 +9,7 @@ use Rattle.std.proofs.lemmas.Grind.{flat_map-append}
 use Rattle.std.proofs.lemmas.Option.{get_or_from_slice_get}
 use Rattle.dj_names.specs.trusted.Types.{Name}
 use Rattle.dj_pool.specs.trusted.Pool.{Constant, text_at}
-use Rattle.dj_check.specs.trusted.Heads.{names_in}
+use Rattle.dj_class.specs.trusted.Names.{names_in}
 use Rattle.dj_declared.specs.Lists.{listed_at, AreListed, Keep, AreCopies}
 
 first_some : (found : Option Name) (name : Name) (rest : List (Option Name)) (names : List (Option Name)) → found ∷ rest ≡ Some name ∷ names → found ≡ Some name

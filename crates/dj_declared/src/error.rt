@@ -50,13 +50,3 @@ impl From<dj_natives::NoMemory> for DeclareError {
         DeclareError::Memory
     }
 }
-
-impl From<dj_rules::RulesError> for DeclareError {
-    ghost use Rattle.dj_declared.specs.declared.error.DeclareError.TheVariants.{Memory};
-
-    ghost from_gives = { λ _ e. e ≡ Memory };
-
-    fn from(_error: dj_rules::RulesError) -> DeclareError {
-        DeclareError::Memory
-    }
-}

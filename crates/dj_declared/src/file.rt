@@ -12,7 +12,6 @@ use crate::error::DeclareError;
 use crate::members::{MemberBody, MemberRow, MemberTable};
 use crate::tables::ClassMembers;
 use crate::texts::TextTable;
-use dj_check::marked_names;
 use dj_class::{AccessFlags, ClassView, MemberView};
 use dj_pool::Pool;
 use std::alloc::Global;
@@ -25,6 +24,29 @@ type NamedText<'a> = (&'a [u8], u16);
 struct NumberedTexts {
     texts: TextTable,
     places: Vec<Option<u16>>,
+}
+
+// Marks an index, where it has a place.
+fn mark(marks: &mut [bool], index: u16) {
+    if let Some(marked) = marks.get_mut(usize::from(index)) {
+        *marked = true;
+    }
+}
+
+// Marks the indexes of the names and descriptors of members.
+fn mark_names(marks: &mut [bool], members: &[MemberView<'_>]) {
+    for member in members {
+        mark(marks, member.name);
+        mark(marks, member.desc);
+    }
+}
+
+// For each index, whether it is that of a member's name or descriptor.
+fn marked_names(alloc: Global, view: &ClassView<'_>) -> Result<Vec<bool>, DeclareError> {
+    let mut marks = vec![in alloc; false; view.pool.as_slice().len() + 1]?;
+    mark_names(&mut marks, view.fields.as_slice());
+    mark_names(&mut marks, view.methods.as_slice());
+    Ok(marks)
 }
 
 // Appends the text of an index, where there is one.

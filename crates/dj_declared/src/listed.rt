@@ -3,7 +3,7 @@ ghost use Rattle.std.specs.Prelude.{◌≡◌, ◌∷◌, ◌++◌, ◌<◌, [],
 ghost use Rattle.std.specs.List.{flat_map};
 ghost use Rattle.std.specs.Option.{option_map};
 ghost use Rattle.dj_pool.specs.trusted.Pool.{class_name_at, class_text_of, constant_at, text_at};
-ghost use Rattle.dj_check.specs.trusted.Heads.{names_in};
+ghost use Rattle.dj_class.specs.trusted.Names.{names_in};
 ghost use Rattle.dj_declared.specs.Lists.{listed_at, AreListed, Keep, AreCopies};
 
 use crate::error::DeclareError;

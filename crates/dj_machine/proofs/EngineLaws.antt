@@ -12,7 +12,7 @@ use Rattle.dj_model.specs.trusted.Step.{Answer, Went, Ended, IllFormed}
 use Rattle.dj_model.specs.trusted.Charging.{new_account}
 use Rattle.dj_model.specs.trusted.Runs.{Ran, Going, Finished, NoStep, Report, begin, from_start, plain_run, report_of, steps}
 use Rattle.dj_image.specs.Imaged.{Imaged, program_of}
-use Rattle.dj_settling.specs.Told as one
+use Rattle.dj_step.specs.Answers as one
 use Rattle.dj_step.proofs.StepLaws as step_laws
 use Rattle.dj_step.specs.Machines.{Begins, EndsAtStart, Machined, counting_for, is_over, state_with, terms_of}
 use Rattle.dj_machine.specs.declared.answer.RunAnswer.{RunAnswer}

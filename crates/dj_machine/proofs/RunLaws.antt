@@ -10,7 +10,7 @@ use Rattle.dj_model.specs.trusted.State.{State, Terms, Account, Counting}
 use Rattle.dj_model.specs.trusted.Step.{Answer, Went, Ended, IllFormed, step}
 use Rattle.dj_model.specs.trusted.Runs.{Ran, Going, Finished, NoStep, one_more, steps, then_steps}
 use Rattle.dj_image.specs.Imaged.{Imaged, program_of}
-use Rattle.dj_settling.specs.Told as one
+use Rattle.dj_step.specs.Answers as one
 use Rattle.dj_step.specs.declared.answers.StepAnswer.{StepAnswer}
 use Rattle.dj_step.specs.declared.answers.StepAnswer.TheVariants as answers
 use Rattle.dj_step.specs.Machines.{IsSameRun, Machined, Stays, Steps, is_over, machine_told, on_or_over, state_with, step_answer, terms_of}

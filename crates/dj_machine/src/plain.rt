@@ -5,7 +5,7 @@ ghost use Rattle.dj_model.specs.Standing.{AsksNothing, IsEntry};
 ghost use Rattle.dj_calls.specs.Counting.{AreLow};
 ghost use Rattle.dj_types.specs.Members.{all_methods};
 ghost use Rattle.dj_image.specs.Imaged.{program_of};
-ghost use Rattle.dj_activations.specs.Activations.{declared_at};
+ghost use Rattle.dj_step.specs.Running.{declared_at};
 ghost use Rattle.dj_host.specs.trusted.Hosted.{given_since};
 ghost use Rattle.dj_step.specs.Machines.{start_outcome};
 ghost use Rattle.dj_machine.specs.trusted.Engines.{AddsRun};

@@ -23,7 +23,7 @@ use Rattle.dj_activations.specs.Activations.{declared_at, frames_seen}
 use Rattle.dj_initialising.specs.declared.prepare.Prepared.{Prepared}
 use Rattle.dj_initialising.specs.declared.prepare.Prepared.TheVariants as prepared
 use Rattle.dj_initialising.specs.Preparing.{prepared_told, with_parts}
-use Rattle.dj_settling.specs.Told.{Over, told_of}
+use Rattle.dj_turning.specs.Answers.{Over, told_of}
 use Rattle.dj_turning.specs.Running.{IsKept, Kept, Running, state_of}
 use Rattle.dj_step.specs.declared.answers.StartError.{StartError}
 use Rattle.dj_step.specs.declared.answers.StartError.TheVariants as starts

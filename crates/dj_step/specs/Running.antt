@@ -18,7 +18,8 @@ use Rattle.dj_calls.specs.Calls.{counting_of, typed_heap}
 use Rattle.dj_calls.specs.Known.{AreKnown}
 use Rattle.dj_types.specs.Typed.{types_of}
 use Rattle.dj_image.specs.Imaged.{Imaged, program_of, typed_of}
-use Rattle.dj_activations.specs.Activations.{declared_at, frames_seen, AreActivations}
+use Rattle.dj_activations.specs.Activations.{frames_seen, AreActivations}
+pub use Rattle.dj_activations.specs.Activations.{declared_at}
 use Rattle.dj_linking.specs.Linked.{class_name}
 use Rattle.dj_initialising.specs.declared.prepare.Prepared.{Prepared}
 use Rattle.dj_initialising.specs.declared.prepare.Prepared.TheVariants as prepared

@@ -21,9 +21,8 @@ use dj_heap::Heap;
 use dj_image::{Image, MethodId};
 use dj_initialising::Prepared;
 use dj_names::{Costs, Outcome, Thresholds};
-use dj_settling::Settled;
 use dj_stack::Frames;
-use dj_turning::{Begun, Run, Tables, begin_turn, end_turn};
+use dj_turning::{Begun, Run, Settled, Tables, begin_turn, end_turn};
 use std::alloc::Global;
 use std::marker::Model;
 

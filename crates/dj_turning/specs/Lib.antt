@@ -1,3 +1,4 @@
+pub mod Answers
 pub mod Begun
 pub mod Calling
 pub mod Doing

@@ -17,6 +17,7 @@ mod unnamed;
 mod uses;
 
 pub use dj_acting::Begun;
+pub use dj_settling::Settled;
 pub use run::Run;
 pub use tables::Tables;
 pub use unnamed::{begin_turn, end_turn};

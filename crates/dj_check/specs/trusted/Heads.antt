@@ -1,22 +1,14 @@
 -- What the rule HIERARCHY looks at in a class file: its name, its superclass and interfaces (JVMS 4.1), and whether two members are declared alike (JVMS 4.5 and 4.6).
-use Rattle.std.specs.Prelude.{◌≡◌, ℕ, ◌<◌, ◌⊎◌, List, [], ◌∷◌, Contains, Option, Some, None, slice_get}
-use Rattle.std.specs.List.{flat_map}
+use Rattle.std.specs.Prelude.{◌≡◌, ℕ, ◌<◌, ◌⊎◌, List, Contains, slice_get}
 use Rattle.dj_edge.specs.trusted.Held.{File}
 use Rattle.dj_pool.specs.trusted.Pool.{Constant, text_at, class_name_at}
 use Rattle.dj_class.specs.trusted.ClassFile.{MemberInfo, ClassFile}
+pub use Rattle.dj_class.specs.trusted.Names.{names_in, interface_names}
 use Rattle.dj_library.specs.trusted.Heads.{Head, library_heads}
 use Rattle.dj_rules.specs.trusted.Violations.{this_name}
 use Rattle.dj_check.specs.trusted.Malformed.{IsGood}
 
 -- ---- the head of a class file
-
-abbrev pub names_in : Option (List ℕ) → List (List ℕ)
-names_in None = []
-names_in (Some name) = name ∷ []
-
--- the names of the interfaces that it lists
-abbrev pub interface_names : ClassFile → List (List ℕ)
-interface_names c = flat_map (λ index. names_in (class_name_at c.pool index)) c.interfaces
 
 -- the head of a class file; in a good one the superclass is none exactly where super_class is 0
 abbrev pub head_of : ClassFile → Head

@@ -5,13 +5,15 @@ use Rattle.dj_names.specs.declared.descriptor.Ty.{Ty}
 use Rattle.dj_names.specs.declared.descriptor.Desc.{Desc}
 use Rattle.dj_names.specs.declared.descriptor.Desc.TheVariants as descs
 use Rattle.dj_names.specs.trusted.DescReading.{desc_read}
+use Rattle.dj_names.specs.trusted.Library.{Library}
 use Rattle.dj_names.specs.trusted.Types.{Name, class_type}
 use Rattle.dj_pool.specs.trusted.Pool.{Constant, text_at, class_name_at}
-use Rattle.dj_class.specs.trusted.ClassFile.{MemberInfo, ClassFile}
-use Rattle.dj_rules.specs.trusted.Violations.{this_name}
-use Rattle.dj_check.specs.trusted.Heads.{interface_names}
+use Rattle.dj_class.specs.trusted.ClassFile.{MemberInfo}
+pub use Rattle.dj_class.specs.trusted.ClassFile.{ClassFile}
+use Rattle.dj_class.specs.trusted.Names.{this_name, interface_names}
 use Rattle.dj_model.specs.trusted.Types.{no_parameters}
-use Rattle.dj_model.specs.trusted.Program.{Class, Method, Field, Body, Abstract, Runs, Code, has_flag, is_abstract}
+use Rattle.dj_model.specs.trusted.Libraries.{joined, library_program}
+use Rattle.dj_model.specs.trusted.Program.{Program, Class, Method, Field, Body, Abstract, Runs, Code, has_flag, is_abstract}
 
 -- ---- texts
 
@@ -71,3 +73,9 @@ declared_class c = record {
   fields = map (declared_field c.pool) c.fields;
   methods = map (declared_method c.pool) c.methods;
 }
+
+-- ---- the program
+
+-- the classes of the files and of the library
+unfoldable pub declared_program : Library → List ClassFile → Program
+declared_program library files = joined (map declared_class files) (library_program library)

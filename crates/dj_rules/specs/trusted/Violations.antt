@@ -9,6 +9,7 @@ use Rattle.dj_names.specs.trusted.ModifiedUtf8.{SpellsUnits}
 use Rattle.dj_pool.specs.trusted.Pool.{Constant, text_at, class_name_at}
 use Rattle.dj_class.specs.trusted.Access as access
 use Rattle.dj_class.specs.trusted.ClassFile.{MemberInfo, ClassFile, IsClassFile, IsMalformed}
+pub use Rattle.dj_class.specs.trusted.Names.{this_name}
 use Rattle.dj_report.specs.declared.report.Violation.{Violation}
 use Rattle.dj_report.specs.trusted.Lines.{file_line, member_line, AreExactly}
 
@@ -25,10 +26,6 @@ pub record IsNamedAs (path name : List ℕ) : Type 0 where
   pub units : List ℕ
   pub spelled : SpellsUnits name units
   pub same : path_units path ≡ units ++ codes ".class"
-
--- JVMS 4.1: the name of the class that the file defines
-abbrev pub this_name : ClassFile → List ℕ
-this_name c = unwrap_or (class_name_at c.pool c.this_class) []
 
 -- JVMS table 4.6-A: the method has ACC_NATIVE
 abbrev pub IsNative : MemberInfo → Type 0

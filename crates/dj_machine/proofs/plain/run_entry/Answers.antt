@@ -2,7 +2,7 @@ use Rattle.std.proofs.Common.{subst, sym}
 use Rattle.dj_host.specs.trusted.Hosted.{given_since}
 use Rattle.dj_model.specs.Standing.{AsksNothing}
 use Rattle.dj_image.specs.Imaged.{Imaged, program_of}
-use Rattle.dj_activations.specs.Activations.{declared_at}
+use Rattle.dj_step.specs.Running.{declared_at}
 use Rattle.dj_step.specs.Machines.{start_outcome}
 use Rattle.dj_machine.proofs.EngineLaws.{ended_quietly, runs_from}
 use Rattle.dj_machine.proofs.plain.run_entry.Goals as goal
