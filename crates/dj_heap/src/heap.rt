@@ -90,10 +90,7 @@ impl Heap {
     {
         let size = 16 + rounded(2 * units.len() as u64);
         self.ask(size)?;
-        let units = match Units::from_slice(self.alloc, units) {
-            Ok(units) => units,
-            Err(_) => return Err(HeapError::Memory),
-        };
+        let units = Units::from_slice(self.alloc, units).map_err(|_| HeapError::Memory)?;
         self.add(Object::Text { class, units }, size)
     }
 
