@@ -1,3 +1,4 @@
+use crate::opcodes::*;
 use crate::rows::{Row, has_rows, laid_again};
 use dj_frames::{FrameError, are_well_formed, is_rising, read_frames, write_frames};
 use dj_names::Bytes;
@@ -36,54 +37,111 @@ fn is_method_same(alloc: Global, code: &[u8], rows: &[Row], body: &[u8]) -> bool
 
 // For each method of the classes in examples/javac/accepted, as javac wrote it: its code, its exception table, and the body of its
 // StackMapTable, empty where it has none.
+#[rattlefmt::skip]
 const METHODS: [(&[u8], &[Row], &[u8]); 11] = [
     // Transfer.<init>()V
-    (b"\x2a\xb7\0\x01\xb1", &[], b""),
+    (&[ALOAD_0, INVOKESPECIAL, 0, 1, RETURN], &[], b""),
     // Transfer.verify([B)[B
     (
-        b"\xbb\0\x07\x59\x2a\xb7\0\x09\x4c\x05\xbd\0\x0c\x59\x03\xbb\0\x0e\x59\xb7\0\x10\x53\x59\x04\xbb\0\x11\x59\x14\0\x13\xb7\0\x15\x53\x4d\x09\x42\x03\x36\x05\x15\x05\x2b\xb6\0\x18\xa2\0\x1d\x2c\x2b\x15\x05\xb6\0\x1c\xb8\0\x20\x21\x2b\x15\x05\xb6\0\x1c\x85\x61\x42\x84\x05\x01\xa7\xff\xe0\x21\xb8\0\x26\xb0",
+        &[
+            NEW, 0, 7, DUP, ALOAD_0, INVOKESPECIAL, 0, 9, ASTORE_1, ICONST_2, ANEWARRAY, 0, 12, DUP,
+            ICONST_0, NEW, 0, 14, DUP, INVOKESPECIAL, 0, 16, AASTORE, DUP, ICONST_1, NEW, 0, 17,
+            DUP, LDC2_W, 0, 19, INVOKESPECIAL, 0, 21, AASTORE, ASTORE_2, LCONST_0, LSTORE_3,
+            ICONST_0, ISTORE, 5, ILOAD, 5, ALOAD_1, INVOKEVIRTUAL, 0, 24, IF_ICMPGE, 0, 29,
+            ALOAD_2, ALOAD_1, ILOAD, 5, INVOKEVIRTUAL, 0, 28, INVOKESTATIC, 0, 32, LLOAD_3, ALOAD_1,
+            ILOAD, 5, INVOKEVIRTUAL, 0, 28, I2L, LADD, LSTORE_3, IINC, 5, 1, GOTO, 0xff, 0xe0,
+            LLOAD_3, INVOKESTATIC, 0, 38, ARETURN,
+        ],
         &[],
         b"\0\x02\xff\0\x2a\0\x05\x07\0\x4c\x07\0\x07\x07\0\x4e\x04\x01\0\0\xfa\0\x22",
     ),
     // Transfer.check([Lcash/Rule;I)V
     (
-        b"\x2a\x4d\x2c\xbe\x3e\x03\x36\x04\x15\x04\x1d\xa2\0\x35\x2c\x15\x04\x32\x3a\x05\x19\x05\x1b\xb9\0\x2a\x02\0\x9a\0\x1e\xbb\0\x2e\x59\xbb\0\x30\x59\xb7\0\x32\x12\x33\xb6\0\x35\x1b\xb6\0\x39\xb6\0\x3c\xb7\0\x40\xbf\x84\x04\x01\xa7\xff\xcb\xb2\0\x43\x04\x60\xb3\0\x43\xa7\0\x10\x3a\x06\xb2\0\x43\x04\x60\xb3\0\x43\x19\x06\xbf\xb1",
+        &[
+            ALOAD_0, ASTORE_2, ALOAD_2, ARRAYLENGTH, ISTORE_3, ICONST_0, ISTORE, 4, ILOAD, 4,
+            ILOAD_3, IF_ICMPGE, 0, 53,
+            ALOAD_2, ILOAD, 4, AALOAD, ASTORE, 5, ALOAD, 5, ILOAD_1, INVOKEINTERFACE, 0, 42, 2, 0,
+            IFNE, 0, 30,
+            NEW, 0, 46, DUP, NEW, 0, 48, DUP, INVOKESPECIAL, 0, 50, LDC, 51, INVOKEVIRTUAL, 0, 53,
+            ILOAD_1, INVOKEVIRTUAL, 0, 57, INVOKEVIRTUAL, 0, 60, INVOKESPECIAL, 0, 64, ATHROW,
+            IINC, 4, 1, GOTO, 0xff, 0xcb,
+            GETSTATIC, 0, 67, ICONST_1, IADD, PUTSTATIC, 0, 67, GOTO, 0, 16,
+            ASTORE, 6, GETSTATIC, 0, 67, ICONST_1, IADD, PUTSTATIC, 0, 67, ALOAD, 6, ATHROW,
+            RETURN,
+        ],
         &[(0, 64, 75, 0), (75, 77, 75, 0)],
         b"\0\x05\xfe\0\x08\x07\0\x4e\x01\x01\x31\xf8\0\x05\x4a\x07\0\x50\x0c",
     ),
     // Transfer.bytes(J)[B
     (
-        b"\x10\x08\xbc\x08\x4d\x10\x07\x3e\x1d\x9b\0\x14\x2c\x1d\x1e\x88\x91\x54\x1e\x10\x08\x7b\x3f\x84\x03\xff\xa7\xff\xee\x2c\xb0",
+        &[
+            BIPUSH, 8, NEWARRAY, 8, ASTORE_2, BIPUSH, 7, ISTORE_3, ILOAD_3, IFLT, 0, 20,
+            ALOAD_2, ILOAD_3, LLOAD_0, L2I, I2B, BASTORE, LLOAD_0, BIPUSH, 8, LSHR, LSTORE_0,
+            IINC, 3, 0xff, GOTO, 0xff, 0xee,
+            ALOAD_2, ARETURN,
+        ],
         &[],
         b"\0\x02\xfd\0\x08\x07\0\x4c\x01\xfa\0\x14",
     ),
     // Amounts.<init>([B)V
     (
-        b"\x2a\xb7\0\x01\x2b\xbe\x07\x70\x99\0\x24\xbb\0\x07\x59\xbb\0\x09\x59\xb7\0\x0b\x12\x0c\xb6\0\x0e\x2b\xbe\xb6\0\x12\x12\x15\xb6\0\x0e\xb6\0\x17\xb7\0\x1b\xbf\x2a\x2b\xb5\0\x1e\xb1",
+        &[
+            ALOAD_0, INVOKESPECIAL, 0, 1, ALOAD_1, ARRAYLENGTH, ICONST_4, IREM, IFEQ, 0, 36,
+            NEW, 0, 7, DUP, NEW, 0, 9, DUP, INVOKESPECIAL, 0, 11, LDC, 12, INVOKEVIRTUAL, 0, 14,
+            ALOAD_1, ARRAYLENGTH, INVOKEVIRTUAL, 0, 18, LDC, 21, INVOKEVIRTUAL, 0, 14,
+            INVOKEVIRTUAL, 0, 23, INVOKESPECIAL, 0, 27, ATHROW,
+            ALOAD_0, ALOAD_1, PUTFIELD, 0, 30, RETURN,
+        ],
         &[],
         b"\0\x01\xff\0\x2c\0\x02\x07\0\x1f\x07\0\x28\0\0",
     ),
     // Amounts.count()I
-    (b"\x2a\xb4\0\x1e\xbe\x07\x6c\xac", &[], b""),
+    (
+        &[
+            ALOAD_0, GETFIELD, 0, 30, ARRAYLENGTH, ICONST_4, IDIV, IRETURN,
+        ],
+        &[],
+        b"",
+    ),
     // Amounts.at(I)I
     (
-        b"\x03\x3d\x07\x1b\x68\x3e\x1d\x07\x1b\x68\x07\x60\xa2\0\x19\x1c\x10\x08\x78\x2a\xb4\0\x1e\x1d\x33\x11\0\xff\x7e\x80\x3d\x84\x03\x01\xa7\xff\xe4\x1c\xac",
+        &[
+            ICONST_0, ISTORE_2, ICONST_4, ILOAD_1, IMUL, ISTORE_3, ILOAD_3, ICONST_4, ILOAD_1, IMUL,
+            ICONST_4, IADD, IF_ICMPGE, 0, 25,
+            ILOAD_2, BIPUSH, 8, ISHL, ALOAD_0, GETFIELD, 0, 30, ILOAD_3, BALOAD, SIPUSH, 0, 0xff,
+            IAND, IOR, ISTORE_2, IINC, 3, 1, GOTO, 0xff, 0xe4,
+            ILOAD_2, IRETURN,
+        ],
         &[],
         b"\0\x02\xfd\0\x06\x01\x01\xfa\0\x1e",
     ),
     // Limited.<init>(J)V
-    (b"\x2a\xb7\0\x01\x2a\x1f\xb5\0\x07\xb1", &[], b""),
+    (
+        &[
+            ALOAD_0, INVOKESPECIAL, 0, 1, ALOAD_0, LLOAD_1, PUTFIELD, 0, 7, RETURN,
+        ],
+        &[],
+        b"",
+    ),
     // Limited.holds(I)Z
     (
-        b"\x1b\x85\x2a\xb4\0\x07\x94\x9d\0\x07\x04\xa7\0\x04\x03\xac",
+        &[
+            ILOAD_1, I2L, ALOAD_0, GETFIELD, 0, 7, LCMP, IFGT, 0, 7,
+            ICONST_1, GOTO, 0, 4,
+            ICONST_0, IRETURN,
+        ],
         &[],
         b"\0\x02\x0e\x40\x01",
     ),
     // Positive.<init>()V
-    (b"\x2a\xb7\0\x01\xb1", &[], b""),
+    (&[ALOAD_0, INVOKESPECIAL, 0, 1, RETURN], &[], b""),
     // Positive.holds(I)Z
     (
-        b"\x1b\x9e\0\x07\x04\xa7\0\x04\x03\xac",
+        &[
+            ILOAD_1, IFLE, 0, 7,
+            ICONST_1, GOTO, 0, 4,
+            ICONST_0, IRETURN,
+        ],
         &[],
         b"\0\x02\x08\x40\x01",
     ),

@@ -57,36 +57,57 @@ fn is_refused(alloc: Global, code: &[u8], rows: &[Row], wanted: CodeError) -> bo
 }
 
 // Code, and its instructions.
+#[rattlefmt::skip]
 const LABELLED: [(&[u8], &[Told]); 19] = [
-    (b"\x2a\xb0", &[(b's', ALOAD_0, 0, 0), (b's', ARETURN, 0, 0)]),
-    (b"\xb1", &[(b's', RETURN, 0, 0)]),
-    (b"\xa7\0\0", &[(b'b', GOTO, 0, 0)]),
     (
-        b"\xa7\0\x03\xb1",
+        &[ALOAD_0, ARETURN],
+        &[(b's', ALOAD_0, 0, 0), (b's', ARETURN, 0, 0)],
+    ),
+    (&[RETURN], &[(b's', RETURN, 0, 0)]),
+    (&[GOTO, 0, 0], &[(b'b', GOTO, 0, 0)]),
+    (
+        &[GOTO, 0, 3, RETURN],
         &[(b'b', GOTO, 1, 0), (b's', RETURN, 0, 0)],
     ),
-    (b"\0\xa7\xff\xff", &[(b's', NOP, 0, 0), (b'b', GOTO, 0, 0)]),
     (
-        b"\xc8\0\0\0\x05\xb1",
+        &[NOP, GOTO, 0xff, 0xff],
+        &[(b's', NOP, 0, 0), (b'b', GOTO, 0, 0)],
+    ),
+    (
+        &[GOTO_W, 0, 0, 0, 5, RETURN],
         &[(b'b', GOTO_W, 1, 0), (b's', RETURN, 0, 0)],
     ),
     (
-        b"\x99\0\x03\x9a\xff\xfd\xb1",
+        &[IFEQ, 0, 3, IFNE, 0xff, 0xfd, RETURN],
         &[(b'b', IFEQ, 1, 0), (b'b', IFNE, 0, 0), (b's', RETURN, 0, 0)],
     ),
-    (b"\xa8\0\x03\xa9\0", &[(b'b', JSR, 1, 0), (b'l', RET, 0, 0)]),
-    (b"\xc9\0\0\0\0", &[(b'b', JSR_W, 0, 0)]),
     (
-        b"\xc6\0\x03\xc7\xff\xfd",
+        &[JSR, 0, 3, RET, 0],
+        &[(b'b', JSR, 1, 0), (b'l', RET, 0, 0)],
+    ),
+    (&[JSR_W, 0, 0, 0, 0], &[(b'b', JSR_W, 0, 0)]),
+    (
+        &[IFNULL, 0, 3, IFNONNULL, 0xff, 0xfd],
         &[(b'b', IFNULL, 1, 0), (b'b', IFNONNULL, 0, 0)],
     ),
-    (b"\xca", &[(b's', BREAKPOINT, 0, 0)]),
+    (&[BREAKPOINT], &[(b's', BREAKPOINT, 0, 0)]),
     (
-        b"\xaa\0\0\0\0\0\0\0\0\0\0\0\0\0\0\0\0\0\0\0\xb1",
+        &[
+            TABLESWITCH, 0, 0, 0,
+            0, 0, 0, 0, 0, 0, 0, 0, 0, 0, 0, 0,
+            0, 0, 0, 0,
+            RETURN,
+        ],
         &[(b't', TABLESWITCH, 0, 0), (b's', RETURN, 0, 0)],
     ),
     (
-        b"\0\xaa\0\0\xff\xff\xff\xff\0\0\0\0\0\0\0\0\0\0\0\0\xb1",
+        &[
+            NOP,
+            TABLESWITCH, 0, 0,
+            0xff, 0xff, 0xff, 0xff, 0, 0, 0, 0, 0, 0, 0, 0,
+            0, 0, 0, 0,
+            RETURN,
+        ],
         &[
             (b's', NOP, 0, 0),
             (b't', TABLESWITCH, 0, 0),
@@ -94,7 +115,13 @@ const LABELLED: [(&[u8], &[Told]); 19] = [
         ],
     ),
     (
-        b"\0\0\xaa\0\xff\xff\xff\xfe\0\0\0\0\0\0\0\0\0\0\0\0\xb1",
+        &[
+            NOP, NOP,
+            TABLESWITCH, 0,
+            0xff, 0xff, 0xff, 0xfe, 0, 0, 0, 0, 0, 0, 0, 0,
+            0, 0, 0, 0,
+            RETURN,
+        ],
         &[
             (b's', NOP, 0, 0),
             (b's', NOP, 0, 0),
@@ -103,7 +130,13 @@ const LABELLED: [(&[u8], &[Told]); 19] = [
         ],
     ),
     (
-        b"\0\0\0\xaa\xff\xff\xff\xfd\0\0\0\0\0\0\0\0\0\0\0\0\xb1",
+        &[
+            NOP, NOP, NOP,
+            TABLESWITCH,
+            0xff, 0xff, 0xff, 0xfd, 0, 0, 0, 0, 0, 0, 0, 0,
+            0, 0, 0, 0,
+            RETURN,
+        ],
         &[
             (b's', NOP, 0, 0),
             (b's', NOP, 0, 0),
@@ -113,7 +146,13 @@ const LABELLED: [(&[u8], &[Told]); 19] = [
         ],
     ),
     (
-        b"\0\xaa\0\0\0\0\0\x1b\xff\xff\xff\xff\0\0\0\x01\0\0\0\x1b\0\0\0\0\xff\xff\xff\xff\xb1",
+        &[
+            NOP,
+            TABLESWITCH, 0, 0,
+            0, 0, 0, 27, 0xff, 0xff, 0xff, 0xff, 0, 0, 0, 1,
+            0, 0, 0, 27, 0, 0, 0, 0, 0xff, 0xff, 0xff, 0xff,
+            RETURN,
+        ],
         &[
             (b's', NOP, 0, 0),
             (b't', TABLESWITCH, 2, -1),
@@ -121,7 +160,12 @@ const LABELLED: [(&[u8], &[Told]); 19] = [
         ],
     ),
     (
-        b"\0\0\xab\0\0\0\0\x0a\0\0\0\0\xb1",
+        &[
+            NOP, NOP,
+            LOOKUPSWITCH, 0,
+            0, 0, 0, 10, 0, 0, 0, 0,
+            RETURN,
+        ],
         &[
             (b's', NOP, 0, 0),
             (b's', NOP, 0, 0),
@@ -130,11 +174,24 @@ const LABELLED: [(&[u8], &[Told]); 19] = [
         ],
     ),
     (
-        b"\xab\0\0\0\0\0\0\x1c\0\0\0\x02\xff\xff\xff\xff\0\0\0\x1c\0\0\0\x04\0\0\0\0\xb1",
+        &[
+            LOOKUPSWITCH, 0, 0, 0,
+            0, 0, 0, 28, 0, 0, 0, 2,
+            0xff, 0xff, 0xff, 0xff, 0, 0, 0, 28,
+            0, 0, 0, 4, 0, 0, 0, 0,
+            RETURN,
+        ],
         &[(b'u', LOOKUPSWITCH, 1, 0), (b's', RETURN, 0, 0)],
     ),
     (
-        b"\0\0\0\xab\0\0\0\0\0\0\0\x03\0\0\0\0\xff\xff\xff\xfd\0\0\0\x01\xff\xff\xff\xfe\0\0\0\x02\xff\xff\xff\xff",
+        &[
+            NOP, NOP, NOP,
+            LOOKUPSWITCH,
+            0, 0, 0, 0, 0, 0, 0, 3,
+            0, 0, 0, 0, 0xff, 0xff, 0xff, 0xfd,
+            0, 0, 0, 1, 0xff, 0xff, 0xff, 0xfe,
+            0, 0, 0, 2, 0xff, 0xff, 0xff, 0xff,
+        ],
         &[
             (b's', NOP, 0, 0),
             (b's', NOP, 0, 0),
@@ -158,87 +215,42 @@ fn labelled(rt: HostRuntime) {
     assert!(rt; all_labelled(rt.alloc(), &LABELLED));
 }
 
+// Code whose instructions start at 0, 2, 3 and 4, and the instructions.
+const PUSH_POP: &[u8] = &[BIPUSH, 7, POP, NOP, RETURN];
+
+const PUSH_POP_TOLD: &[Told] = &[
+    (b'p', BIPUSH, 7, 0),
+    (b's', POP, 0, 0),
+    (b's', NOP, 0, 0),
+    (b's', RETURN, 0, 0),
+];
+
 // Code and rows, and the instructions and ranges.
 const RANGES: [(&[u8], &[Row], &[Told], &[Range]); 8] = [
+    (PUSH_POP, &[(0, 5, 0, 0)], PUSH_POP_TOLD, &[(0, 4, 0, 0)]),
+    (PUSH_POP, &[(0, 2, 2, 0)], PUSH_POP_TOLD, &[(0, 1, 1, 0)]),
+    (PUSH_POP, &[(2, 5, 4, 7)], PUSH_POP_TOLD, &[(1, 4, 3, 7)]),
     (
-        b"\x10\x07\x57\0\xb1",
-        &[(0, 5, 0, 0)],
-        &[
-            (b'p', BIPUSH, 7, 0),
-            (b's', POP, 0, 0),
-            (b's', NOP, 0, 0),
-            (b's', RETURN, 0, 0),
-        ],
-        &[(0, 4, 0, 0)],
-    ),
-    (
-        b"\x10\x07\x57\0\xb1",
-        &[(0, 2, 2, 0)],
-        &[
-            (b'p', BIPUSH, 7, 0),
-            (b's', POP, 0, 0),
-            (b's', NOP, 0, 0),
-            (b's', RETURN, 0, 0),
-        ],
-        &[(0, 1, 1, 0)],
-    ),
-    (
-        b"\x10\x07\x57\0\xb1",
-        &[(2, 5, 4, 7)],
-        &[
-            (b'p', BIPUSH, 7, 0),
-            (b's', POP, 0, 0),
-            (b's', NOP, 0, 0),
-            (b's', RETURN, 0, 0),
-        ],
-        &[(1, 4, 3, 7)],
-    ),
-    (
-        b"\x10\x07\x57\0\xb1",
+        PUSH_POP,
         &[(0, 4, 3, 65535)],
-        &[
-            (b'p', BIPUSH, 7, 0),
-            (b's', POP, 0, 0),
-            (b's', NOP, 0, 0),
-            (b's', RETURN, 0, 0),
-        ],
+        PUSH_POP_TOLD,
         &[(0, 3, 2, 65535)],
     ),
+    (PUSH_POP, &[(4, 5, 0, 0)], PUSH_POP_TOLD, &[(3, 4, 0, 0)]),
     (
-        b"\x10\x07\x57\0\xb1",
-        &[(4, 5, 0, 0)],
-        &[
-            (b'p', BIPUSH, 7, 0),
-            (b's', POP, 0, 0),
-            (b's', NOP, 0, 0),
-            (b's', RETURN, 0, 0),
-        ],
-        &[(3, 4, 0, 0)],
-    ),
-    (
-        b"\x10\x07\x57\0\xb1",
+        PUSH_POP,
         &[(0, 3, 2, 1), (2, 4, 3, 2)],
-        &[
-            (b'p', BIPUSH, 7, 0),
-            (b's', POP, 0, 0),
-            (b's', NOP, 0, 0),
-            (b's', RETURN, 0, 0),
-        ],
+        PUSH_POP_TOLD,
         &[(0, 2, 1, 1), (1, 3, 2, 2)],
     ),
     (
-        b"\x10\x07\x57\0\xb1",
+        PUSH_POP,
         &[(0, 5, 0, 0), (0, 5, 0, 0)],
-        &[
-            (b'p', BIPUSH, 7, 0),
-            (b's', POP, 0, 0),
-            (b's', NOP, 0, 0),
-            (b's', RETURN, 0, 0),
-        ],
+        PUSH_POP_TOLD,
         &[(0, 4, 0, 0), (0, 4, 0, 0)],
     ),
     (
-        b"\0",
+        &[NOP],
         &[(0, 1, 0, 0)],
         &[(b's', NOP, 0, 0)],
         &[(0, 1, 0, 0)],
@@ -260,25 +272,59 @@ fn ranges(rt: HostRuntime) {
 }
 
 // Code, the number of its tableswitch, and the numbers of the targets.
+#[rattlefmt::skip]
 const TABLES: [(&[u8], usize, &[i64]); 5] = [
-    (b"\xaa\0\0\0\0\0\0\0\0\0\0\0\0\0\0\0\0\0\0\0\xb1", 0, &[0]),
     (
-        b"\0\xaa\0\0\xff\xff\xff\xff\0\0\0\0\0\0\0\0\0\0\0\0\xb1",
+        &[
+            TABLESWITCH, 0, 0, 0,
+            0, 0, 0, 0, 0, 0, 0, 0, 0, 0, 0, 0,
+            0, 0, 0, 0,
+            RETURN,
+        ],
+        0,
+        &[0],
+    ),
+    (
+        &[
+            NOP,
+            TABLESWITCH, 0, 0,
+            0xff, 0xff, 0xff, 0xff, 0, 0, 0, 0, 0, 0, 0, 0,
+            0, 0, 0, 0,
+            RETURN,
+        ],
         1,
         &[1],
     ),
     (
-        b"\0\0\xaa\0\xff\xff\xff\xfe\0\0\0\0\0\0\0\0\0\0\0\0\xb1",
+        &[
+            NOP, NOP,
+            TABLESWITCH, 0,
+            0xff, 0xff, 0xff, 0xfe, 0, 0, 0, 0, 0, 0, 0, 0,
+            0, 0, 0, 0,
+            RETURN,
+        ],
         2,
         &[2],
     ),
     (
-        b"\0\0\0\xaa\xff\xff\xff\xfd\0\0\0\0\0\0\0\0\0\0\0\0\xb1",
+        &[
+            NOP, NOP, NOP,
+            TABLESWITCH,
+            0xff, 0xff, 0xff, 0xfd, 0, 0, 0, 0, 0, 0, 0, 0,
+            0, 0, 0, 0,
+            RETURN,
+        ],
         3,
         &[3],
     ),
     (
-        b"\0\xaa\0\0\0\0\0\x1b\xff\xff\xff\xff\0\0\0\x01\0\0\0\x1b\0\0\0\0\xff\xff\xff\xff\xb1",
+        &[
+            NOP,
+            TABLESWITCH, 0, 0,
+            0, 0, 0, 27, 0xff, 0xff, 0xff, 0xff, 0, 0, 0, 1,
+            0, 0, 0, 27, 0, 0, 0, 0, 0xff, 0xff, 0xff, 0xff,
+            RETURN,
+        ],
         1,
         &[2, 1, 0],
     ),
@@ -309,15 +355,38 @@ fn tables(rt: HostRuntime) {
 }
 
 // Code, the number of its lookupswitch, and the pairs, with the numbers of the targets.
+#[rattlefmt::skip]
 const LOOKUPS: [(&[u8], usize, &[(i32, i64)]); 3] = [
-    (b"\0\0\xab\0\0\0\0\x0a\0\0\0\0\xb1", 2, &[]),
     (
-        b"\xab\0\0\0\0\0\0\x1c\0\0\0\x02\xff\xff\xff\xff\0\0\0\x1c\0\0\0\x04\0\0\0\0\xb1",
+        &[
+            NOP, NOP,
+            LOOKUPSWITCH, 0,
+            0, 0, 0, 10, 0, 0, 0, 0,
+            RETURN,
+        ],
+        2,
+        &[],
+    ),
+    (
+        &[
+            LOOKUPSWITCH, 0, 0, 0,
+            0, 0, 0, 28, 0, 0, 0, 2,
+            0xff, 0xff, 0xff, 0xff, 0, 0, 0, 28,
+            0, 0, 0, 4, 0, 0, 0, 0,
+            RETURN,
+        ],
         0,
         &[(-1, 1), (4, 0)],
     ),
     (
-        b"\0\0\0\xab\0\0\0\0\0\0\0\x03\0\0\0\0\xff\xff\xff\xfd\0\0\0\x01\xff\xff\xff\xfe\0\0\0\x02\xff\xff\xff\xff",
+        &[
+            NOP, NOP, NOP,
+            LOOKUPSWITCH,
+            0, 0, 0, 0, 0, 0, 0, 3,
+            0, 0, 0, 0, 0xff, 0xff, 0xff, 0xfd,
+            0, 0, 0, 1, 0xff, 0xff, 0xff, 0xfe,
+            0, 0, 0, 2, 0xff, 0xff, 0xff, 0xff,
+        ],
         3,
         &[(0, 0), (1, 1), (2, 2)],
     ),
@@ -348,89 +417,114 @@ fn lookups(rt: HostRuntime) {
 }
 
 // Code and rows that have no labels, and why.
+#[rattlefmt::skip]
 const REFUSED: [(&[u8], &[Row], CodeError); 42] = [
-    (b"", &[(0, 0, 0, 0)], CodeError::Range(0)),
-    (b"\xa7\0\x01", &[], CodeError::Target(0)),
-    (b"\xa7\0\x04\x10\x07\xb1", &[], CodeError::Target(0)),
-    (b"\xa7\0\x03", &[], CodeError::Target(0)),
-    (b"\0\xa7\xff\xfe", &[], CodeError::Target(1)),
-    (b"\xa7\x7f\xff", &[], CodeError::Target(0)),
-    (b"\xc8\0\0\0\x04\xb1", &[], CodeError::Target(0)),
-    (b"\xc8\x80\0\0\0", &[], CodeError::Target(0)),
-    (b"\x99\0\x01\x9a\xff\xfd\xb1", &[], CodeError::Target(0)),
-    (b"\x99\0\x03\x9a\xff\xfe\xb1", &[], CodeError::Target(3)),
-    (b"\xcb", &[], CodeError::Op(0)),
-    (b"\0\0\xff", &[], CodeError::Op(2)),
-    (b"\0\x10", &[], CodeError::Op(1)),
-    (b"\xa7\0\x01\xcb", &[], CodeError::Op(3)),
-    (b"\xcb\xa7\0\x01", &[], CodeError::Op(0)),
-    (b"\xbc\x03", &[], CodeError::Op(0)),
-    (b"\0\xc4\0\0\0", &[], CodeError::Op(1)),
-    (b"\xa7\0\x7f\xcb", &[], CodeError::Op(3)),
+    (&[], &[(0, 0, 0, 0)], CodeError::Range(0)),
+    (&[GOTO, 0, 1], &[], CodeError::Target(0)),
+    (&[GOTO, 0, 4, BIPUSH, 7, RETURN], &[], CodeError::Target(0)),
+    (&[GOTO, 0, 3], &[], CodeError::Target(0)),
+    (&[NOP, GOTO, 0xff, 0xfe], &[], CodeError::Target(1)),
+    (&[GOTO, 0x7f, 0xff], &[], CodeError::Target(0)),
+    (&[GOTO_W, 0, 0, 0, 4, RETURN], &[], CodeError::Target(0)),
+    (&[GOTO_W, 0x80, 0, 0, 0], &[], CodeError::Target(0)),
     (
-        b"\0\xaa\0\0\0\0\0\x17\xff\xff\xff\xff\0\0\0\x01\0\0\0\x17\0\0\0\0\xff\xff\xff\xff\xb1",
+        &[IFEQ, 0, 1, IFNE, 0xff, 0xfd, RETURN],
+        &[],
+        CodeError::Target(0),
+    ),
+    (
+        &[IFEQ, 0, 3, IFNE, 0xff, 0xfe, RETURN],
+        &[],
+        CodeError::Target(3),
+    ),
+    (&[0xcb], &[], CodeError::Op(0)),
+    (&[NOP, NOP, 0xff], &[], CodeError::Op(2)),
+    (&[NOP, BIPUSH], &[], CodeError::Op(1)),
+    (&[GOTO, 0, 1, 0xcb], &[], CodeError::Op(3)),
+    (&[0xcb, GOTO, 0, 1], &[], CodeError::Op(0)),
+    (&[NEWARRAY, 3], &[], CodeError::Op(0)),
+    (&[NOP, WIDE, NOP, 0, 0], &[], CodeError::Op(1)),
+    (&[GOTO, 0, 0x7f, 0xcb], &[], CodeError::Op(3)),
+    (
+        &[
+            NOP,
+            TABLESWITCH, 0, 0,
+            0, 0, 0, 23, 0xff, 0xff, 0xff, 0xff, 0, 0, 0, 1,
+            0, 0, 0, 23, 0, 0, 0, 0, 0xff, 0xff, 0xff, 0xff,
+            RETURN,
+        ],
         &[],
         CodeError::Target(1),
     ),
     (
-        b"\xaa\0\0\0\0\0\0\x14\0\0\0\0\0\0\0\0\0\0\0\x01\xb1",
+        &[
+            TABLESWITCH, 0, 0, 0,
+            0, 0, 0, 20, 0, 0, 0, 0, 0, 0, 0, 0,
+            0, 0, 0, 1,
+            RETURN,
+        ],
         &[],
         CodeError::Target(0),
     ),
     (
-        b"\xaa\0\0\0\0\0\0\x01\0\0\0\0\0\0\0\0\0\0\0\x14\xb1",
+        &[
+            TABLESWITCH, 0, 0, 0,
+            0, 0, 0, 1, 0, 0, 0, 0, 0, 0, 0, 0,
+            0, 0, 0, 20,
+            RETURN,
+        ],
         &[],
         CodeError::Target(0),
     ),
     (
-        b"\0\0\xab\0\0\0\0\x08\0\0\0\0\xb1",
+        &[NOP, NOP, LOOKUPSWITCH, 0, 0, 0, 0, 8, 0, 0, 0, 0, RETURN],
         &[],
         CodeError::Target(2),
     ),
     (
-        b"\xab\0\0\0\0\0\0\x1c\0\0\0\x02\xff\xff\xff\xff\0\0\0\x1b\0\0\0\x04\0\0\0\0\xb1",
+        &[
+            LOOKUPSWITCH, 0, 0, 0,
+            0, 0, 0, 28, 0, 0, 0, 2,
+            0xff, 0xff, 0xff, 0xff, 0, 0, 0, 27,
+            0, 0, 0, 4, 0, 0, 0, 0,
+            RETURN,
+        ],
         &[],
         CodeError::Target(0),
     ),
     (
-        b"\xab\0\0\0\0\0\0\x1c\0\0\0\x02\xff\xff\xff\xff\0\0\0\x1c\0\0\0\x04\0\0\0\x1d\xb1",
+        &[
+            LOOKUPSWITCH, 0, 0, 0,
+            0, 0, 0, 28, 0, 0, 0, 2,
+            0xff, 0xff, 0xff, 0xff, 0, 0, 0, 28,
+            0, 0, 0, 4, 0, 0, 0, 29,
+            RETURN,
+        ],
         &[],
         CodeError::Target(0),
     ),
-    (b"\x10\x07\x57\0\xb1", &[(1, 5, 0, 0)], CodeError::Range(0)),
-    (b"\x10\x07\x57\0\xb1", &[(0, 1, 0, 0)], CodeError::Range(0)),
-    (b"\x10\x07\x57\0\xb1", &[(0, 6, 0, 0)], CodeError::Range(0)),
+    (PUSH_POP, &[(1, 5, 0, 0)], CodeError::Range(0)),
+    (PUSH_POP, &[(0, 1, 0, 0)], CodeError::Range(0)),
+    (PUSH_POP, &[(0, 6, 0, 0)], CodeError::Range(0)),
+    (PUSH_POP, &[(0, 65535, 0, 0)], CodeError::Range(0)),
+    (PUSH_POP, &[(0, 5, 1, 0)], CodeError::Range(0)),
+    (PUSH_POP, &[(0, 5, 5, 0)], CodeError::Range(0)),
+    (PUSH_POP, &[(5, 5, 0, 0)], CodeError::Range(0)),
+    (PUSH_POP, &[(0, 0, 0, 0)], CodeError::Range(0)),
+    (PUSH_POP, &[(2, 2, 0, 0)], CodeError::Range(0)),
+    (PUSH_POP, &[(3, 2, 0, 0)], CodeError::Range(0)),
+    (PUSH_POP, &[(4, 0, 0, 0)], CodeError::Range(0)),
+    (PUSH_POP, &[(0, 5, 0, 0), (2, 2, 0, 0)], CodeError::Range(1)),
+    (PUSH_POP, &[(3, 2, 0, 0), (0, 1, 0, 0)], CodeError::Range(0)),
     (
-        b"\x10\x07\x57\0\xb1",
-        &[(0, 65535, 0, 0)],
-        CodeError::Range(0),
-    ),
-    (b"\x10\x07\x57\0\xb1", &[(0, 5, 1, 0)], CodeError::Range(0)),
-    (b"\x10\x07\x57\0\xb1", &[(0, 5, 5, 0)], CodeError::Range(0)),
-    (b"\x10\x07\x57\0\xb1", &[(5, 5, 0, 0)], CodeError::Range(0)),
-    (b"\x10\x07\x57\0\xb1", &[(0, 0, 0, 0)], CodeError::Range(0)),
-    (b"\x10\x07\x57\0\xb1", &[(2, 2, 0, 0)], CodeError::Range(0)),
-    (b"\x10\x07\x57\0\xb1", &[(3, 2, 0, 0)], CodeError::Range(0)),
-    (b"\x10\x07\x57\0\xb1", &[(4, 0, 0, 0)], CodeError::Range(0)),
-    (
-        b"\x10\x07\x57\0\xb1",
-        &[(0, 5, 0, 0), (2, 2, 0, 0)],
-        CodeError::Range(1),
-    ),
-    (
-        b"\x10\x07\x57\0\xb1",
-        &[(3, 2, 0, 0), (0, 1, 0, 0)],
-        CodeError::Range(0),
-    ),
-    (
-        b"\x10\x07\x57\0\xb1",
+        PUSH_POP,
         &[(0, 5, 0, 0), (0, 2, 2, 0), (0, 2, 1, 0)],
         CodeError::Range(2),
     ),
-    (b"\0", &[(0, 0, 0, 0)], CodeError::Range(0)),
-    (b"\xcb", &[(0, 0, 0, 0)], CodeError::Op(0)),
-    (b"\xa7\0\x01", &[(0, 0, 0, 0)], CodeError::Target(0)),
-    (b"\xcb\xa7\0\x01", &[(9, 9, 9, 9)], CodeError::Op(0)),
+    (&[NOP], &[(0, 0, 0, 0)], CodeError::Range(0)),
+    (&[0xcb], &[(0, 0, 0, 0)], CodeError::Op(0)),
+    (&[GOTO, 0, 1], &[(0, 0, 0, 0)], CodeError::Target(0)),
+    (&[0xcb, GOTO, 0, 1], &[(9, 9, 9, 9)], CodeError::Op(0)),
 ];
 
 fn all_refused(alloc: Global, table: &[(&[u8], &[Row], CodeError)]) -> bool {

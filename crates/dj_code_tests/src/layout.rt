@@ -27,97 +27,228 @@ fn is_laid(alloc: Global, code: &[u8], starts: &[u32], rows: &[Row]) -> bool {
 }
 
 // Bytes, the starts of their instructions, and rows.
+#[rattlefmt::skip]
 const LAID: [(&[u8], &[u32], &[Row]); 25] = [
-    (b"\x2a\xb0", &[0, 1], &[]),
-    (b"\xa7\0\0", &[0], &[]),
+    (&[ALOAD_0, ARETURN], &[0, 1], &[]),
+    (&[GOTO, 0, 0], &[0], &[]),
     (
-        b"\0\x99\xff\xff\xa7\0\x03\xb1",
+        &[NOP, IFEQ, 0xff, 0xff, GOTO, 0, 3, RETURN],
         &[0, 1, 4, 7],
         &[(0, 8, 0, 0), (1, 4, 7, 7)],
     ),
-    (b"\0", &[0], &[(0, 1, 0, 0)]),
-    (b"\xc8\0\0\0\x05\xc9\xff\xff\xff\xfb\xb1", &[0, 5, 10], &[]),
+    (&[NOP], &[0], &[(0, 1, 0, 0)]),
     (
-        b"\x10\xff\x11\x01\x2c\x12\x09\x13\0\x09\x15\x01\xc4\x15\0\x01\x84\x01\x01\xc4\x84\0\x01\0\x01\xb1",
+        &[GOTO_W, 0, 0, 0, 5, JSR_W, 0xff, 0xff, 0xff, 0xfb, RETURN],
+        &[0, 5, 10],
+        &[],
+    ),
+    (
+        &[
+            BIPUSH, 0xff, SIPUSH, 1, 0x2c, LDC, 9, LDC_W, 0, 9, ILOAD, 1, WIDE, ILOAD, 0, 1,
+            IINC, 1, 1, WIDE, IINC, 0, 1, 0, 1, RETURN,
+        ],
         &[0, 2, 5, 7, 10, 12, 16, 19, 25],
         &[(0, 26, 25, 0), (7, 16, 5, 1)],
     ),
     (
-        b"\xb8\0\x03\xb9\0\x04\x02\0\xba\0\x05\0\0\xbb\0\x06\xbc\x08\xc5\0\x07\x02\xb1",
+        &[
+            INVOKESTATIC, 0, 3, INVOKEINTERFACE, 0, 4, 2, 0, INVOKEDYNAMIC, 0, 5, 0, 0, NEW, 0, 6,
+            NEWARRAY, 8, MULTIANEWARRAY, 0, 7, 2, RETURN,
+        ],
         &[0, 3, 8, 13, 16, 18, 22],
         &[],
     ),
     (
-        b"\xaa\0\0\0\0\0\0\x14\0\0\0\0\0\0\0\0\0\0\0\x14\xb1",
+        &[
+            TABLESWITCH, 0, 0, 0,
+            0, 0, 0, 20, 0, 0, 0, 0, 0, 0, 0, 0,
+            0, 0, 0, 20,
+            RETURN,
+        ],
         &[0, 20],
         &[],
     ),
     (
-        b"\xaa\0\0\0\0\0\0\0\xff\xff\xff\xfd\xff\xff\xff\xff\0\0\0\0\0\0\0\0\0\0\0\x1c\xb1",
+        &[
+            TABLESWITCH, 0, 0, 0,
+            0, 0, 0, 0, 0xff, 0xff, 0xff, 0xfd, 0xff, 0xff, 0xff, 0xff,
+            0, 0, 0, 0, 0, 0, 0, 0, 0, 0, 0, 28,
+            RETURN,
+        ],
         &[0, 28],
         &[(0, 28, 28, 0)],
     ),
-    (b"\xab\0\0\0\0\0\0\x0c\0\0\0\0\xb1", &[0, 12], &[]),
     (
-        b"\xab\0\0\0\0\0\0\0\0\0\0\x03\x80\0\0\0\0\0\0\0\0\0\0\0\0\0\0\x24\x7f\xff\xff\xff\0\0\0\0\xb1",
+        &[LOOKUPSWITCH, 0, 0, 0, 0, 0, 0, 12, 0, 0, 0, 0, RETURN],
+        &[0, 12],
+        &[],
+    ),
+    (
+        &[
+            LOOKUPSWITCH, 0, 0, 0,
+            0, 0, 0, 0, 0, 0, 0, 3,
+            0x80, 0, 0, 0, 0, 0, 0, 0,
+            0, 0, 0, 0, 0, 0, 0, 36,
+            0x7f, 0xff, 0xff, 0xff, 0, 0, 0, 0,
+            RETURN,
+        ],
         &[0, 36],
         &[],
     ),
     (
-        b"\0\xaa\0\0\0\0\0\x13\0\0\0\0\0\0\0\0\0\0\0\x13\xb1",
+        &[
+            NOP,
+            TABLESWITCH, 0, 0,
+            0, 0, 0, 19, 0, 0, 0, 0, 0, 0, 0, 0,
+            0, 0, 0, 19,
+            RETURN,
+        ],
         &[0, 1, 20],
         &[],
     ),
     (
-        b"\0\xaa\0\0\0\0\0\0\xff\xff\xff\xfd\xff\xff\xff\xff\xff\xff\xff\xff\0\0\0\0\0\0\0\x1b\xb1",
+        &[
+            NOP,
+            TABLESWITCH, 0, 0,
+            0, 0, 0, 0, 0xff, 0xff, 0xff, 0xfd, 0xff, 0xff, 0xff, 0xff,
+            0xff, 0xff, 0xff, 0xff, 0, 0, 0, 0, 0, 0, 0, 27,
+            RETURN,
+        ],
         &[0, 1, 28],
         &[(0, 28, 28, 0)],
     ),
-    (b"\0\xab\0\0\0\0\0\x0b\0\0\0\0\xb1", &[0, 1, 12], &[]),
     (
-        b"\0\xab\0\0\xff\xff\xff\xff\0\0\0\x03\x80\0\0\0\0\0\0\0\0\0\0\0\0\0\0\x23\x7f\xff\xff\xff\xff\xff\xff\xff\xb1",
+        &[NOP, LOOKUPSWITCH, 0, 0, 0, 0, 0, 11, 0, 0, 0, 0, RETURN],
+        &[0, 1, 12],
+        &[],
+    ),
+    (
+        &[
+            NOP,
+            LOOKUPSWITCH, 0, 0,
+            0xff, 0xff, 0xff, 0xff, 0, 0, 0, 3,
+            0x80, 0, 0, 0, 0, 0, 0, 0,
+            0, 0, 0, 0, 0, 0, 0, 35,
+            0x7f, 0xff, 0xff, 0xff, 0xff, 0xff, 0xff, 0xff,
+            RETURN,
+        ],
         &[0, 1, 36],
         &[],
     ),
     (
-        b"\0\0\xaa\0\0\0\0\x12\0\0\0\0\0\0\0\0\0\0\0\x12\xb1",
+        &[
+            NOP, NOP,
+            TABLESWITCH, 0,
+            0, 0, 0, 18, 0, 0, 0, 0, 0, 0, 0, 0,
+            0, 0, 0, 18,
+            RETURN,
+        ],
         &[0, 1, 2, 20],
         &[],
     ),
     (
-        b"\0\0\xaa\0\0\0\0\0\xff\xff\xff\xfd\xff\xff\xff\xff\xff\xff\xff\xfe\0\0\0\0\0\0\0\x1a\xb1",
+        &[
+            NOP, NOP,
+            TABLESWITCH, 0,
+            0, 0, 0, 0, 0xff, 0xff, 0xff, 0xfd, 0xff, 0xff, 0xff, 0xff,
+            0xff, 0xff, 0xff, 0xfe, 0, 0, 0, 0, 0, 0, 0, 26,
+            RETURN,
+        ],
         &[0, 1, 2, 28],
         &[(0, 28, 28, 0)],
     ),
-    (b"\0\0\xab\0\0\0\0\x0a\0\0\0\0\xb1", &[0, 1, 2, 12], &[]),
     (
-        b"\0\0\xab\0\xff\xff\xff\xfe\0\0\0\x03\x80\0\0\0\0\0\0\0\0\0\0\0\0\0\0\x22\x7f\xff\xff\xff\xff\xff\xff\xfe\xb1",
+        &[
+            NOP, NOP,
+            LOOKUPSWITCH, 0,
+            0, 0, 0, 10, 0, 0, 0, 0,
+            RETURN,
+        ],
+        &[0, 1, 2, 12],
+        &[],
+    ),
+    (
+        &[
+            NOP, NOP,
+            LOOKUPSWITCH, 0,
+            0xff, 0xff, 0xff, 0xfe, 0, 0, 0, 3,
+            0x80, 0, 0, 0, 0, 0, 0, 0,
+            0, 0, 0, 0, 0, 0, 0, 34,
+            0x7f, 0xff, 0xff, 0xff, 0xff, 0xff, 0xff, 0xfe,
+            RETURN,
+        ],
         &[0, 1, 2, 36],
         &[],
     ),
     (
-        b"\0\0\0\xaa\0\0\0\x11\0\0\0\0\0\0\0\0\0\0\0\x11\xb1",
+        &[
+            NOP, NOP, NOP,
+            TABLESWITCH,
+            0, 0, 0, 17, 0, 0, 0, 0, 0, 0, 0, 0,
+            0, 0, 0, 17,
+            RETURN,
+        ],
         &[0, 1, 2, 3, 20],
         &[],
     ),
     (
-        b"\0\0\0\xaa\0\0\0\0\xff\xff\xff\xfd\xff\xff\xff\xff\xff\xff\xff\xfd\0\0\0\0\0\0\0\x19\xb1",
+        &[
+            NOP, NOP, NOP,
+            TABLESWITCH,
+            0, 0, 0, 0, 0xff, 0xff, 0xff, 0xfd, 0xff, 0xff, 0xff, 0xff,
+            0xff, 0xff, 0xff, 0xfd, 0, 0, 0, 0, 0, 0, 0, 25,
+            RETURN,
+        ],
         &[0, 1, 2, 3, 28],
         &[(0, 28, 28, 0)],
     ),
-    (b"\0\0\0\xab\0\0\0\x09\0\0\0\0\xb1", &[0, 1, 2, 3, 12], &[]),
     (
-        b"\0\0\0\xab\xff\xff\xff\xfd\0\0\0\x03\x80\0\0\0\0\0\0\0\0\0\0\0\0\0\0\x21\x7f\xff\xff\xff\xff\xff\xff\xfd\xb1",
+        &[
+            NOP, NOP, NOP,
+            LOOKUPSWITCH,
+            0, 0, 0, 9, 0, 0, 0, 0,
+            RETURN,
+        ],
+        &[0, 1, 2, 3, 12],
+        &[],
+    ),
+    (
+        &[
+            NOP, NOP, NOP,
+            LOOKUPSWITCH,
+            0xff, 0xff, 0xff, 0xfd, 0, 0, 0, 3,
+            0x80, 0, 0, 0, 0, 0, 0, 0,
+            0, 0, 0, 0, 0, 0, 0, 33,
+            0x7f, 0xff, 0xff, 0xff, 0xff, 0xff, 0xff, 0xfd,
+            RETURN,
+        ],
         &[0, 1, 2, 3, 36],
         &[],
     ),
     (
-        b"\xaa\0\0\0\0\0\0\x28\0\0\0\0\0\0\0\0\0\0\0\x14\0\xab\0\0\xff\xff\xff\xeb\0\0\0\x01\0\0\0\x05\0\0\0\0\xb1",
+        &[
+            TABLESWITCH, 0, 0, 0,
+            0, 0, 0, 40, 0, 0, 0, 0, 0, 0, 0, 0,
+            0, 0, 0, 20,
+            NOP,
+            LOOKUPSWITCH, 0, 0,
+            0xff, 0xff, 0xff, 0xeb, 0, 0, 0, 1,
+            0, 0, 0, 5, 0, 0, 0, 0,
+            RETURN,
+        ],
         &[0, 20, 21, 40],
         &[],
     ),
     (
-        b"\xab\0\0\0\0\0\0\x0c\0\0\0\0\xaa\0\0\0\0\0\0\x1c\0\0\0\0\0\0\0\x02\xff\xff\xff\xf4\0\0\0\0\0\0\0\x1c\x99\xff\xd8\xb1",
+        &[
+            LOOKUPSWITCH, 0, 0, 0,
+            0, 0, 0, 12, 0, 0, 0, 0,
+            TABLESWITCH, 0, 0, 0,
+            0, 0, 0, 28, 0, 0, 0, 0, 0, 0, 0, 2,
+            0xff, 0xff, 0xff, 0xf4, 0, 0, 0, 0, 0, 0, 0, 28,
+            IFEQ, 0xff, 0xd8,
+            RETURN,
+        ],
         &[0, 12, 40, 43],
         &[(0, 12, 40, 0), (12, 44, 43, 9)],
     ),
@@ -339,7 +470,7 @@ fn is_refused(alloc: Global, parts: &[Repeated], wanted: LayError) -> bool {
 }
 
 // Instructions that have no layout, and why.
-const REFUSED: [(&[Repeated], LayError); 28] = [
+const REFUSED: [(&[Repeated], LayError); 10] = [
     (
         &[
             (1, (b'b', GOTO, 32766, 0)),
@@ -347,10 +478,6 @@ const REFUSED: [(&[Repeated], LayError); 28] = [
             (1, (b's', RETURN, 0, 0)),
         ],
         LayError::Far(0),
-    ),
-    (
-        &[(32769, (b's', NOP, 0, 0)), (1, (b'b', GOTO, 0, 0))],
-        LayError::Far(32769),
     ),
     (
         &[
@@ -369,74 +496,6 @@ const REFUSED: [(&[Repeated], LayError); 28] = [
             (1, (b's', RETURN, 0, 0)),
         ],
         LayError::Far(33000),
-    ),
-    (
-        &[(32769, (b's', NOP, 0, 0)), (1, (b'b', IFEQ, 0, 0))],
-        LayError::Far(32769),
-    ),
-    (
-        &[(32769, (b's', NOP, 0, 0)), (1, (b'b', IFNE, 0, 0))],
-        LayError::Far(32769),
-    ),
-    (
-        &[(32769, (b's', NOP, 0, 0)), (1, (b'b', IFLT, 0, 0))],
-        LayError::Far(32769),
-    ),
-    (
-        &[(32769, (b's', NOP, 0, 0)), (1, (b'b', IFGE, 0, 0))],
-        LayError::Far(32769),
-    ),
-    (
-        &[(32769, (b's', NOP, 0, 0)), (1, (b'b', IFGT, 0, 0))],
-        LayError::Far(32769),
-    ),
-    (
-        &[(32769, (b's', NOP, 0, 0)), (1, (b'b', IFLE, 0, 0))],
-        LayError::Far(32769),
-    ),
-    (
-        &[(32769, (b's', NOP, 0, 0)), (1, (b'b', IF_ICMPEQ, 0, 0))],
-        LayError::Far(32769),
-    ),
-    (
-        &[(32769, (b's', NOP, 0, 0)), (1, (b'b', IF_ICMPNE, 0, 0))],
-        LayError::Far(32769),
-    ),
-    (
-        &[(32769, (b's', NOP, 0, 0)), (1, (b'b', IF_ICMPLT, 0, 0))],
-        LayError::Far(32769),
-    ),
-    (
-        &[(32769, (b's', NOP, 0, 0)), (1, (b'b', IF_ICMPGE, 0, 0))],
-        LayError::Far(32769),
-    ),
-    (
-        &[(32769, (b's', NOP, 0, 0)), (1, (b'b', IF_ICMPGT, 0, 0))],
-        LayError::Far(32769),
-    ),
-    (
-        &[(32769, (b's', NOP, 0, 0)), (1, (b'b', IF_ICMPLE, 0, 0))],
-        LayError::Far(32769),
-    ),
-    (
-        &[(32769, (b's', NOP, 0, 0)), (1, (b'b', IF_ACMPEQ, 0, 0))],
-        LayError::Far(32769),
-    ),
-    (
-        &[(32769, (b's', NOP, 0, 0)), (1, (b'b', IF_ACMPNE, 0, 0))],
-        LayError::Far(32769),
-    ),
-    (
-        &[(32769, (b's', NOP, 0, 0)), (1, (b'b', JSR, 0, 0))],
-        LayError::Far(32769),
-    ),
-    (
-        &[(32769, (b's', NOP, 0, 0)), (1, (b'b', IFNULL, 0, 0))],
-        LayError::Far(32769),
-    ),
-    (
-        &[(32769, (b's', NOP, 0, 0)), (1, (b'b', IFNONNULL, 0, 0))],
-        LayError::Far(32769),
     ),
     (
         &[(65535, (b's', NOP, 0, 0)), (1, (b's', RETURN, 0, 0))],
@@ -485,4 +544,22 @@ fn all_refused(alloc: Global, table: &[(&[Repeated], LayError)]) -> bool {
 #[test]
 fn refusals(rt: HostRuntime) {
     assert!(rt; all_refused(rt.alloc(), &REFUSED));
+}
+
+// Whether a jump back over 32,769 bytes is too far for the opcode.
+fn is_too_far(alloc: Global, op: u8) -> bool {
+    is_refused(
+        alloc,
+        &[(32769, (b's', NOP, 0, 0)), (1, (b'b', op, 0, 0))],
+        LayError::Far(32769),
+    )
+}
+
+#[test]
+fn short_jumps(rt: HostRuntime) {
+    for op in IFEQ..=JSR {
+        assert!(rt; is_too_far(rt.alloc(), op));
+    }
+    assert!(rt; is_too_far(rt.alloc(), IFNULL));
+    assert!(rt; is_too_far(rt.alloc(), IFNONNULL));
 }

@@ -1,8 +1,21 @@
 //! The opcodes that the tables name, by their mnemonics (JVMS 6.5).
+//!
+//! Code that is too long for a line is laid out by hand. A switch has a line for the opcode and the padding, one for the default and the bounds or
+//! the count, and then four targets or one pair a line; other code goes on in a line up to a jump.
 
 pub const NOP: u8 = 0;
 
 pub const ACONST_NULL: u8 = 1;
+
+pub const ICONST_0: u8 = 3;
+
+pub const ICONST_1: u8 = 4;
+
+pub const ICONST_2: u8 = 5;
+
+pub const ICONST_4: u8 = 7;
+
+pub const LCONST_0: u8 = 9;
 
 pub const DCONST_1: u8 = 15;
 
@@ -28,11 +41,31 @@ pub const ALOAD: u8 = 25;
 
 pub const ILOAD_0: u8 = 26;
 
+pub const ILOAD_1: u8 = 27;
+
+pub const ILOAD_2: u8 = 28;
+
+pub const ILOAD_3: u8 = 29;
+
+pub const LLOAD_0: u8 = 30;
+
+pub const LLOAD_1: u8 = 31;
+
+pub const LLOAD_3: u8 = 33;
+
 pub const ALOAD_0: u8 = 42;
+
+pub const ALOAD_1: u8 = 43;
+
+pub const ALOAD_2: u8 = 44;
 
 pub const ALOAD_3: u8 = 45;
 
 pub const IALOAD: u8 = 46;
+
+pub const AALOAD: u8 = 50;
+
+pub const BALOAD: u8 = 51;
 
 pub const SALOAD: u8 = 53;
 
@@ -48,15 +81,57 @@ pub const ASTORE: u8 = 58;
 
 pub const ISTORE_0: u8 = 59;
 
+pub const ISTORE_2: u8 = 61;
+
+pub const ISTORE_3: u8 = 62;
+
+pub const LSTORE_0: u8 = 63;
+
+pub const LSTORE_3: u8 = 66;
+
+pub const ASTORE_1: u8 = 76;
+
+pub const ASTORE_2: u8 = 77;
+
+pub const AASTORE: u8 = 83;
+
+pub const BASTORE: u8 = 84;
+
 pub const POP: u8 = 87;
 
+pub const DUP: u8 = 89;
+
 pub const SWAP: u8 = 95;
+
+pub const IADD: u8 = 96;
+
+pub const LADD: u8 = 97;
+
+pub const IMUL: u8 = 104;
+
+pub const IDIV: u8 = 108;
+
+pub const IREM: u8 = 112;
+
+pub const ISHL: u8 = 120;
+
+pub const LSHR: u8 = 123;
+
+pub const IAND: u8 = 126;
+
+pub const IOR: u8 = 128;
 
 pub const LXOR: u8 = 131;
 
 pub const IINC: u8 = 132;
 
 pub const I2L: u8 = 133;
+
+pub const L2I: u8 = 136;
+
+pub const I2B: u8 = 145;
+
+pub const LCMP: u8 = 148;
 
 pub const DCMPG: u8 = 152;
 
@@ -66,23 +141,11 @@ pub const IFNE: u8 = 154;
 
 pub const IFLT: u8 = 155;
 
-pub const IFGE: u8 = 156;
-
 pub const IFGT: u8 = 157;
 
 pub const IFLE: u8 = 158;
 
-pub const IF_ICMPEQ: u8 = 159;
-
-pub const IF_ICMPNE: u8 = 160;
-
-pub const IF_ICMPLT: u8 = 161;
-
 pub const IF_ICMPGE: u8 = 162;
-
-pub const IF_ICMPGT: u8 = 163;
-
-pub const IF_ICMPLE: u8 = 164;
 
 pub const IF_ACMPEQ: u8 = 165;
 
@@ -139,6 +202,8 @@ pub const INSTANCEOF: u8 = 193;
 pub const MONITORENTER: u8 = 194;
 
 pub const MONITOREXIT: u8 = 195;
+
+pub const WIDE: u8 = 196;
 
 pub const MULTIANEWARRAY: u8 = 197;
 
