@@ -15,7 +15,7 @@ use Rattle.dj_model.specs.trusted.Program.{Program, Class, Method, Field, Body, 
 use Rattle.dj_model.specs.trusted.Linking.{FoundMethod, FoundField, place_of}
 use Rattle.dj_declared.specs.Files.{bare_method, bare_field, bare_class}
 use Rattle.dj_classes.specs.Tables.{name_at, class_number, methods_at, fields_at}
-use Rattle.dj_linking.specs.Linked.{Linked}
+use Rattle.dj_types.specs.Links.{Linked}
 use Rattle.dj_program.specs.trusted.Codes.{CodeParts}
 use Rattle.dj_program.specs.Views.{parts_of}
 use Rattle.dj_program.specs.declared.code.MethodCode.{MethodCode}

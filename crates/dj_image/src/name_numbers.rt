@@ -3,7 +3,7 @@ ghost use Rattle.std.specs.Prelude.{◌≡◌, ◌+◌, length, Option, IfOk, If
 ghost use Rattle.std.specs.Option.{option_map};
 ghost use Rattle.std.specs.Borrow.{Bor};
 ghost use Rattle.dj_pool.specs.trusted.Pool.{IsPool, name_and_type_at};
-ghost use Rattle.dj_directory.specs.Numberings.{Numbering};
+ghost use Rattle.dj_types.specs.Links.{Numbering};
 ghost use Rattle.dj_types.specs.Named.{IsNumbered};
 ghost use Rattle.dj_image.specs.Homes.{IsDescribed};
 ghost use Rattle.dj_image.specs.Indexed.{Holds};
@@ -12,8 +12,7 @@ ghost use Rattle.dj_image.specs.NameNumbers.{name_number, AreNumbersBy};
 use crate::error::ImageError;
 use crate::indexed::{index_count, number_at};
 use crate::owned::OwnedPool;
-use dj_directory::Directory;
-use dj_types::MemberName;
+use dj_types::{Directory, MemberName};
 use std::alloc::Global;
 
 // The number of the text of an index, where there is a text that has one.

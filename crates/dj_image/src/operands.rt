@@ -15,8 +15,7 @@ use crate::name_numbers::{member_name, name_numbers};
 use crate::operand::Operand;
 use crate::owned::{OwnedEntry, OwnedPool};
 use crate::taken::class_operand;
-use dj_directory::Directory;
-use dj_types::{FieldId, MemberName, MethodId, Types};
+use dj_types::{Directory, FieldId, MemberName, MethodId, Types};
 use std::alloc::Global;
 
 // ---- members

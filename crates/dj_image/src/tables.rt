@@ -17,9 +17,8 @@ use crate::operand::Operand;
 use crate::operands::{operand_table, text_operand};
 use crate::owned::OwnedPool;
 use crate::parts::{ClassParts, FieldValue};
-use dj_directory::Directory;
 use dj_names::Units;
-use dj_types::Types;
+use dj_types::{Directory, Types};
 use std::alloc::Global;
 
 /// What is kept of the constants of a class and of its fields.

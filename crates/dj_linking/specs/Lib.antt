@@ -1,3 +1,4 @@
+pub mod Directories
 pub mod Bits
 pub mod Called
 pub mod Chained

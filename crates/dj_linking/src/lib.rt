@@ -28,5 +28,5 @@ mod words;
 
 pub use described::{resolve_field_of, resolve_method_of};
 pub use dj_classes::{ClassTable, Place, TableError};
-pub use dj_directory::CallTable;
+pub use dj_directory::{CallTable, Directory};
 pub use linker::{BaseNames, Linker};

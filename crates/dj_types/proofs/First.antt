@@ -15,7 +15,7 @@ use Rattle.dj_declared.specs.Members.{IsDescriptor, field_name, method_place, fi
 use Rattle.dj_declared.proofs.DescTests.{desc_in_is, is_descriptor, same_name_itself, same_desc_itself}
 use Rattle.dj_classes.specs.Tables.{name_of, class_number, methods_of, methods_at, fields_at, method_there, field_there}
 use Rattle.dj_classes.specs.declared.place.Place.{Place}
-use Rattle.dj_directory.specs.Calls.{IsFirstLike}
+use Rattle.dj_linking.specs.Directories.{IsFirstLike}
 use Rattle.dj_linking.proofs.Resolution.{DoNamesDiffer}
 use Rattle.dj_types.specs.Members.{all_methods, all_fields, methods_in, fields_in, methods_before, fields_before, method_number, field_number, found_method_number, found_field_number}
 use Rattle.dj_types.specs.Named.{IsNamedMethod, IsNamedField}

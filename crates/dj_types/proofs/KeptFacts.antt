@@ -20,8 +20,7 @@ use Rattle.dj_types.specs.declared.members.Members.{Members}
 use Rattle.dj_types.specs.declared.shapes.Element.{Element}
 use Rattle.dj_types.specs.declared.shapes.Element.TheVariants as elements
 use Rattle.dj_types.specs.declared.shapes.Shape.{Shape}
-use Rattle.dj_directory.specs.declared.calls.CallTable.{CallTable}
-use Rattle.dj_directory.specs.Calls.{IsCallTable}
+use Rattle.dj_linking.specs.Directories.{CallTable, IsCallTable}
 use Rattle.dj_types.specs.Kept.{DoTextsRise, number_among, component_text, number_if, component_in, wholes_of, text_in, AreKept, IsTyped}
 use Rattle.dj_types.specs.declared.own.OwnClasses.{OwnClasses}
 use Rattle.dj_types.specs.Own.{AreOwn}

@@ -13,8 +13,7 @@ use Rattle.dj_names.specs.trusted.Descriptors.{type_text}
 use Rattle.dj_model.specs.trusted.Types.{Prefix}
 use Rattle.dj_model.specs.trusted.Program.{Program, Class}
 use Rattle.dj_classes.specs.Tables.{name_of}
-use Rattle.dj_directory.specs.declared.calls.CallTable.{CallTable}
-use Rattle.dj_directory.specs.Calls.{IsCallTable}
+use Rattle.dj_linking.specs.Directories.{CallTable, IsCallTable}
 use Rattle.dj_types.specs.declared.arrays.Arrays.{Arrays}
 use Rattle.dj_types.specs.declared.members.Members.{Members}
 use Rattle.dj_types.specs.Typed.{ArePlain, AreArrays, has_references, place_of_text, text_of_type}

@@ -1,3 +1,4 @@
+pub mod Links
 pub mod Typed
 pub mod Members
 pub mod Shapes

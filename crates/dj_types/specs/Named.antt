@@ -6,7 +6,7 @@ use Rattle.dj_names.specs.trusted.Types.{Name}
 use Rattle.dj_model.specs.trusted.Program.{Program}
 use Rattle.dj_model.specs.trusted.Linking.{FoundMethod, FoundField}
 use Rattle.dj_declared.specs.Members.{IsDescriptor}
-use Rattle.dj_directory.specs.Numberings.{Numbering}
+use Rattle.dj_linking.specs.Directories.{Numbering}
 use Rattle.dj_linking.specs.Numbered.{AreNumbersOf}
 use Rattle.dj_types.specs.declared.named.MemberName.{MemberName}
 

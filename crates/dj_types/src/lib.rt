@@ -12,7 +12,7 @@ mod shapes;
 mod types;
 
 pub use dj_classes::Place;
-pub use dj_linking::{BaseNames, Linker};
+pub use dj_linking::{BaseNames, Directory, Linker};
 pub use error::TypesError;
 pub use named::MemberName;
 pub use own::raised_name;

@@ -5,7 +5,7 @@ ghost use Rattle.dj_declared.specs.Members.{method_place, field_place};
 ghost use Rattle.dj_classes.specs.Tables.{methods_at, fields_at};
 ghost use Rattle.dj_types.specs.Named.{IsNumberedBy};
 
-use dj_directory::Directory;
+use dj_linking::Directory;
 
 /// The name and the descriptor of a member, and their numbers, where they have some.
 #[derive(Clone, Copy)]

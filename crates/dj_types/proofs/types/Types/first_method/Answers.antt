@@ -1,7 +1,7 @@
 use Rattle.std.proofs.Common.{ℕ, ◌+◌, Some, sym, ap, subst, ◌∙◌, arith}
 use Rattle.std.proofs.lemmas.Option.{same_Some}
 use Rattle.dj_model.specs.trusted.Program.{Program}
-use Rattle.dj_directory.specs.Calls.{IsFirstLike}
+use Rattle.dj_linking.specs.Directories.{IsFirstLike}
 use Rattle.dj_linking.proofs.Resolution.{DoNamesDiffer}
 use Rattle.dj_types.specs.Typed.{Typed}
 use Rattle.dj_types.specs.Members.{methods_before}
