@@ -1,5 +1,5 @@
 -- What the rule HIERARCHY looks at in a class file: its name, its superclass and interfaces (JVMS 4.1), and whether two members are declared alike (JVMS 4.5 and 4.6).
-use Rattle.std.specs.Prelude.{◌≡◌, ℕ, ◌<◌, ◌⊎◌, List, Contains, slice_get}
+use Rattle.std.specs.Prelude.{◌≡◌, ℕ, ◌<◌, ◌⊎◌, List, Contains, Some, slice_get}
 use Rattle.dj_edge.specs.trusted.Held.{File}
 use Rattle.dj_pool.specs.trusted.Pool.{Constant, text_at, class_name_at}
 use Rattle.dj_class.specs.trusted.ClassFile.{MemberInfo, ClassFile}
