@@ -1,2 +1,2 @@
 -- The program that class files and a library are.
-pub use Rattle.dj_declared.specs.trusted.Files.{declared_program}
+unfoldable pub use Rattle.dj_declared.specs.trusted.Files.{declared_program}
