@@ -30,14 +30,14 @@ few_operands : (wide : WideOperands) → wide.items.items ≡ values.Int (pos 7)
 few_operands wide items = items
 
 -- the bottom first
-many_operands : (stacked : Box Stacked) → stacked.value.kinds.items ≡ kinds.Int ∷ kinds.Long ∷ kinds.Ref ∷ [] → stacked.value.words.items ≡ 7 ∷ 0 ∷ 9 ∷ [] → stacked.value.longs.items ≡ pos 4294967301 ∷ []
+many_operands : (stacked : Box Stacked) → stacked.value.kinds.items ≡ kinds.Int ∷ kinds.Long ∷ kinds.Ref ∷ [] → stacked.value.lows.items ≡ 7 ∷ 5 ∷ 9 ∷ [] → stacked.value.highs.items ≡ 1 ∷ []
     → values_of (operands.Stacked stacked) ≡ values.Int (pos 7) ∷ values.Long (pos 4294967301) ∷ values.Ref 9 ∷ []
-many_operands stacked kinds words longs = rw kinds (rw words (rw longs refl))
+many_operands stacked kinds lows highs = rw kinds (rw lows (rw highs refl))
 
-not_the_top_first : (stacked : Box Stacked) → stacked.value.kinds.items ≡ kinds.Ref ∷ kinds.Ref ∷ [] → stacked.value.words.items ≡ 7 ∷ 9 ∷ []
+not_the_top_first : (stacked : Box Stacked) → stacked.value.kinds.items ≡ kinds.Ref ∷ kinds.Ref ∷ [] → stacked.value.lows.items ≡ 7 ∷ 9 ∷ []
     → values_of (operands.Stacked stacked) ≡ values.Ref 9 ∷ values.Ref 7 ∷ [] → ⊥
-not_the_top_first stacked kinds words same =
-    let shown : values_of (operands.Stacked stacked) ≡ values.Ref 7 ∷ values.Ref 9 ∷ [] = rw kinds (rw words refl) in
+not_the_top_first stacked kinds lows same =
+    let shown : values_of (operands.Stacked stacked) ≡ values.Ref 7 ∷ values.Ref 9 ∷ [] = rw kinds (rw lows refl) in
     absurd (cc (shown, same))
 
 -- the room is what was asked for, and not how many there are

@@ -14,7 +14,7 @@ locals_of (locals.Wide wide) = wide.items.items
 locals_of (locals.Sparse sparse) = variables_in sparse.value.places.items (parts_of sparse.value.cells)
 
 abbrev pub stacked_values : Stacked → List Value
-stacked_values stacked = values_in stacked.kinds.items stacked.words.items stacked.longs.items
+stacked_values stacked = values_in stacked.kinds.items stacked.lows.items stacked.highs.items
 
 -- the top last
 abbrev pub values_of : Operands → List Value

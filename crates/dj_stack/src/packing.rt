@@ -86,9 +86,9 @@ impl Packed {
     }
 }
 
-// The number at a place, and 0 past the end.
+/// The number at a place, and 0 past the end.
 #[tactic(auto, using(crate::proofs::Puts::past_end))]
-fn number_at(numbers: &Vec<u32>, at: usize) -> u32
+pub(crate) fn number_at(numbers: &Vec<u32>, at: usize) -> u32
     ensures { result ≡ get_or numbers.now.items at 0 }
 {
     if at < numbers.len() { numbers[at] } else { 0 }

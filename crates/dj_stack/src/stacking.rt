@@ -1,15 +1,13 @@
 ghost use Rattle.std.specs.Prelude.{◌≡◌, ◌+◌, ◌++◌, ◌∷◌, [], ◌<◌, ◌≤◌, length, drop, slice_get, Some, IfErr};
-ghost use Rattle.std.specs.Int.{w32, cast_signed};
 ghost use Rattle.std.specs.Vec.{vec_capacity};
-ghost use Rattle.dj_names.specs.declared.run.Value.TheVariants as values;
-ghost use Rattle.dj_stack.specs.declared.parts.Kind.TheVariants as kinds;
 ghost use Rattle.dj_stack.specs.declared.errors.PushError.TheVariants as PushError;
 ghost use Rattle.dj_stack.specs.Held.{stacked_values};
-ghost use Rattle.dj_stack.specs.Stacks.{operand_by, longs_of, StandsAt};
+ghost use Rattle.dj_stack.specs.Stacks.{high_part, longs_in, longs_of};
 
 use crate::ends::{put_last, take_last};
 use crate::errors::PushError;
-use crate::parts::Kind;
+use crate::packing::number_at;
+use crate::parts::{Kind, Parts};
 use crate::stacked::Stacked;
 use dj_names::Value;
 use std::alloc::Global;
@@ -20,12 +18,12 @@ impl Stacked {
         ensures refused { IfErr result (λ e. e ≡ PushError.Memory) }
     {
         let kinds = Vec::with_capacity(alloc, usize::from(u16::MAX))?;
-        let words = Vec::with_capacity(alloc, usize::from(u16::MAX))?;
-        let longs = Vec::with_capacity(alloc, usize::from(u16::MAX))?;
+        let lows = Vec::with_capacity(alloc, usize::from(u16::MAX))?;
+        let highs = Vec::with_capacity(alloc, usize::from(u16::MAX))?;
         Ok(Stacked {
             kinds,
-            words,
-            longs,
+            lows,
+            highs,
             room: 0,
         })
     }
@@ -56,64 +54,46 @@ impl Stacked {
         self.room - self.kinds.len() as u16
     }
 
-    /// One of them, counted from 0 at the bottom.
-    #[tactic(auto, using(crate::proofs::Stacks::count_of))]
+    /// One of them, counted from 0 at the bottom. It goes through those above it, which are few where an instruction takes it.
+    #[tactic(auto, using(crate::proofs::Stacks::count_of, crate::proofs::Stacks::longs_after))]
     pub(crate) fn get(&self, at: u16) -> Value
         requires { at < length (stacked_values self.now) }
         ensures { slice_get (stacked_values self.now) at ≡ Some result }
     {
         let at = usize::from(at);
-        operand(self.kinds[at], self.words[at], &self.longs)
+        let place = self.highs.len() - longs_from(&self.kinds, at);
+        let parts = Parts {
+            kind: self.kinds[at],
+            low: self.lows[at],
+            high: number_at(&self.highs, place),
+        };
+        parts.value()
     }
 
     /// Pushes one, for which there is room.
+    #[tactic(auto, using(crate::proofs::Stacks::count_of, crate::proofs::Stacks::few_longs, crate::proofs::Stacks::pushed, crate::proofs::Stacks::counted_more))]
     pub(crate) fn push(&mut self, value: Value)
         requires { length (stacked_values self.old) < self.old.room }
         ensures values { stacked_values self.new ≡ stacked_values self.old ++ value ∷ [] }
         ensures room { self.new.room ≡ self.old.room }
     {
-        match value {
-            Value::Int(n) => self.push_word(Kind::Int, word_of(n)),
-            Value::Long(n) => self.push_long(n),
-            Value::Ref(r) => self.push_word(Kind::Ref, r),
-        }
-    }
-
-    // Pushes one that is no long.
-    #[tactic(auto, using(crate::proofs::Stacks::count_of, crate::proofs::Stacks::pushed, crate::proofs::Stacks::ordered_word))]
-    fn push_word(&mut self, kind: Kind, word: u32)
-        requires room { length (stacked_values self.old) < self.old.room }
-        requires kind { longs_of kind ≡ 0 }
-        ensures values { stacked_values self.new ≡ stacked_values self.old ++ operand_by kind word self.old.longs.items ∷ [] }
-        ensures room { self.new.room ≡ self.old.room }
-    {
-        put_last(&mut self.kinds, kind);
-        put_last(&mut self.words, word);
-    }
-
-    // Pushes a long.
-    #[tactic(auto, using(crate::proofs::Stacks::count_of, crate::proofs::Stacks::few_longs, crate::proofs::Stacks::pushed_long, crate::proofs::Stacks::ordered_long))]
-    fn push_long(&mut self, n: i64)
-        requires room { length (stacked_values self.old) < self.old.room }
-        ensures values { stacked_values self.new ≡ stacked_values self.old ++ values.Long n ∷ [] }
-        ensures room { self.new.room ≡ self.old.room }
-    {
-        let place = self.longs.len() as u32;
-        put_last(&mut self.kinds, Kind::Long);
-        put_last(&mut self.words, place);
-        put_last(&mut self.longs, n);
+        let parts = Parts::of_value(value);
+        put_high(&mut self.highs, parts.kind, parts.high);
+        put_last(&mut self.kinds, parts.kind);
+        put_last(&mut self.lows, parts.low);
     }
 
     /// Takes the top away.
-    #[tactic(auto, using(crate::proofs::Stacks::count_of, crate::proofs::Stacks::has_long, crate::proofs::Stacks::popped, crate::proofs::Stacks::ordered_back))]
+    #[tactic(auto, using(crate::proofs::Stacks::count_of, crate::proofs::Stacks::has_high, crate::proofs::Stacks::pushed, crate::proofs::Stacks::counted_less))]
     pub(crate) fn pop(&mut self) -> Value
         requires { 0 < length (stacked_values self.old) }
         ensures values { stacked_values self.old ≡ stacked_values self.new ++ result ∷ [] }
         ensures room { self.new.room ≡ self.old.room }
     {
         let kind = take_last(&mut self.kinds);
-        let word = take_last(&mut self.words);
-        taken(kind, word, &mut self.longs)
+        let low = take_last(&mut self.lows);
+        let high = take_high(&mut self.highs, kind);
+        Parts { kind, low, high }.value()
     }
 
     /// Takes all away.
@@ -122,42 +102,56 @@ impl Stacked {
         ensures room { self.new.room ≡ self.old.room }
     {
         self.kinds.clear();
-        self.words.clear();
-        self.longs.clear();
+        self.lows.clear();
+        self.highs.clear();
     }
 }
 
-#[tactic(auto, using(crate::proofs::Halves::int_again))]
-fn word_of(n: i32) -> u32
-    ensures { cast_signed w32 result ≡ n }
-{
-    n.cast_unsigned()
-}
-
-// The value of this kind and word.
-fn operand(kind: Kind, word: u32, longs: &Vec<i64>) -> Value
-    requires { kind ≡ kinds.Long → word < length longs.now.items }
-    ensures { result ≡ operand_by kind word longs.now.items }
+// Appends the high half of a long.
+fn put_high(highs: &mut Vec<u32>, kind: Kind, high: u32)
+    requires { longs_of kind + length highs.old.items ≤ vec_capacity highs.old }
+    ensures highs { highs.new.items ≡ highs.old.items ++ high_part kind high }
+    ensures capacity { vec_capacity highs.old ≤ vec_capacity highs.new }
 {
     match kind {
-        Kind::Int => Value::Int(word.cast_signed()),
-        Kind::Long => Value::Long(longs[word as usize]),
-        Kind::Empty | Kind::Ref => Value::Ref(word),
+        Kind::Long => put_last(highs, high),
+        Kind::Empty | Kind::Int | Kind::Ref => {}
     }
 }
 
-// The value of this kind and word. A long is taken from the end.
-#[tactic(auto, using(crate::proofs::Stacks::last_long, crate::proofs::Stacks::but_last_long, crate::proofs::Stacks::no_more))]
-fn taken(kind: Kind, word: u32, longs: &mut Vec<i64>) -> Value
-    requires { longs_of kind ≤ length longs.old.items }
-    ensures count { longs_of kind + length longs.new.items ≡ length longs.old.items }
-    ensures kept { longs.old.items ≡ longs.new.items ++ drop (length longs.new.items) longs.old.items }
-    ensures value { StandsAt kind word (length longs.new.items) → result ≡ operand_by kind word longs.old.items }
-    ensures capacity { vec_capacity longs.new ≡ vec_capacity longs.old }
+// Takes the high half of a long from the end; of another value it is 0.
+fn take_high(highs: &mut Vec<u32>, kind: Kind) -> u32
+    requires { longs_of kind ≤ length highs.old.items }
+    ensures highs { highs.old.items ≡ highs.new.items ++ high_part kind result }
+    ensures capacity { vec_capacity highs.new ≡ vec_capacity highs.old }
 {
     match kind {
-        Kind::Int => Value::Int(word.cast_signed()),
-        Kind::Long => Value::Long(take_last(longs)),
-        Kind::Empty | Kind::Ref => Value::Ref(word),
+        Kind::Long => take_last(highs),
+        Kind::Empty | Kind::Int | Kind::Ref => 0,
     }
+}
+
+// 1 for a long.
+fn longs(kind: Kind) -> usize
+    ensures { result ≡ longs_of kind }
+{
+    match kind {
+        Kind::Long => 1,
+        Kind::Empty | Kind::Int | Kind::Ref => 0,
+    }
+}
+
+// How many longs there are from a place on.
+#[tactic(auto, using(crate::proofs::Stacks::few_longs, crate::proofs::Stacks::longs_after, crate::proofs::Stacks::one_more, crate::proofs::Stacks::none_past))]
+fn longs_from(kinds: &Vec<Kind>, at: usize) -> usize
+    requires { at ≤ length kinds.now.items }
+    ensures { result ≡ longs_in (drop at kinds.now.items) }
+{
+    let mut count = 0;
+    let mut left = kinds.len();
+    while left > at {
+        left -= 1;
+        count += longs(kinds[left]);
+    }
+    count
 }
